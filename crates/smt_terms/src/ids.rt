@@ -1,0 +1,43 @@
+//! The numbers by which a table of formulas names its nodes, symbols and sorts.
+
+ghost use Rattle.std.specs.Prelude.{◌≡◌};
+
+/// The number of a node in its table. Equal formulas of one table have one number.
+#[derive(Clone, Copy, Debug, PartialEq, Eq, PartialOrd, Ord, Hash)]
+pub struct NodeId(pub u64);
+
+impl NodeId {
+    /// The number itself.
+    pub fn number(self) -> u64
+        ensures { result ≡ self.0 }
+    {
+        self.0
+    }
+}
+
+/// The number of a symbol in its table: a name with the sorts of its arguments and of its result.
+#[derive(Clone, Copy, Debug, PartialEq, Eq, PartialOrd, Ord, Hash)]
+pub struct SymId(pub u64);
+
+impl SymId {
+    /// The number itself.
+    pub fn number(self) -> u64
+        ensures { result ≡ self.0 }
+    {
+        self.0
+    }
+}
+
+/// The number of a sort: 0 is `Bool`, 1 is `Int`, `1 + w` is the bit vectors of width w for w from 1 to 128, and
+/// 130 and more are the array sorts and the declared sorts of a sort table.
+#[derive(Clone, Copy, Debug, PartialEq, Eq, PartialOrd, Ord, Hash)]
+pub struct SortId(pub u64);
+
+impl SortId {
+    /// The number itself.
+    pub fn number(self) -> u64
+        ensures { result ≡ self.0 }
+    {
+        self.0
+    }
+}
