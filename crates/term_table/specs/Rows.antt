@@ -27,8 +27,7 @@ NamesSymbolBelow n _ = Unit {0}
 
 -- each operand is one of the first n nodes
 abbrev pub AreBelow : ℕ → List NodeId → Type 0
-AreBelow n [] = Unit {0}
-AreBelow n (k ∷ ks) = (k.0 < n) × AreBelow n ks
+AreBelow n ks = All (λ k. k.0 < n) ks
 
 -- a node that may be made: its operands and its symbol are there
 pub record FitsRow (t : Rows) (r : Row) : Type 0 where
