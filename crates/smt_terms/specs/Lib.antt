@@ -1,3 +1,4 @@
 pub mod Equal
+pub mod Rank
 pub mod Sorts
 pub mod Term
