@@ -1,1 +1,3 @@
+pub mod Equal
+mod Operators
 mod Rows
