@@ -1,3 +1,6 @@
+pub mod BitVectors
 pub mod Equal
+pub mod Operators
 pub mod Sorts
 pub mod Term
+pub mod Values
