@@ -11,26 +11,26 @@ use Rattle.smt_terms.specs.BitVectors.{BitVector, nat2bv, concat, extract, zero_
 use Rattle.smt_terms.specs.Values.{Value, truth, whole, bits, Sizes, is_true, number, bits_of, same, select, store}
 
 -- what the theories leave to a model: the sizes of the free sorts, and the results of `div` and `mod` by zero
-pub record Choices : Type 0 where
+pub record Background : Type 0 where
   pub sizes : Sizes
   pub div_by_zero : ℤ → ℤ
   pub mod_by_zero : ℤ → ℤ
 
 -- ---- the operands by their places; an operand that isn't there reads as false
 
-abbrev pub first : List Value → Value
-first [] = truth false
-first (v ∷ _) = v
+abbrev pub first_value : List Value → Value
+first_value [] = truth false
+first_value (v ∷ _) = v
 
-abbrev pub rest : List Value → List Value
-rest [] = []
-rest (_ ∷ vs) = vs
+abbrev pub later_values : List Value → List Value
+later_values [] = []
+later_values (_ ∷ vs) = vs
 
-abbrev pub second : List Value → Value
-second vs = first (rest vs)
+abbrev pub second_value : List Value → Value
+second_value vs = first_value (later_values vs)
 
-abbrev pub third : List Value → Value
-third vs = first (rest (rest vs))
+abbrev pub third_value : List Value → Value
+third_value vs = first_value (later_values (later_values vs))
 
 abbrev pub first_sort : List Sort → Sort
 first_sort [] = bool
@@ -57,53 +57,53 @@ all_distinct equal (v ∷ vs) = not (list_any (equal v) vs) && all_distinct equa
 
 -- ---- m = n * (div m n) + (mod m n) and 0 <= mod m n < |n|, for an n other than 0
 
-abbrev pub quotient : Choices → ℤ → ℤ → ℤ
+abbrev pub quotient : Background → ℤ → ℤ → ℤ
 quotient c m n = cond (int_eq n (pos 0)) (c.div_by_zero m) (int_div_euclid m n)
 
-abbrev pub modulus : Choices → ℤ → ℤ → ℤ
+abbrev pub modulus : Background → ℤ → ℤ → ℤ
 modulus c m n = cond (int_eq n (pos 0)) (c.mod_by_zero m) (int_rem_euclid m n)
 
 -- ---- operands of one kind
 
 abbrev pub logical : (Bool → Bool → Bool) → List Value → Value
-logical f vs = truth (f (is_true (first vs)) (is_true (second vs)))
+logical f vs = truth (f (is_true (first_value vs)) (is_true (second_value vs)))
 
 abbrev pub arithmetic : (ℤ → ℤ → ℤ) → List Value → Value
-arithmetic f vs = whole (f (number (first vs)) (number (second vs)))
+arithmetic f vs = whole (f (number (first_value vs)) (number (second_value vs)))
 
 abbrev pub comparison : (ℤ → ℤ → Bool) → List Value → Value
-comparison f vs = truth (f (number (first vs)) (number (second vs)))
+comparison f vs = truth (f (number (first_value vs)) (number (second_value vs)))
 
 abbrev pub vector : (BitVector → BitVector) → List Value → Value
-vector f vs = bits (f (bits_of (first vs)))
+vector f vs = bits (f (bits_of (first_value vs)))
 
 abbrev pub vectors : (BitVector → BitVector → BitVector) → List Value → Value
-vectors f vs = bits (f (bits_of (first vs)) (bits_of (second vs)))
+vectors f vs = bits (f (bits_of (first_value vs)) (bits_of (second_value vs)))
 
 abbrev pub vector_comparison : (BitVector → BitVector → Bool) → List Value → Value
-vector_comparison f vs = truth (f (bits_of (first vs)) (bits_of (second vs)))
+vector_comparison f vs = truth (f (bits_of (first_value vs)) (bits_of (second_value vs)))
 
 -- the value of an operator at operands of these sorts with these values. The last four lines are of operators that no
 -- term applies (`Term`).
-unfoldable pub op_value : Choices → Op → List Sort → List Value → Value
+unfoldable pub op_value : Background → Op → List Sort → List Value → Value
 op_value c (Truth b) ss vs = truth b
 op_value c (Whole n) ss vs = whole n
 op_value c (Bits width n) ss vs = bits (nat2bv width n)
-op_value c Not ss vs = truth (not (is_true (first vs)))
+op_value c Not ss vs = truth (not (is_true (first_value vs)))
 op_value c And ss vs = truth (list_all is_true vs)
 op_value c Or ss vs = truth (list_any is_true vs)
 op_value c Xor ss vs = logical xor vs
 op_value c Implies ss vs = logical (λ a b. not a || b) vs
-op_value c Equal ss vs = truth (same (first_sort ss) c.sizes (first vs) (second vs))
+op_value c Equal ss vs = truth (same (first_sort ss) c.sizes (first_value vs) (second_value vs))
 op_value c Distinct ss vs = truth (all_distinct (same (first_sort ss) c.sizes) vs)
-op_value c Ite ss vs = cond (is_true (first vs)) (second vs) (third vs)
-op_value c Neg ss vs = whole (neg_ℤ (number (first vs)))
+op_value c Ite ss vs = cond (is_true (first_value vs)) (second_value vs) (third_value vs)
+op_value c Neg ss vs = whole (neg_ℤ (number (first_value vs)))
 op_value c Sub ss vs = arithmetic ◌-ℤ◌ vs
 op_value c Add ss vs = whole (sum_of vs)
 op_value c Mul ss vs = whole (product_of vs)
 op_value c Div ss vs = arithmetic (quotient c) vs
 op_value c Mod ss vs = arithmetic (modulus c) vs
-op_value c Abs ss vs = whole (pos (unsigned_abs (number (first vs))))
+op_value c Abs ss vs = whole (pos (unsigned_abs (number (first_value vs))))
 op_value c Le ss vs = comparison int_le vs
 op_value c Lt ss vs = comparison int_lt vs
 op_value c Concat ss vs = vectors concat vs
@@ -133,8 +133,8 @@ op_value c (ZeroExt i) ss vs = vector (zero_extend i) vs
 op_value c (SignExt i) ss vs = vector (sign_extend i) vs
 op_value c (RotL i) ss vs = vector (rotate_left i) vs
 op_value c (RotR i) ss vs = vector (rotate_right i) vs
-op_value c Select ss vs = select (index_sort (first_sort ss)) c.sizes (first vs) (second vs)
-op_value c Store ss vs = store (index_sort (first_sort ss)) c.sizes (first vs) (second vs) (third vs)
+op_value c Select ss vs = select (index_sort (first_sort ss)) c.sizes (first_value vs) (second_value vs)
+op_value c Store ss vs = store (index_sort (first_sort ss)) c.sizes (first_value vs) (second_value vs) (third_value vs)
 op_value c (Sym f) ss vs = truth false
 op_value c Forall ss vs = truth false
 op_value c Exists ss vs = truth false

@@ -52,14 +52,6 @@ abbrev pub pairs_of : Value → Pairs
 pairs_of (table d ps) = ps
 pairs_of _ = no_pairs
 
-abbrev pub keys : Pairs → List Value
-keys no_pairs = []
-keys (pair k v ps) = k ∷ keys ps
-
-abbrev pub results : Pairs → List Value
-results no_pairs = []
-results (pair k v ps) = v ∷ results ps
-
 -- ---- all values of a finite sort
 
 -- a test of both truth values, of all bits of a width, and of the elements below a number: all pass under the universal
