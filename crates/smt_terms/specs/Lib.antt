@@ -1,4 +1,9 @@
+pub mod BitVectors
 pub mod Equal
+pub mod Models
+pub mod Operators
 pub mod Rank
 pub mod Sorts
 pub mod Term
+pub mod Val
+pub mod Values
