@@ -1,3 +1,9 @@
+pub mod Connectives
 pub mod Equal
+pub mod Free
+pub mod Fresh
+pub mod Made
+pub mod Numeral
 pub mod Sorts
+pub mod Subst
 pub mod Term
