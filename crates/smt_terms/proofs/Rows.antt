@@ -1,3 +1,5 @@
 mod Equal
 mod Free
+mod Rank
+mod Shapes
 mod Subst

@@ -1,10 +1,11 @@
 -- Connectives and atoms: SMT-LIB 2.6, theory Core. A connective is `not`, `and`, `or`, `xor`, `=>`, `=` and `distinct` over
 -- Bool, and `ite` of sort Bool. `true` and `false` are neither connectives nor atoms; all else of sort Bool is an atom.
-use Rattle.std.specs.Prelude.{ℕ, Bool, true, false, not, List, [], ◌∷◌, get_or, Option, Some, None}
+use Rattle.std.specs.Prelude.{ℕ, Bool, true, false, List, ◌∷◌, get_or, Option, Some}
 use Rattle.smt_terms.specs.declared.op.Op.{Op}
 use Rattle.smt_terms.specs.declared.op.Op.TheVariants.{Truth, Not, And, Or, Xor, Implies, Equal, Distinct, Ite}
-use Rattle.smt_terms.specs.Sorts.{Sort, bool, Symbol}
-use Rattle.smt_terms.specs.Term.{Head, op, symbol, const_array, Term, apply, quantified, Terms, none, ◌⨾◌, over}
+use Rattle.smt_terms.specs.Sorts.{Sort, bool}
+use Rattle.smt_terms.specs.Rank.{sorts_of}
+use Rattle.smt_terms.specs.Term.{Head, op, symbol, const_array, Term, apply, Terms, none, ◌⨾◌, over}
 
 pub data Kind : Type 0 where
   truth_value : Bool → Kind
@@ -45,6 +46,9 @@ abbrev pub kind : Head → Option (List Sort) → Kind
 kind (op o) sorts = operator_kind o sorts
 kind (symbol f) sorts = atom
 kind (const_array s) sorts = atom
+
+abbrev pub kind_of : Head → Terms → Kind
+kind_of h ts = kind h (sorts_of ts)
 
 abbrev pub is_connective : Kind → Bool
 is_connective (truth_value b) = false

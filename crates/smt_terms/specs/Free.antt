@@ -1,6 +1,6 @@
 -- Free symbols: SMT-LIB 2.6, sections 3.6 (binders) and 5.3. A quantifier binds, for each of its variables, the constant of
 -- that name and that sort alone; other symbols of that name stay free below it.
-use Rattle.std.specs.Prelude.{Bool, true, false, not, ◌||◌, List, [], ◌∷◌, ◌++◌, map, filter}
+use Rattle.std.specs.Prelude.{Bool, false, not, ◌||◌, List, [], ◌∷◌, ◌++◌, map, filter}
 use Rattle.smt_terms.specs.Equal.{name_eq, symbol_eq}
 use Rattle.smt_terms.specs.Sorts.{Name, Symbol, Variable}
 use Rattle.smt_terms.specs.Term.{Head, op, symbol, const_array, Term, apply, quantified, Terms, none, ◌⨾◌, constant_of}

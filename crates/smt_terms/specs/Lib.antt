@@ -2,8 +2,11 @@ pub mod Connectives
 pub mod Equal
 pub mod Free
 pub mod Fresh
+pub mod Groups
 pub mod Made
 pub mod Numeral
+pub mod Rank
+pub mod Shapes
 pub mod Sorts
 pub mod Subst
 pub mod Term

@@ -1,7 +1,6 @@
 -- Making a term: no unary minus stands over an integer constant, since `(- 5)` is how SMT-LIB 2.6 (theory Ints) writes the
 -- constant; wherever one would be made, the constant is meant.
-use Rattle.std.specs.Prelude.{ℤ, neg_ℤ}
-use Rattle.smt_terms.specs.declared.op.Op.{Op}
+use Rattle.std.specs.Prelude.{neg_ℤ}
 use Rattle.smt_terms.specs.declared.op.Op.TheVariants.{Whole, Neg}
 use Rattle.smt_terms.specs.Term.{Head, op, Term, apply, Terms, none, ◌⨾◌}
 

@@ -1,8 +1,8 @@
 -- Substitution of terms for free constants, without capture: SMT-LIB 2.6, sections 3.6 and 5.3. All replacements happen
 -- at once. A bound name is renamed exactly where it occurs free in the image of a symbol that is free below its quantifier.
-use Rattle.std.specs.Prelude.{ℕ, Bool, true, false, cond, ◌&&◌, if◌then◌else◌, List, [], ◌∷◌, ◌++◌, map, flat_map, filter_map, zip, Option, Some, None, option_map}
+use Rattle.std.specs.Prelude.{ℕ, Bool, true, false, cond, ◌&&◌, List, [], ◌∷◌, flat_map, filter_map, zip, Option, Some, None, option_map}
 use Rattle.smt_terms.specs.Sorts.{Name, Sort, Symbol, Variable}
-use Rattle.smt_terms.specs.Term.{Quantifier, Head, op, symbol, const_array, Term, apply, quantified, Terms, none, ◌⨾◌, constant_of, variable}
+use Rattle.smt_terms.specs.Term.{Quantifier, Head, symbol, Term, apply, quantified, Terms, none, ◌⨾◌, constant_of, variable}
 use Rattle.smt_terms.specs.Equal.{symbol_eq, term_eq}
 use Rattle.smt_terms.specs.Free.{free, name_among, names_of, without}
 use Rattle.smt_terms.specs.Fresh.{Supply, fresh_for, after_draw}
@@ -95,7 +95,7 @@ abbrev mutual
   subst_from m (quantified q xs body) s =
       let cut : Map = cut_to (without xs (free body)) m in
       kept_or (chosen_for s.chosen cut (quantified q xs body)) s λ s'.
-          keep cut (quantified q xs body) (quantify q (renaming (names_in cut) xs cut s'.names) s'.chosen (λ m' s''. subst_from m' body s''))
+      keep cut (quantified q xs body) (quantify q (renaming (names_in cut) xs cut s'.names) s'.chosen (λ m' s''. subst_from m' body s''))
 
   pub substs_from : Map → Terms → Choices → Terms × Choices
   substs_from m none s = (none, s)

@@ -1,8 +1,8 @@
 -- Worked rows of free symbols and of numerals and fresh names.
-use Rattle.std.specs.Prelude.{◌≡◌, ℕ, true, false, List, [], ◌∷◌, ◌^◌, codes, refl}
-use Rattle.smt_terms.specs.declared.op.Op.TheVariants.{And, Xor, Bits, Equal}
-use Rattle.smt_terms.specs.Sorts.{Sort, bool, int, bit_vector, Symbol, Variable}
-use Rattle.smt_terms.specs.Term.{Quantifier, universal, existential, op, symbol, Term, apply, quantified, none, ◌⨾◌, constant}
+use Rattle.std.specs.Prelude.{◌≡◌, [], ◌∷◌, ◌^◌, codes, refl}
+use Rattle.smt_terms.specs.declared.op.Op.TheVariants.{And, Xor, Equal}
+use Rattle.smt_terms.specs.Sorts.{bool, bit_vector, Symbol}
+use Rattle.smt_terms.specs.Term.{universal, existential, op, symbol, apply, quantified, none, ◌⨾◌, constant}
 use Rattle.smt_terms.specs.Free.{free}
 use Rattle.smt_terms.specs.Numeral.{numeral}
 use Rattle.smt_terms.specs.Fresh.{Supply, next_name, after_draw}

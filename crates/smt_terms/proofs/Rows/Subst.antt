@@ -1,11 +1,11 @@
 -- Worked rows of substitution.
-use Rattle.std.specs.Prelude.{◌≡◌, ℕ, pos, negsuc, true, false, List, [], ◌∷◌, codes, refl}
-use Rattle.smt_terms.specs.declared.op.Op.TheVariants.{And, Or, Xor, Not, Equal, Neg, Whole}
-use Rattle.smt_terms.specs.Sorts.{Sort, bool, int, bit_vector, Symbol, Variable}
-use Rattle.smt_terms.specs.Term.{Quantifier, universal, existential, op, symbol, Term, apply, quantified, none, ◌⨾◌, constant}
+use Rattle.std.specs.Prelude.{◌≡◌, ℕ, pos, negsuc, List, [], ◌∷◌, codes, refl}
+use Rattle.smt_terms.specs.declared.op.Op.TheVariants.{And, Xor, Equal, Neg, Whole}
+use Rattle.smt_terms.specs.Sorts.{bool, int, Symbol, Variable}
+use Rattle.smt_terms.specs.Term.{existential, op, Term, apply, quantified, none, ◌⨾◌, constant}
 use Rattle.smt_terms.specs.Equal.{op_eq}
 use Rattle.smt_terms.specs.Fresh.{Supply}
-use Rattle.smt_terms.specs.Subst.{Map, subst, expand, parameter}
+use Rattle.smt_terms.specs.Subst.{subst, expand, parameter}
 
 abbrev a : Symbol
 a = record { name = codes "a"; args = []; result = bool }
