@@ -1,2 +1,5 @@
 mod Equal
 mod Rank
+mod BitVectors
+mod Values
+mod Val

@@ -1,11 +1,11 @@
 -- Models: structures over a signature, SMT-LIB 2.6, sections 5.2 and 5.3, with finite sorts in place of the free ones.
 -- A symbol's function is a table of rows with a value for all other arguments; `div` and `mod` by zero are such tables too.
-use Rattle.std.specs.Prelude.{◌≡◌, ℕ, zero, suc, ◌<◌, Bool, true, false, cond, not, ◌&&◌, ◌||◌, List, [], ◌∷◌, length, ℤ, pos, Option, Some, None, is_some, IfSome, IsTrue, IsFalse}
+use Rattle.std.specs.Prelude.{◌≡◌, ◌<◌, Bool, true, false, cond, not, ◌&&◌, List, [], ◌∷◌, ℤ, Option, Some, None, is_some, IfSome, IsTrue, IsFalse}
 use Rattle.std.specs.List.{list_any, list_all}
 use Rattle.std.specs.Ordering.{int_eq}
 use Rattle.smt_terms.specs.Sorts.{Name, Sort, Symbol}
 use Rattle.smt_terms.specs.Equal.{name_eq, symbol_eq}
-use Rattle.smt_terms.specs.Values.{Value, Sizes, same, all_same, is_value, are_values, default_value}
+use Rattle.smt_terms.specs.Values.{Value, Sizes, all_same, is_value, are_values, default_value}
 use Rattle.smt_terms.specs.Operators.{Background}
 
 pub record Row : Type 0 where
@@ -80,9 +80,9 @@ rows_allowed (_ ∷ _) (_ ∷ _) = true
 -- all values have their sorts
 abbrev pub is_graph : Symbol → Sizes → Graph → Bool
 is_graph f sizes g =
-  is_value f.result sizes g.otherwise
-  && (list_all (λ r. are_values f.args sizes r.keys && is_value f.result sizes r.result) g.rows
-  && (distinct_rows f.args sizes g.rows && rows_allowed f.args g.rows))
+    is_value f.result sizes g.otherwise
+    && (list_all (λ r. are_values f.args sizes r.keys && is_value f.result sizes r.result) g.rows
+    && (distinct_rows f.args sizes g.rows && rows_allowed f.args g.rows))
 
 pub record IsModel (m : Model) : Type 0 where
   pub sizes : (s : Name) → 0 < m.sizes s

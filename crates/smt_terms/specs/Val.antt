@@ -1,10 +1,10 @@
 -- The value of a term in a model: SMT-LIB 2.6, section 5.3.
-use Rattle.std.specs.Prelude.{ℕ, zero, suc, ◌+◌, ◌-◌, ◌^◌, max, Bool, true, false, cond, ◌&&◌, ◌||◌, nat_lt, List, [], ◌∷◌, ℤ, unsigned_abs, Option, Some, None, unwrap_or}
-use Rattle.smt_terms.specs.Sorts.{Sort, bool, int, bit_vector, array, free_sort, Symbol, Variable}
+use Rattle.std.specs.Prelude.{ℕ, ◌+◌, ◌^◌, max, Bool, true, cond, ◌&&◌, nat_lt, List, [], ◌∷◌, ℤ, unsigned_abs, Option, Some, None, unwrap_or}
+use Rattle.smt_terms.specs.Sorts.{Sort, bool, bit_vector, Symbol, Variable}
 use Rattle.smt_terms.specs.Term.{Quantifier, universal, Head, op, symbol, const_array, Term, apply, quantified, Terms, none, ◌⨾◌, constant_of}
 use Rattle.smt_terms.specs.Equal.{symbol_eq}
 use Rattle.smt_terms.specs.Rank.{sorts_of}
-use Rattle.smt_terms.specs.Values.{Value, truth, whole, bits, element, table, no_pairs, Sizes, is_true, over_values}
+use Rattle.smt_terms.specs.Values.{Value, truth, whole, table, no_pairs, Sizes, is_true, over_values}
 use Rattle.smt_terms.specs.Operators.{op_value, first_value}
 use Rattle.smt_terms.specs.Models.{Model, symbol_value, background}
 
