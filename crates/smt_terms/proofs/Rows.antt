@@ -1,5 +1,8 @@
-mod Equal
-mod Rank
 mod BitVectors
-mod Values
+mod Equal
+mod Free
+mod Rank
+mod Shapes
+mod Subst
 mod Val
+mod Values
