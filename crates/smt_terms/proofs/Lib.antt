@@ -5,3 +5,4 @@ mod OverValues
 mod Rows
 pub mod Same
 pub mod Tests
+pub mod Written

@@ -1,7 +1,7 @@
 -- Bit vectors as lists of bits, the lowest first: SMT-LIB 2.6, theory FixedSizeBitVectors and logic QF_BV, whose
 -- functions bv2nat and nat2bv stand here under their names. An operator of two operands takes the width of the first.
 use Rattle.std.specs.Prelude.{ℕ, zero, suc, ◌+◌, ◌-◌, ◌*◌, ◌/◌, ◌%◌, ◌^◌, min, Bool, true, false, cond, not, ◌&&◌, ◌||◌, ◌==◌, nat_lt, nat_le, List, [], ◌∷◌, ◌++◌, map, length, take, drop, replicate, ℤ, pos, ◌+ℤ◌, ◌-ℤ◌, unsigned_abs, int_lt, int_le, int_div, int_rem}
-use Rattle.std.specs.Bool.{beq, xor}
+use Rattle.std.specs.Bool.{beq}
 use Rattle.std.specs.Int.{int_rem_euclid}
 use Rattle.std.specs.Ordering.{int_eq}
 
@@ -64,7 +64,7 @@ abbrev pub bvor : BitVector → BitVector → BitVector
 bvor = bitwise ◌||◌
 
 abbrev pub bvxor : BitVector → BitVector → BitVector
-bvxor = bitwise xor
+bvxor = bitwise (λ a b. not (beq a b))
 
 -- ---- parts: the first operand of a concatenation is its high part
 

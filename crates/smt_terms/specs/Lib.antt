@@ -1,9 +1,17 @@
 pub mod BitVectors
+pub mod Connectives
 pub mod Equal
+pub mod Free
+pub mod Fresh
+pub mod Groups
+pub mod Made
 pub mod Models
+pub mod Numeral
 pub mod Operators
 pub mod Rank
+pub mod Shapes
 pub mod Sorts
+pub mod Subst
 pub mod Term
 pub mod Val
 pub mod Values

@@ -1,6 +1,6 @@
 -- The values of the operators: SMT-LIB 2.6, theories Core, Ints, FixedSizeBitVectors and ArraysEx, and logic QF_BV.
 use Rattle.std.specs.Prelude.{Bool, true, false, cond, not, ◌&&◌, ◌||◌, List, [], ◌∷◌, ℤ, pos, ◌+ℤ◌, ◌-ℤ◌, ◌*ℤ◌, neg_ℤ, unsigned_abs, int_lt, int_le}
-use Rattle.std.specs.Bool.{xor}
+use Rattle.std.specs.Bool.{beq}
 use Rattle.std.specs.Int.{int_div_euclid, int_rem_euclid}
 use Rattle.std.specs.List.{list_any, list_all}
 use Rattle.std.specs.Ordering.{int_eq}
@@ -92,7 +92,7 @@ op_value c (Bits width n) ss vs = bits (nat2bv width n)
 op_value c Not ss vs = truth (not (is_true (first_value vs)))
 op_value c And ss vs = truth (list_all is_true vs)
 op_value c Or ss vs = truth (list_any is_true vs)
-op_value c Xor ss vs = logical xor vs
+op_value c Xor ss vs = logical (λ a b. not (beq a b)) vs
 op_value c Implies ss vs = logical (λ a b. not a || b) vs
 op_value c Equal ss vs = truth (same (first_sort ss) c.sizes (first_value vs) (second_value vs))
 op_value c Distinct ss vs = truth (all_distinct (same (first_sort ss) c.sizes) vs)

@@ -19,7 +19,7 @@ no_variables f = None
 abbrev pub assign : Variable → Value → Env → Env
 assign x v e f = cond (symbol_eq (constant_of x) f) (Some v) (e f)
 
--- the values of the variables from the first to the last: all background under the universal quantifier, some choice
+-- the values of the variables from the first to the last: all choices under the universal quantifier, some choice
 -- under the existential one
 abbrev pub runs : Quantifier → List Variable → Sizes → (Env → Bool) → Env → Bool
 runs q [] sizes test e = test e
