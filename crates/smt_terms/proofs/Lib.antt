@@ -3,6 +3,8 @@ mod Lookups
 mod Operators
 mod OverValues
 mod Rows
+pub mod Ranked
 pub mod Same
+pub mod Sorted
 pub mod Tests
 pub mod Written
