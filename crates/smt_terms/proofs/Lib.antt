@@ -1,3 +1,5 @@
+pub mod Among
+pub mod Depends
 pub mod Equal
 mod Lookups
 mod Operators
