@@ -1,4 +1,5 @@
 pub mod Among
+pub mod BitLengths
 pub mod Depends
 pub mod Equal
 mod Lookups
@@ -9,4 +10,5 @@ pub mod Ranked
 pub mod Same
 pub mod Sorted
 pub mod Tests
+pub mod Valid
 pub mod Written
