@@ -79,9 +79,9 @@ distinct_keys-put alike back k v (pair x u ps) h =
   where
     apart : alike x k ≡ false → alike k x ≡ false
     apart e = elim (true_or_false (alike k x)) [
-        inl like ↦ let turned : alike x k ≡ true = back k x like in absurd cc
+      | inl like ↦ let turned : alike x k ≡ true = back k x like in absurd cc
       | inr other ↦ other
-      ]
+    ]
 
 pub every_pair-put : (alike test : Value → Value → Bool) (k v : Value) (ps : Pairs) → ((j u : Value) → test j u ≡ true → test j v ≡ true) → test k v ≡ true → every_pair test ps ≡ true → every_pair test (put alike k v ps) ≡ true
 every_pair-put alike test k v no_pairs replaced new h = and_true (test k v) true new refl

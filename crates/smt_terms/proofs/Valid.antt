@@ -1,25 +1,24 @@
 -- The values of terms have the terms' sorts.
-use Rattle.std.proofs.Common.{◌≡◌, ℕ, zero, suc, ◌+◌, ◌-◌, ◌<◌, ◌≤◌, Bool, true, false, not, cond, ◌&&◌, ◌||◌, ◌==◌, ◌⊎◌, inl, inr, ℤ, List, [], ◌∷◌, length, Option, Some, None, IsTrue, refl, ap, sym, ◌∙◌, subst, arith}
-use Rattle.std.specs.Prelude.{unwrap_or, IfSome, nat_lt}
+use Rattle.std.proofs.Common.{◌≡◌, ℕ, ◌+◌, ◌-◌, ◌<◌, Bool, true, false, cond, ◌&&◌, ℤ, List, [], ◌∷◌, length, Option, Some, None, IsTrue, refl, ap, sym, ◌∙◌, subst}
+use Rattle.std.specs.Prelude.{unwrap_or, IfSome}
 use Rattle.std.specs.List.{list_all}
 use Rattle.std.proofs.lemmas.Bool.Decides.{Decides-eqb, Decides-ltb}
 use Rattle.smt_terms.specs.declared.op.Op.{Op}
 use Rattle.smt_terms.specs.declared.op.Op.TheVariants.{Truth, Whole, Bits, Sym, Forall, Exists, ConstArray, Not, And, Or, Xor, Implies, Equal, Distinct, Ite, Neg, Sub, Add, Mul, Div, Mod, Abs, Le, Lt, Concat, Extract, BvNot, BvNeg, BvAnd, BvOr, BvXor, BvAdd, BvMul, BvSub, BvUdiv, BvUrem, BvSdiv, BvSrem, BvSmod, BvShl, BvLshr, BvAshr, BvComp, BvUlt, BvUle, BvSlt, BvSle, ZeroExt, SignExt, RotL, RotR, Select, Store}
-use Rattle.smt_terms.specs.Sorts.{Name, Sort, bool, int, bit_vector, array, free_sort, Symbol, Variable}
-use Rattle.smt_terms.specs.Term.{Quantifier, Head, op, symbol, const_array, Term, apply, quantified, Terms, none, ◌⨾◌, constant_of}
-use Rattle.smt_terms.specs.Equal.{symbol_eq}
-use Rattle.smt_terms.specs.Rank.{shape, fixed, several, bitwise, bitwise_pair, bits_comparison, extension, rotation, extraction, concatenation, sort_of, sorts_of}
+use Rattle.smt_terms.specs.Sorts.{Name, Sort, bool, int, bit_vector, array, free_sort, Symbol}
+use Rattle.smt_terms.specs.Term.{op, symbol, const_array, Term, apply, quantified, Terms, none, ◌⨾◌}
+use Rattle.smt_terms.specs.Rank.{shape, bitwise, bitwise_pair, extension, sort_of, sorts_of}
 use Rattle.smt_terms.specs.Takes.{Takes}
 use Rattle.smt_terms.specs.BitVectors.{BitVector, zeros, zero_extend, sign_extend}
-use Rattle.smt_terms.specs.Values.{Value, Pairs, truth, whole, bits, element, table, no_pairs, pair, Sizes, is_true, bits_of, default_of, pairs_of, is_key, put, distinct_keys, every_pair, same, all_same, select, store, is_value, are_values, default_value}
+use Rattle.smt_terms.specs.Values.{Value, Pairs, truth, whole, bits, table, no_pairs, Sizes, is_true, bits_of, default_of, pairs_of, put, distinct_keys, every_pair, same, all_same, select, store, is_value, are_values, default_value}
 use Rattle.smt_terms.specs.Operators.{Background, first_value, second_value, third_value, first_sort, index_sort, vector, vectors, op_value}
-use Rattle.smt_terms.specs.Models.{Row, Graph, Model, row_value, graph_value, graph_or_default, symbol_value, background, distinct_rows, rows_allowed, is_graph, IsModel}
-use Rattle.smt_terms.specs.Val.{Env, assign, runs, head_value, val, vals}
+use Rattle.smt_terms.specs.Models.{Row, Graph, Model, row_value, graph_or_default, symbol_value, background, distinct_rows, rows_allowed, is_graph, IsModel}
+use Rattle.smt_terms.specs.Val.{Env, runs, head_value, val, vals}
 use Rattle.smt_terms.specs.Laws.{IsEnv}
 use Rattle.smt_terms.proofs.Tests.{both_true, and_true, either_way}
 use Rattle.smt_terms.proofs.BitLengths.{length-copies, length-nat2bv, length-bvnot, length-bvneg, length-extract, length-concat, length-zero_extend, length-sign_extend, length-rotate_left, length-rotate_right, KeepsWidth, keeps_bvand, keeps_bvor, keeps_bvxor, keeps_bvadd, keeps_bvsub, keeps_bvmul, keeps_bvshl, keeps_bvlshr, keeps_bvudiv, keeps_bvurem, keeps_bvsdiv, keeps_bvsrem, keeps_bvsmod, keeps_bvashr}
 use Rattle.smt_terms.proofs.Lookups.{distinct_keys-put, every_pair-put}
-use Rattle.smt_terms.proofs.Same.{IsArrayValue, array_value, is_value-select, same-back}
+use Rattle.smt_terms.proofs.Same.{array_value, is_value-select, same-back}
 use Rattle.smt_terms.proofs.Ranked.{rank-takes}
 use Rattle.smt_terms.proofs.Sorted.{applied, sorted, quantified_sort}
 
@@ -95,8 +94,8 @@ is_value-store i e sizes a k v valid key new =
     let parts = array_value i e sizes a valid in
     array_valid i e sizes (default_of a) (put (same i sizes) k v (pairs_of a)) parts.default
     (every_pair-put (same i sizes) (λ k v. is_value i sizes k && is_value e sizes v) k v (pairs_of a)
-      (λ j u t. and_true (is_value i sizes j) (is_value e sizes v) (both_true (is_value i sizes j) (is_value e sizes u) t).0 new)
-      (and_true (is_value i sizes k) (is_value e sizes v) key new) parts.entries)
+    (λ j u t. and_true (is_value i sizes j) (is_value e sizes v) (both_true (is_value i sizes j) (is_value e sizes u) t).0 new)
+    (and_true (is_value i sizes k) (is_value e sizes v) key new) parts.entries)
     (distinct_keys-put (same i sizes) (same-back i sizes) k v (pairs_of a) parts.distinct)
 
 -- ---- operators
@@ -118,7 +117,7 @@ op_valid c Ite ss s vs t h =
     let valid : are_values (bool ∷ t.0 ∷ t.0 ∷ []) c.sizes vs ≡ true = sym (ap (λ us. are_values us c.sizes vs) t.1) ∙ h in
     ap (λ u. is_value u c.sizes (cond (is_true (first_value vs)) (second_value vs) (third_value vs))) t.2
     ∙ either_way (is_value t.0 c.sizes) (is_true (first_value vs)) (second_value vs) (third_value vs) true
-      (λ e. second_valid bool t.0 (t.0 ∷ []) c.sizes vs valid) (λ e. third_valid bool t.0 t.0 [] c.sizes vs valid)
+    (λ e. second_valid bool t.0 (t.0 ∷ []) c.sizes vs valid) (λ e. third_valid bool t.0 t.0 [] c.sizes vs valid)
 op_valid c Neg ss s vs t h = whole_valid s c.sizes _ t.1
 op_valid c Sub ss s vs t h = whole_valid s c.sizes _ t.1
 op_valid c Add ss s vs t h = whole_valid s c.sizes _ t.2
@@ -170,9 +169,9 @@ op_valid c Store ss s vs t h =
     let valid : are_values (array t.0 t.1 ∷ t.0 ∷ t.1 ∷ []) c.sizes vs ≡ true = sym (ap (λ us. are_values us c.sizes vs) t.2) ∙ h in
     (λ i. is_value (t.3 i) c.sizes (store (index_sort (first_sort (t.2 i))) c.sizes (first_value vs) (second_value vs) (third_value vs)))
     ∙ is_value-store t.0 t.1 c.sizes (first_value vs) (second_value vs) (third_value vs)
-      (first_valid (array t.0 t.1) (t.0 ∷ t.1 ∷ []) c.sizes vs valid)
-      (second_valid (array t.0 t.1) t.0 (t.1 ∷ []) c.sizes vs valid)
-      (third_valid (array t.0 t.1) t.0 t.1 [] c.sizes vs valid)
+    (first_valid (array t.0 t.1) (t.0 ∷ t.1 ∷ []) c.sizes vs valid)
+    (second_valid (array t.0 t.1) t.0 (t.1 ∷ []) c.sizes vs valid)
+    (third_valid (array t.0 t.1) t.0 t.1 [] c.sizes vs valid)
 op_valid c (Sym f) ss s vs t h = absurd t
 op_valid c Forall ss s vs t h = absurd t
 op_valid c Exists ss s vs t h = absurd t
