@@ -1,5 +1,7 @@
 pub mod Equal
+pub mod Fresh
 mod Lookups
+pub mod Numeral
 mod Operators
 mod OverValues
 mod Rows
