@@ -12,6 +12,7 @@ pub mod Rank
 pub mod Shapes
 pub mod Sorts
 pub mod Subst
+pub mod Takes
 pub mod Term
 pub mod Val
 pub mod Values
