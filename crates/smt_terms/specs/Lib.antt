@@ -1,5 +1,6 @@
 pub mod BitVectors
 pub mod Connectives
+pub mod Constants
 pub mod Equal
 pub mod Free
 pub mod Fresh
