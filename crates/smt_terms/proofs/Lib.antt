@@ -1,9 +1,12 @@
+pub mod Agree
+pub mod Among
 pub mod Equal
 pub mod Fresh
 mod Lookups
 pub mod Numeral
 mod Operators
 mod OverValues
+pub mod Renaming
 mod Rows
 pub mod Ranked
 pub mod Same

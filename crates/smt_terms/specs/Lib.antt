@@ -13,6 +13,7 @@ pub mod Rank
 pub mod Shapes
 pub mod Sorts
 pub mod Subst
+pub mod SubstLaws
 pub mod Takes
 pub mod Term
 pub mod Val
