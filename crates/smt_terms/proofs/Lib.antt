@@ -1,12 +1,16 @@
+pub mod Agree
 pub mod Among
 pub mod BitLengths
 pub mod Depends
 pub mod Equal
+pub mod Fresh
 mod Lookups
+pub mod Numeral
 mod Operators
 mod OverValues
-mod Rows
 pub mod Ranked
+pub mod Renaming
+mod Rows
 pub mod Same
 pub mod Sorted
 pub mod Tests

@@ -1,5 +1,6 @@
 pub mod BitVectors
 pub mod Connectives
+pub mod Constants
 pub mod Equal
 pub mod Free
 pub mod Fresh
@@ -13,6 +14,7 @@ pub mod Rank
 pub mod Shapes
 pub mod Sorts
 pub mod Subst
+pub mod SubstLaws
 pub mod Takes
 pub mod Term
 pub mod Val
