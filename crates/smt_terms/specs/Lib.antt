@@ -5,6 +5,7 @@ pub mod Equal
 pub mod Free
 pub mod Fresh
 pub mod Groups
+pub mod Laws
 pub mod Made
 pub mod Models
 pub mod Numeral
@@ -13,6 +14,7 @@ pub mod Rank
 pub mod Shapes
 pub mod Sorts
 pub mod Subst
+pub mod Takes
 pub mod Term
 pub mod Val
 pub mod Values
