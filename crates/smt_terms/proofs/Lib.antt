@@ -1,5 +1,6 @@
 pub mod Agree
 pub mod Among
+pub mod Binders
 pub mod BitLengths
 pub mod Depends
 pub mod Equal
