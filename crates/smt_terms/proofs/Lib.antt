@@ -10,6 +10,7 @@ pub mod Numeral
 mod Operators
 mod OverValues
 pub mod Ranked
+pub mod Regular
 pub mod Renaming
 mod Rows
 pub mod Same
