@@ -1,4 +1,5 @@
 pub mod Agree
+pub mod Alike
 pub mod Among
 pub mod Binders
 pub mod BitLengths
