@@ -1,25 +1,24 @@
 -- An operator gives the same value where its operands have the same values.
-use Rattle.std.proofs.Common.{◌≡◌, ℕ, zero, suc, Bool, true, false, not, cond, ◌&&◌, ◌||◌, ◌==◌, ◌⊎◌, inl, inr, ℤ, ◌+ℤ◌, ◌*ℤ◌, List, [], ◌∷◌, length, replicate, Option, Some, None, IsTrue, Result, Ok, refl, ap, sym, ◌∙◌, subst}
-use Rattle.std.specs.Prelude.{unwrap_or, IfSome, pos, ◌-ℤ◌, neg_ℤ, unsigned_abs, int_le, int_lt}
-use Rattle.std.specs.Bool.{beq}
+use Rattle.std.proofs.Common.{◌≡◌, ℕ, zero, suc, Bool, true, false, not, cond, ◌&&◌, ◌||◌, inl, inr, ℤ, ◌+ℤ◌, ◌*ℤ◌, List, [], ◌∷◌, replicate, Option, Some, None, IsTrue, Ok, refl, ap, sym, ◌∙◌, subst}
+use Rattle.std.specs.Prelude.{IfSome, pos, ◌-ℤ◌, neg_ℤ, unsigned_abs, int_le, int_lt}
 use mathlib.Core.Bool.{xor}
 use Rattle.std.specs.Cmp.{booleans_Decides}
 use Rattle.std.specs.List.{list_all, list_any}
 use Rattle.std.proofs.lemmas.Bool.Decides.{Decides-int_eq}
 use Rattle.smt_terms.specs.declared.op.Op.{Op}
 use Rattle.smt_terms.specs.declared.op.Op.TheVariants.{Truth, Whole, Bits, Sym, Forall, Exists, ConstArray, Not, And, Or, Xor, Implies, Equal, Distinct, Ite, Neg, Sub, Add, Mul, Div, Mod, Abs, Le, Lt, Concat, Extract, BvNot, BvNeg, BvAnd, BvOr, BvXor, BvAdd, BvMul, BvSub, BvUdiv, BvUrem, BvSdiv, BvSrem, BvSmod, BvShl, BvLshr, BvAshr, BvComp, BvUlt, BvUle, BvSlt, BvSle, ZeroExt, SignExt, RotL, RotR, Select, Store}
-use Rattle.smt_terms.specs.Sorts.{Name, Sort, bool, int, bit_vector, array, Symbol}
+use Rattle.smt_terms.specs.Sorts.{Sort, bool, int, bit_vector, array, Symbol}
 use Rattle.smt_terms.specs.Term.{Head, op, symbol, const_array}
 use Rattle.smt_terms.specs.Rank.{shape, is_array, is_sort, has_sorts, rank}
 use Rattle.smt_terms.specs.Takes.{Takes}
 use Rattle.smt_terms.specs.BitVectors.{BitVector, nat2bv, concat, extract, zero_extend, sign_extend, rotate_left, rotate_right, bvnot, bvneg, bvand, bvor, bvxor, bvadd, bvmul, bvsub, bvudiv, bvurem, bvsdiv, bvsrem, bvsmod, bvshl, bvlshr, bvashr, bvcomp, bvult, bvule, bvslt, bvsle}
-use Rattle.smt_terms.specs.Values.{Value, Pairs, truth, whole, bits, table, no_pairs, Sizes, is_true, number, bits_of, default_of, pairs_of, same, all_same, select, store, is_value, are_values}
+use Rattle.smt_terms.specs.Values.{Value, truth, whole, bits, table, no_pairs, Sizes, is_true, number, bits_of, default_of, pairs_of, same, all_same, select, store, is_value, are_values}
 use Rattle.smt_terms.specs.Operators.{Background, first_value, second_value, third_value, first_sort, index_sort, sum_of, product_of, all_distinct, quotient, modulus, op_value}
-use Rattle.smt_terms.specs.Models.{Row, Graph, Model, row_value, graph_value, graph_or_default, symbol_value, background, distinct_rows, rows_allowed, is_graph, IsModel}
+use Rattle.smt_terms.specs.Models.{Row, Graph, Model, row_value, graph_or_default, symbol_value, background, distinct_rows, rows_allowed, is_graph, IsModel}
 use Rattle.smt_terms.specs.Val.{Env, head_value}
-use Rattle.smt_terms.proofs.Tests.{both_true, and_true, alike_from, true_or_false}
+use Rattle.smt_terms.proofs.Tests.{both_true, and_true, alike_from}
 use Rattle.smt_terms.proofs.Lookups.{value_at-put}
-use Rattle.smt_terms.proofs.Same.{Decides-bits_eq, same_scalar, same-itself, same-back, same-through, same-select, select-like, is_value-select, Agrees, agrees, agreed, AgreeAt, same_finite, same_default, array_value, array_sorts}
+use Rattle.smt_terms.proofs.Same.{Decides-bits_eq, same_scalar, same-itself, same-back, same-through, same-select, select-like, agrees, agreed, same_finite, same_default, array_value, array_sorts}
 use Rattle.smt_terms.proofs.Ranked.{rank-takes}
 use Rattle.smt_terms.proofs.OverValues.{over_finite}
 use Rattle.smt_terms.proofs.Valid.{is_value-store, first_valid, second_valid, third_valid}
@@ -180,8 +179,8 @@ store-alike i e sizes a b j k v w fine va vb vj vk vv vw p q r =
     let left = array_value i e sizes (store i sizes a j v) (is_value-store i e sizes a j v va vj vv) in
     let right = array_value i e sizes (store i sizes b k w) (is_value-store i e sizes b k w vb vk vw) in
     elim ((agrees i e sizes a b p).elsewhere) [
-      inl covered ↦ same_finite i e sizes (store i sizes a j v) (store i sizes b k w) left right (at sorts.0) (over_finite i sizes _ covered)
-    | inr default ↦ same_default i e sizes (store i sizes a j v) (store i sizes b k w) left right (at sorts.0) default
+      | inl covered ↦ same_finite i e sizes (store i sizes a j v) (store i sizes b k w) left right (at sorts.0) (over_finite i sizes _ covered)
+      | inr default ↦ same_default i e sizes (store i sizes a j v) (store i sizes b k w) left right (at sorts.0) default
     ]
   where
     at : is_array i ≡ false → (key : Value) → is_value i sizes key ≡ true → same e sizes (select i sizes (store i sizes a j v) key) (select i sizes (store i sizes b k w) key) ≡ true
@@ -209,9 +208,9 @@ op_alike c Equal ss s vs ws t f p q h =
     let right = values_at ss (t.0 ∷ t.0 ∷ []) c.sizes ws t.1 q in
     let fine : is_sort t.0 ≡ true = (both_true (is_sort t.0) (list_all is_sort (t.0 ∷ [])) (sorts_at ss (t.0 ∷ t.0 ∷ []) t.1 f)).0 in
     let respects = same-respects t.0 c.sizes (first_value vs) (second_value vs) (first_value ws) (second_value ws) fine
-                     (first_valid t.0 (t.0 ∷ []) c.sizes vs left) (second_valid t.0 t.0 [] c.sizes vs left)
-                     (first_valid t.0 (t.0 ∷ []) c.sizes ws right) (second_valid t.0 t.0 [] c.sizes ws right)
-                     (first_same t.0 (t.0 ∷ []) c.sizes vs ws all) (second_same t.0 t.0 [] c.sizes vs ws all) in
+    (first_valid t.0 (t.0 ∷ []) c.sizes vs left) (second_valid t.0 t.0 [] c.sizes vs left)
+    (first_valid t.0 (t.0 ∷ []) c.sizes ws right) (second_valid t.0 t.0 [] c.sizes ws right)
+    (first_same t.0 (t.0 ∷ []) c.sizes vs ws all) (second_same t.0 t.0 [] c.sizes vs ws all) in
     equal_same s c.sizes _ _
     ((λ i. truth (same (first_sort (t.1 i)) c.sizes (first_value vs) (second_value vs))) ∙ ap truth respects ∙ sym (λ i. truth (same (first_sort (t.1 i)) c.sizes (first_value ws) (second_value ws))))
 op_alike c Distinct ss s vs ws t f p q h =
@@ -225,7 +224,7 @@ op_alike c Ite ss s vs ws t f p q h =
     let condition = truths c.sizes (first_value vs) (first_value ws) (first_same bool (t.0 ∷ t.0 ∷ []) c.sizes vs ws all) in
     ap (λ u. same u c.sizes (cond (is_true (first_value vs)) (second_value vs) (third_value vs)) (cond (is_true (first_value ws)) (second_value ws) (third_value ws))) t.2
     ∙ branch_alike t.0 c.sizes (is_true (first_value vs)) (is_true (first_value ws)) (second_value vs) (third_value vs) (second_value ws) (third_value ws) condition
-      (second_same bool t.0 (t.0 ∷ []) c.sizes vs ws all) (third_same bool t.0 t.0 [] c.sizes vs ws all)
+    (second_same bool t.0 (t.0 ∷ []) c.sizes vs ws all) (third_same bool t.0 t.0 [] c.sizes vs ws all)
 op_alike c Neg ss s vs ws t f p q h = equal_same s c.sizes _ _ (number_alike ss c.sizes vs ws (λ n. whole (neg_ℤ n)) t.0 h)
 op_alike c Sub ss s vs ws t f p q h = equal_same s c.sizes _ _ (numbers_alike ss c.sizes vs ws (λ m n. whole (m -ℤ n)) t.0 h)
 op_alike c Add ss s vs ws t f p q h = equal_same s c.sizes _ _ (ap whole (all_numbers (suc (suc t.0)) c.sizes vs ws (at_sorts ss (replicate (suc (suc t.0)) int) c.sizes vs ws t.1 h)).0)
@@ -269,7 +268,7 @@ op_alike c Select ss s vs ws t f p q h =
     let fine : is_sort (array t.0 s) ≡ true = (both_true (is_sort (array t.0 s)) (list_all is_sort (t.0 ∷ [])) (sorts_at ss us t.1 f)).0 in
     (λ i. same s c.sizes (select (index_sort (first_sort (t.1 i))) c.sizes (first_value vs) (second_value vs)) (select (index_sort (first_sort (t.1 i))) c.sizes (first_value ws) (second_value ws)))
     ∙ select-alike t.0 s c.sizes (first_value vs) (first_value ws) (second_value vs) (second_value ws) (array_sorts t.0 s fine).0
-      (second_valid (array t.0 s) t.0 [] c.sizes vs left) (first_same (array t.0 s) (t.0 ∷ []) c.sizes vs ws all) (second_same (array t.0 s) t.0 [] c.sizes vs ws all)
+    (second_valid (array t.0 s) t.0 [] c.sizes vs left) (first_same (array t.0 s) (t.0 ∷ []) c.sizes vs ws all) (second_same (array t.0 s) t.0 [] c.sizes vs ws all)
 op_alike c Store ss s vs ws t f p q h =
     let us = array t.0 t.1 ∷ t.0 ∷ t.1 ∷ [] in
     let all = at_sorts ss us c.sizes vs ws t.2 h in
@@ -278,10 +277,10 @@ op_alike c Store ss s vs ws t f p q h =
     let fine : is_sort (array t.0 t.1) ≡ true = (both_true (is_sort (array t.0 t.1)) (list_all is_sort (t.0 ∷ t.1 ∷ [])) (sorts_at ss us t.2 f)).0 in
     (λ i. same (t.3 i) c.sizes (store (index_sort (first_sort (t.2 i))) c.sizes (first_value vs) (second_value vs) (third_value vs)) (store (index_sort (first_sort (t.2 i))) c.sizes (first_value ws) (second_value ws) (third_value ws)))
     ∙ store-alike t.0 t.1 c.sizes (first_value vs) (first_value ws) (second_value vs) (second_value ws) (third_value vs) (third_value ws) fine
-      (first_valid (array t.0 t.1) (t.0 ∷ t.1 ∷ []) c.sizes vs left) (first_valid (array t.0 t.1) (t.0 ∷ t.1 ∷ []) c.sizes ws right)
-      (second_valid (array t.0 t.1) t.0 (t.1 ∷ []) c.sizes vs left) (second_valid (array t.0 t.1) t.0 (t.1 ∷ []) c.sizes ws right)
-      (third_valid (array t.0 t.1) t.0 t.1 [] c.sizes vs left) (third_valid (array t.0 t.1) t.0 t.1 [] c.sizes ws right)
-      (first_same (array t.0 t.1) (t.0 ∷ t.1 ∷ []) c.sizes vs ws all) (second_same (array t.0 t.1) t.0 (t.1 ∷ []) c.sizes vs ws all) (third_same (array t.0 t.1) t.0 t.1 [] c.sizes vs ws all)
+    (first_valid (array t.0 t.1) (t.0 ∷ t.1 ∷ []) c.sizes vs left) (first_valid (array t.0 t.1) (t.0 ∷ t.1 ∷ []) c.sizes ws right)
+    (second_valid (array t.0 t.1) t.0 (t.1 ∷ []) c.sizes vs left) (second_valid (array t.0 t.1) t.0 (t.1 ∷ []) c.sizes ws right)
+    (third_valid (array t.0 t.1) t.0 t.1 [] c.sizes vs left) (third_valid (array t.0 t.1) t.0 t.1 [] c.sizes ws right)
+    (first_same (array t.0 t.1) (t.0 ∷ t.1 ∷ []) c.sizes vs ws all) (second_same (array t.0 t.1) t.0 (t.1 ∷ []) c.sizes vs ws all) (third_same (array t.0 t.1) t.0 t.1 [] c.sizes vs ws all)
 op_alike c (Sym g) ss s vs ws t f p q h = absurd t
 op_alike c Forall ss s vs ws t f p q h = absurd t
 op_alike c Exists ss s vs ws t f p q h = absurd t
@@ -333,9 +332,9 @@ rows_alike args sizes result (r ∷ rows) otherwise vs ws fine a b h valid =
     let parts = both_true (are_values args sizes r.keys && is_value result sizes r.result) (list_all (λ r. are_values args sizes r.keys && is_value result sizes r.result) rows) valid in
     let keys : are_values args sizes r.keys ≡ true = (both_true (are_values args sizes r.keys) (is_value result sizes r.result) parts.0).0 in
     let test : all_same args sizes r.keys vs ≡ all_same args sizes r.keys ws =
-        alike_from (all_same args sizes r.keys vs) (all_same args sizes r.keys ws)
-        (λ p. all_same-through args sizes r.keys vs ws fine keys a b p h)
-        (λ p. all_same-through args sizes r.keys ws vs fine keys b a p (all_same-back args sizes vs ws h)) in
+    alike_from (all_same args sizes r.keys vs) (all_same args sizes r.keys ws)
+    (λ p. all_same-through args sizes r.keys vs ws fine keys a b p h)
+    (λ p. all_same-through args sizes r.keys ws vs fine keys b a p (all_same-back args sizes vs ws h)) in
     let rest = rows_alike args sizes result rows otherwise vs ws fine a b h parts.1 in
     λ i. cond (test i) r.result (rest i)
 

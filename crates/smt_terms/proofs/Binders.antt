@@ -1,16 +1,16 @@
 -- When a quantifier's node has a rank: its operands are constants that it may bind, and its body.
-use Rattle.std.proofs.Common.{◌≡◌, ℕ, zero, suc, ◌+◌, ◌<◌, ◌≤◌, Bool, true, false, not, cond, ◌&&◌, ◌||◌, ◌==◌, ◌⊎◌, inl, inr, nat_le, List, [], ◌∷◌, ◌++◌, map, length, Option, Some, None, Result, Ok, Err, refl, ap, sym, ◌∙◌, subst, arith, length-append}
-use Rattle.std.specs.List.{list_all, list_any}
+use Rattle.std.proofs.Common.{◌≡◌, ℕ, suc, ◌+◌, ◌≤◌, Bool, true, false, not, cond, ◌&&◌, inl, inr, nat_le, List, [], ◌∷◌, ◌++◌, map, length, Result, Ok, Err, refl, ap, sym, ◌∙◌, arith, length-append}
+use Rattle.std.specs.List.{list_all}
 use Rattle.std.proofs.lemmas.Bool.{leb-true}
 use Rattle.std.proofs.lemmas.Bool.Decides.{nat_tests}
 use Rattle.std.proofs.lemmas.List.{length-map}
-use Rattle.smt_terms.specs.Sorts.{Name, Sort, bool, Symbol, Variable}
-use Rattle.smt_terms.specs.Term.{Head, op, symbol, const_array, Term, apply, quantified, Terms, none, ◌⨾◌, terms, variable, constant_of}
+use Rattle.smt_terms.specs.Sorts.{Name, Sort, bool, Variable}
+use Rattle.smt_terms.specs.Term.{op, symbol, const_array, Term, apply, quantified, none, ◌⨾◌, variable}
 use Rattle.smt_terms.specs.Equal.{name_eq, sort_eq}
-use Rattle.smt_terms.specs.Rank.{Fault, wrong_arity, wrong_sort, is_quantifiable, has_name, are_distinct, is_empty, may_bind, symbol_name, rank_bound, rank_quantifier, are_bindable, sort_of, sorts_of}
+use Rattle.smt_terms.specs.Rank.{Fault, wrong_arity, wrong_sort, is_quantifiable, has_name, are_distinct, is_empty, may_bind, symbol_name, rank_bound, rank_quantifier, are_bindable}
+use Rattle.smt_terms.specs.Laws.{IsBinder}
 use Rattle.smt_terms.proofs.Tests.{both_true, and_true, both_false, or_false, not_true, true_or_false}
 use Rattle.smt_terms.proofs.Equal.{Decides-name_eq, Decides-sort_eq}
-use Rattle.smt_terms.proofs.Sorted.{sorted}
 
 -- the names of variables, and a test that none is among others
 abbrev names : List Variable → List Name
@@ -58,7 +58,7 @@ binds earlier (apply (symbol f) none) h =
       variable_of = record { name = f.name; sort = f.result };
       is = λ i. apply (symbol (record { name = f.name; args = no_args f.args all.0 i; result = f.result })) none;
       allowed = rest.0;
-      new = rest.1
+      new = rest.1;
     }
 binds earlier (apply (symbol f) (t ⨾ ts)) h = absurd cc
 binds earlier (apply (op o) ts) h = absurd cc
@@ -68,8 +68,8 @@ binds earlier (quantified q xs t) h = absurd cc
 turned : (m k : Name) → name_eq k m ≡ false → name_eq m k ≡ false
 turned m k e =
     elim (true_or_false (name_eq m k)) [
-      inl same ↦ let back : name_eq k m ≡ true = (Decides-name_eq k m).1 (sym ((Decides-name_eq m k).0 same)) in absurd cc
-    | inr other ↦ other
+      | inl same ↦ let back : name_eq k m ≡ true = (Decides-name_eq k m).1 (sym ((Decides-name_eq m k).0 same)) in absurd cc
+      | inr other ↦ other
     ]
 
 -- names that are new after one more name differ from it
@@ -78,9 +78,10 @@ apart n earlier [] h = (refl, refl)
 apart n earlier (x ∷ xs) h =
     let all = both_true (not (has_name x.name (n ∷ earlier))) (are_new (n ∷ earlier) xs) h in
     let here = both_false (name_eq x.name n) (has_name x.name earlier) (not_true (has_name x.name (n ∷ earlier)) all.0) in
-    let rest = apart n earlier xs all.1 in
-    (and_true (not (has_name x.name earlier)) (are_new earlier xs) (ap not here.1) rest.0,
-     or_false (name_eq n x.name) (has_name n (names xs)) (turned n x.name here.0) rest.1)
+    let rest = apart n earlier xs all.1 in (
+      and_true (not (has_name x.name earlier)) (are_new earlier xs) (ap not here.1) rest.0,
+      or_false (name_eq n x.name) (has_name n (names xs)) (turned n x.name here.0) rest.1,
+    )
 
 no_operand : (k : ℕ) (earlier : List Name) (t : Term) (u v : Sort) (ss : List Sort) (s : Sort) → rank_bound k earlier (t ∷ []) (u ∷ v ∷ ss) ≡ Ok s → ⊥
 no_operand k earlier t u v ss s h =
@@ -105,7 +106,7 @@ bound_ok k earlier (t ∷ []) (u ∷ []) s h =
       new = refl;
       distinct = refl;
       allowed = refl;
-      result = result
+      result = result;
     }
 bound_ok k earlier (t ∷ []) (u ∷ v ∷ ss) s h = absurd (no_operand k earlier t u v ss s h)
 bound_ok k earlier (t ∷ t' ∷ ts) (u ∷ ss) s h =
@@ -124,21 +125,10 @@ bound_ok k earlier (t ∷ t' ∷ ts) (u ∷ ss) s h =
       new = and_true (not (has_name here.variable_of.name earlier)) (are_new earlier rest.variables) here.new others.0;
       distinct = and_true (not (has_name here.variable_of.name (names rest.variables))) (are_distinct (names rest.variables)) (ap not others.1) rest.distinct;
       allowed = and_true (is_quantifiable here.variable_of.sort) (may_all rest.variables) here.allowed rest.allowed;
-      result = rest.result
+      result = rest.result;
     }
 
 -- ---- the law
-
--- a quantifier's operands: its variables as constants, and a body that is a truth value
-pub record IsBinder (ts : List Term) (ss : List Sort) (s : Sort) : Type 0 where
-  pub variables : List Variable
-  pub body : Term
-  pub sorts : List Sort
-  pub operands : ts ≡ map variable variables ++ body ∷ []
-  pub operand_sorts : ss ≡ sorts ++ bool ∷ []
-  pub number : length sorts ≡ length variables
-  pub bindable : are_bindable variables ≡ true
-  pub result : s ≡ bool
 
 some_bindable : (xs : List Variable) → 1 ≤ length xs → are_distinct (names xs) ≡ true → may_all xs ≡ true → are_bindable xs ≡ true
 some_bindable [] some distinct allowed = absurd (omega arith)
@@ -158,7 +148,7 @@ rank_quantifier-ok ts ss s h =
       operand_sorts = found.operand_sorts;
       number = found.number;
       bindable = some_bindable found.variables (omega arith) found.distinct found.allowed;
-      result = found.result
+      result = found.result;
     }
 
 -- ---- and back
@@ -209,3 +199,7 @@ rank_quantifier-binder (x ∷ xs) t us e h =
   where
     enough : (n : ℕ) → 2 ≤ n → nat_le 2 n ≡ true
     enough n h = grind (arith, nat_tests)
+
+pub binder-rank_quantifier : (ts : List Term) (ss : List Sort) (s : Sort) → IsBinder ts ss s → rank_quantifier ts ss ≡ Ok s
+binder-rank_quantifier ts ss s b =
+    (λ i. rank_quantifier (b.operands i) (b.operand_sorts i)) ∙ rank_quantifier-binder b.variables b.body b.sorts b.number b.bindable ∙ ap (λ t. Ok t) (sym b.result)

@@ -7,6 +7,7 @@ pub mod Depends
 pub mod Equal
 pub mod Fresh
 mod Lookups
+pub mod Meaning
 pub mod Numeral
 mod Operators
 mod OverValues

@@ -110,6 +110,7 @@ value_at-put alike law j k v (pair x u ps) d =
   where
     both : alike x j ≡ true → alike k j ≡ true → alike x k ≡ false → ⊥
     both p q here = let like : alike x k ≡ true = law.through x j k p (law.back k j q) in absurd cc
+
     placed : (b : Bool) → alike x k ≡ b → value_at alike j (put alike k v ps) d ≡ cond (alike k j) v (value_at alike j ps d) → value_at alike j (cond b (pair x v ps) (pair x u (put alike k v ps))) d ≡ cond (alike k j) v (cond (alike x j) u (value_at alike j ps d))
     placed true here behind =
         let like : alike x j ≡ alike k j = alike_from (alike x j) (alike k j) (λ h. law.through k x j (law.back x k here) h) (λ h. law.through x k j here h) in
