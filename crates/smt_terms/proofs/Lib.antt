@@ -8,6 +8,7 @@ mod Operators
 mod OverValues
 pub mod Renaming
 mod Rows
+pub mod Runs
 pub mod Ranked
 pub mod Same
 pub mod Sorted
