@@ -1,17 +1,17 @@
 -- A quantifier runs over its renamed variables as it did over the old ones: what its body says under the map is what it said
 -- before.
-use Rattle.std.proofs.Common.{◌≡◌, ◌≢◌, ℕ, Bool, true, false, not, cond, ◌&&◌, ◌||◌, ◌⊎◌, inl, inr, List, [], ◌∷◌, map, Option, Some, None, refl, ap, sym, ◌∙◌, subst}
+use Rattle.std.proofs.Common.{◌≡◌, ◌≢◌, Bool, true, false, not, cond, ◌||◌, ◌⊎◌, inl, inr, List, [], ◌∷◌, map, Option, Some, None, refl, ap, sym, ◌∙◌, subst}
 use Rattle.std.specs.Prelude.{unwrap_or, ⊤}
-use Rattle.smt_terms.specs.Sorts.{Name, Sort, Symbol, Variable}
-use Rattle.smt_terms.specs.Term.{Quantifier, Term, constant_of, constant, variable}
+use Rattle.smt_terms.specs.Sorts.{Name, Symbol, Variable}
+use Rattle.smt_terms.specs.Term.{Quantifier, Term, constant_of, variable}
 use Rattle.smt_terms.specs.Equal.{name_eq, symbol_eq}
 use Rattle.smt_terms.specs.Free.{is_among, name_among, without, free, names_of}
 use Rattle.smt_terms.specs.Values.{Value, Sizes, over_values}
 use Rattle.smt_terms.specs.Models.{Model, symbol_value}
 use Rattle.smt_terms.specs.Val.{Env, assign, runs, val}
 use Rattle.smt_terms.specs.Fresh.{Supply, next_name, after_draw, fresh_for, NeverGives}
-use Rattle.smt_terms.specs.Subst.{Map, image, Renamed, bound_first, bind, renaming}
-use Rattle.smt_terms.specs.SubstLaws.{value_or, under, GivesNone, GivesNoImage}
+use Rattle.smt_terms.specs.Subst.{Map, image, bind, renaming}
+use Rattle.smt_terms.specs.SubstLaws.{value_or, under, GivesNoImage}
 use Rattle.smt_terms.proofs.Tests.{both_true, left_true, right_true, either_true}
 use Rattle.smt_terms.proofs.Among.{is_among-without}
 use Rattle.smt_terms.proofs.Equal.{Decides-name_eq, Decides-symbol_eq}
@@ -66,7 +66,7 @@ front-keys c x u (y ∷ xs) f captured keys = (λ kept. go (symbol_eq (constant_
 
 -- ---- one variable more
 
-among-name : (fs : List Symbol) (h : Symbol) → is_among fs h ≡ true → name_among (names_of fs) h.name ≡ true
+pub among-name : (fs : List Symbol) (h : Symbol) → is_among fs h ≡ true → name_among (names_of fs) h.name ≡ true
 among-name [] h among = absurd cc
 among-name (g ∷ fs) h among = go (either_true (symbol_eq g h) (is_among fs h) among) (among-name fs h)
   where
@@ -124,6 +124,7 @@ same-kept c x xs f m fs d e v kept apart keys same g among = go (symbol_eq (cons
     at_key : (o : Option Term) → o ≡ None → symbol_eq (constant_of x) g ≡ true → value_or m o (assign x v d) g ≡ Some v
     at_key None none here = ap (λ b. cond b (Some v) (d g)) here
     at_key (Some u) none here = absurd cc
+
     go : (b : Bool) → symbol_eq (constant_of x) g ≡ b → under m f (assign x v d) g ≡ cond b (Some v) (e g)
     go true here =
         let key : constant_of x ≡ g = (Decides-symbol_eq (constant_of x) g).0 here in
@@ -140,17 +141,17 @@ bind-runs : (b : Bool) (c : List Name) (x : Variable) (xs : List Variable) (f : 
     → runs q (bind b x f s (λ g t. renaming c xs g t)).variables sizes (λ k. A (under m (bind b x f s (λ g t. renaming c xs g t)).map k)) d ≡ runs q (x ∷ xs) sizes A e
 bind-runs true c x xs f s q sizes m fs A captured below d e apart keys variables none symbols same =
     ap (over_values q x.sort sizes) (λ i v. below ((constant_of x, variable (fresh_for x s)) ∷ f) (after_draw s) (assign (fresh_for x s) v d) (assign x v e)
-        (front-apart c x (fresh_for x s) xs f (fresh-unnamed c s xs variables.1) apart)
-        (front-keys c x (variable (fresh_for x s)) xs f captured keys.1)
-        (spared-later s (after_draw s) xs (after-later s) variables.1)
-        (front-spared (after_draw s) x (fresh_for x s) f (never-drawn s) (images-later s (after_draw s) f (after-later s) none))
-        (λ g among. never-after s g.name (symbols g among))
-        (same-renamed s x xs f m fs d e v none symbols same) i)
+    (front-apart c x (fresh_for x s) xs f (fresh-unnamed c s xs variables.1) apart)
+    (front-keys c x (variable (fresh_for x s)) xs f captured keys.1)
+    (spared-later s (after_draw s) xs (after-later s) variables.1)
+    (front-spared (after_draw s) x (fresh_for x s) f (never-drawn s) (images-later s (after_draw s) f (after-later s) none))
+    (λ g among. never-after s g.name (symbols g among))
+    (same-renamed s x xs f m fs d e v none symbols same) i)
 bind-runs false c x xs f s q sizes m fs A kept below d e apart keys variables none symbols same =
     ap (over_values q x.sort sizes) (λ i v. below f s (assign x v d) (assign x v e)
-        (λ g u found n among. (apart g u found n among).1)
-        keys.1 variables.1 none symbols
-        (same-kept c x xs f m fs d e v kept apart keys same) i)
+    (λ g u found n among. (apart g u found n among).1)
+    keys.1 variables.1 none symbols
+    (same-kept c x xs f m fs d e v kept apart keys same) i)
 
 pub renaming-runs : (c : List Name) (xs : List Variable) (f : Map) (s : Supply) (q : Quantifier) (sizes : Sizes) (m : Model) (fs : List Symbol) (A : Env → Bool) → ((d e : Env) → SameAt fs d e → A d ≡ A e) → (d e : Env) → ImagesApart c xs f → KeysFree c f xs → VariablesSpared s xs → GivesNoImage s f → SymbolsSpared s fs → SameAt (without xs fs) (under m f d) e → runs q (renaming c xs f s).variables sizes (λ k. A (under m (renaming c xs f s).map k)) d ≡ runs q xs sizes A e
 renaming-runs c [] f s q sizes m fs A alike d e apart keys variables none symbols same = alike (under m f d) e (same_without-none fs (under m f d) e same)
