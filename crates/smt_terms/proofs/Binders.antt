@@ -1,16 +1,15 @@
 -- When a quantifier's node has a rank: its operands are constants that it may bind, and its body.
-use Rattle.std.proofs.Common.{◌≡◌, ℕ, zero, suc, ◌+◌, ◌<◌, ◌≤◌, Bool, true, false, not, cond, ◌&&◌, ◌||◌, ◌==◌, ◌⊎◌, inl, inr, nat_le, List, [], ◌∷◌, ◌++◌, map, length, Option, Some, None, Result, Ok, Err, refl, ap, sym, ◌∙◌, subst, arith, length-append}
-use Rattle.std.specs.List.{list_all, list_any}
+use Rattle.std.proofs.Common.{◌≡◌, ℕ, suc, ◌+◌, ◌≤◌, Bool, true, false, not, cond, ◌&&◌, inl, inr, nat_le, List, [], ◌∷◌, ◌++◌, map, length, Result, Ok, Err, refl, ap, sym, ◌∙◌, arith, length-append}
+use Rattle.std.specs.List.{list_all}
 use Rattle.std.proofs.lemmas.Bool.{leb-true}
 use Rattle.std.proofs.lemmas.Bool.Decides.{nat_tests}
 use Rattle.std.proofs.lemmas.List.{length-map}
-use Rattle.smt_terms.specs.Sorts.{Name, Sort, bool, Symbol, Variable}
-use Rattle.smt_terms.specs.Term.{Head, op, symbol, const_array, Term, apply, quantified, Terms, none, ◌⨾◌, terms, variable, constant_of}
+use Rattle.smt_terms.specs.Sorts.{Name, Sort, bool, Variable}
+use Rattle.smt_terms.specs.Term.{op, symbol, const_array, Term, apply, quantified, none, ◌⨾◌, variable}
 use Rattle.smt_terms.specs.Equal.{name_eq, sort_eq}
-use Rattle.smt_terms.specs.Rank.{Fault, wrong_arity, wrong_sort, is_quantifiable, has_name, are_distinct, is_empty, may_bind, symbol_name, rank_bound, rank_quantifier, are_bindable, sort_of, sorts_of}
+use Rattle.smt_terms.specs.Rank.{Fault, wrong_arity, wrong_sort, is_quantifiable, has_name, are_distinct, is_empty, may_bind, symbol_name, rank_bound, rank_quantifier, are_bindable}
 use Rattle.smt_terms.proofs.Tests.{both_true, and_true, both_false, or_false, not_true, true_or_false}
 use Rattle.smt_terms.proofs.Equal.{Decides-name_eq, Decides-sort_eq}
-use Rattle.smt_terms.proofs.Sorted.{sorted}
 
 -- the names of variables, and a test that none is among others
 abbrev names : List Variable → List Name

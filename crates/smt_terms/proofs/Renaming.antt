@@ -10,7 +10,7 @@ use Rattle.smt_terms.specs.Free.{name_among, free, names_of}
 use Rattle.smt_terms.specs.Rank.{has_name, are_distinct, is_quantifiable, are_bindable, rank, sort_of}
 use Rattle.smt_terms.specs.Fresh.{Supply, next_name, after_draw, fresh_for, NeverGives}
 use Rattle.smt_terms.specs.Subst.{Map, image, Renamed, bind, renaming}
-use Rattle.smt_terms.specs.SubstLaws.{HaveSorts, GivesNone, GivesNoImage}
+use Rattle.smt_terms.specs.SubstLaws.{HaveSorts, GivesNone, GivesNoImage, Later}
 use Rattle.smt_terms.proofs.Tests.{both_true, and_true, either_true, both_false, not_true}
 use Rattle.smt_terms.proofs.Equal.{Decides-name_eq, Decides-symbol_eq}
 use Rattle.smt_terms.proofs.Fresh.{never-next, never-after, never-drawn}
@@ -41,10 +41,6 @@ only_name y n among = go (either_true (name_eq y.name n) false among)
     go (inr never) = absurd cc
 
 -- ---- what is left
-
--- what the first supply never gives, the second never gives
-abbrev pub Later : Supply → Supply → Type 0
-Later s t = (n : Name) → NeverGives s n → NeverGives t n
 
 -- the names of the variables, none of which the supply gives
 abbrev pub VariablesSpared : Supply → List Variable → Type 0

@@ -12,15 +12,15 @@ use Rattle.smt_terms.specs.Models.{Model, symbol_value}
 use Rattle.smt_terms.specs.Val.{Env, runs, head_value, val, vals}
 use Rattle.smt_terms.specs.Fresh.{Supply}
 use Rattle.smt_terms.specs.Made.{made}
-use Rattle.smt_terms.specs.Subst.{Map, image, cut_to, names_in, renaming, Chosen, Choices, map_eq, chosen_for, keep, kept_or, quantify, image_or_itself, rebuilt, subst_from, substs_from, subst}
-use Rattle.smt_terms.specs.SubstLaws.{value_or, under, HaveSorts, names_within, names_within_each, GivesNone, GivesNoImage, IsResult, AreResults}
+use Rattle.smt_terms.specs.Subst.{Map, image, cut_to, names_in, renaming, Chosen, Choices, map_eq, chosen_for, keep, kept_or, quantify, image_or_itself, rebuilt, subst_from, substs_from}
+use Rattle.smt_terms.specs.SubstLaws.{value_or, under, HaveSorts, names_within, names_within_each, GivesNone, GivesNoImage, IsResult, AreResults, Later, SubstKeepsMeaning, SubstGivesLater}
 use Rattle.smt_terms.proofs.Tests.{both_true, left_true, right_true}
 use Rattle.smt_terms.proofs.Equal.{Decides-name_eq, Decides-term_eq}
 use Rattle.smt_terms.proofs.Among.{is_among-with_more, is_among-without}
 use Rattle.smt_terms.proofs.Agree.{val_same}
 use Rattle.smt_terms.proofs.Sorted.{sorted, quantified_sort, sort_of-quantified}
 use Rattle.smt_terms.proofs.Made.{made-sort, made-value}
-use Rattle.smt_terms.proofs.Renaming.{Later, VariablesSpared, renaming-later, renaming-sorts, renaming-spared, renaming-bindable}
+use Rattle.smt_terms.proofs.Renaming.{VariablesSpared, renaming-later, renaming-sorts, renaming-spared, renaming-bindable}
 use Rattle.smt_terms.proofs.Runs.{SymbolsSpared, among-name, renaming-runs}
 use Rattle.smt_terms.proofs.Cuts.{name_among-append, image-cut, cut-sorts, cut-spared, names-apart, keys-free, map-same}
 
@@ -216,8 +216,11 @@ mutual
 
 -- ---- the law
 
--- the supply gives no name of the term, and none that is free in an image
-pub subst-result : (f : Map) (t : Term) (s : Supply) → HaveSorts f → GivesNoImage s f → GivesNone s (names_within t) → IsResult f t (subst f t s).0 × Later s (subst f t s).1
-subst-result f t s sorts images names =
-    let out = subst_from-outcome t f (record { names = s; chosen = [] }) (record { sorts = sorts; images = images; names = names; valid = tt }) in
-    (out.result, out.later)
+started : (f : Map) (t : Term) (s : Supply) → HaveSorts f → GivesNoImage s f → GivesNone s (names_within t) → Start f (names_within t) (record { names = s; chosen = [] })
+started f t s sorts images names = record { sorts = sorts; images = images; names = names; valid = tt }
+
+pub subst-keeps_meaning : SubstKeepsMeaning
+subst-keeps_meaning f t s sorts images names = (subst_from-outcome t f (record { names = s; chosen = [] }) (started f t s sorts images names)).result
+
+pub subst-gives_later : SubstGivesLater
+subst-gives_later f t s sorts images names = (subst_from-outcome t f (record { names = s; chosen = [] }) (started f t s sorts images names)).later
