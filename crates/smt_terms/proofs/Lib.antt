@@ -12,6 +12,7 @@ pub mod Numeral
 mod Operators
 mod OverValues
 pub mod Ranked
+pub mod Regular
 pub mod Renaming
 mod Rows
 pub mod Runs
