@@ -3,10 +3,13 @@ pub mod Alike
 pub mod Among
 pub mod Binders
 pub mod BitLengths
+pub mod Connected
+pub mod Cuts
 pub mod Depends
 pub mod Equal
 pub mod Fresh
 mod Lookups
+pub mod Made
 pub mod Meaning
 pub mod Numeral
 mod Operators
@@ -15,8 +18,10 @@ pub mod Ranked
 pub mod Regular
 pub mod Renaming
 mod Rows
+pub mod Runs
 pub mod Same
 pub mod Sorted
+pub mod Substitution
 pub mod Tests
 pub mod Valid
 pub mod Written

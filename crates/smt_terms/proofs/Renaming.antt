@@ -10,7 +10,7 @@ use Rattle.smt_terms.specs.Free.{name_among, free, names_of}
 use Rattle.smt_terms.specs.Rank.{has_name, are_distinct, is_quantifiable, are_bindable, rank, sort_of}
 use Rattle.smt_terms.specs.Fresh.{Supply, next_name, after_draw, fresh_for, NeverGives}
 use Rattle.smt_terms.specs.Subst.{Map, image, Renamed, bind, renaming}
-use Rattle.smt_terms.specs.SubstLaws.{HaveSorts, GivesNone, GivesNoImage}
+use Rattle.smt_terms.specs.SubstLaws.{HaveSorts, GivesNone, GivesNoImage, Later}
 use Rattle.smt_terms.proofs.Tests.{both_true, and_true, either_true, both_false, not_true}
 use Rattle.smt_terms.proofs.Equal.{Decides-name_eq, Decides-symbol_eq}
 use Rattle.smt_terms.proofs.Fresh.{never-next, never-after, never-drawn}
@@ -33,7 +33,7 @@ differs m n apart = go (name_eq m n) refl
     go false e = refl
 
 -- the one name that is free in a variable
-only_name : (y : Variable) (n : Name) → name_among (names_of (free (variable y))) n ≡ true → y.name ≡ n
+pub only_name : (y : Variable) (n : Name) → name_among (names_of (free (variable y))) n ≡ true → y.name ≡ n
 only_name y n among = go (either_true (name_eq y.name n) false among)
   where
     go : (name_eq y.name n ≡ true) ⊎ (false ≡ true) → y.name ≡ n
@@ -42,20 +42,16 @@ only_name y n among = go (either_true (name_eq y.name n) false among)
 
 -- ---- what is left
 
--- what the first supply never gives, the second never gives
-abbrev pub Later : Supply → Supply → Type 0
-Later s t = (n : Name) → NeverGives s n → NeverGives t n
-
 -- the names of the variables, none of which the supply gives
 abbrev pub VariablesSpared : Supply → List Variable → Type 0
 VariablesSpared s [] = ⊤
 VariablesSpared s (x ∷ xs) = NeverGives s x.name × VariablesSpared s xs
 
-spared-later : (s t : Supply) (xs : List Variable) → Later s t → VariablesSpared s xs → VariablesSpared t xs
+pub spared-later : (s t : Supply) (xs : List Variable) → Later s t → VariablesSpared s xs → VariablesSpared t xs
 spared-later s t [] later spared = tt
 spared-later s t (x ∷ xs) later spared = (later x.name spared.0, spared-later s t xs later spared.1)
 
-after-later : (s : Supply) → Later s (after_draw s)
+pub after-later : (s : Supply) → Later s (after_draw s)
 after-later s n never = never-after s n never
 
 bind-later : (b : Bool) (x : Variable) (f : Map) (s : Supply) (below : Map → Supply → Renamed) → ((g : Map) (t : Supply) → Later t (below g t).names) → Later s (bind b x f s below).names
@@ -95,7 +91,7 @@ renaming-sorts c (x ∷ xs) f s have = bind-sorts (name_among c x.name) x f s (�
 -- ---- the names of the images
 
 -- a variable that the rest of the supply doesn't give, in front of a map
-front-spared : (s : Supply) (x y : Variable) (f : Map) → NeverGives s y.name → GivesNoImage s f → GivesNoImage s ((constant_of x, variable y) ∷ f)
+pub front-spared : (s : Supply) (x y : Variable) (f : Map) → NeverGives s y.name → GivesNoImage s f → GivesNoImage s ((constant_of x, variable y) ∷ f)
 front-spared s x y f never none g u found = go (symbol_eq (constant_of x) g) found
   where
     go : (b : Bool) → cond b (Some (variable y)) (image f g) ≡ Some u → GivesNone s (names_of (free u))
@@ -106,7 +102,7 @@ front-spared s x y f never none g u found = go (symbol_eq (constant_of x) g) fou
         subst (λ m. NeverGives s m) here never
     go false e n among = none g u e n among
 
-images-later : (s t : Supply) (f : Map) → Later s t → GivesNoImage s f → GivesNoImage t f
+pub images-later : (s t : Supply) (f : Map) → Later s t → GivesNoImage s f → GivesNoImage t f
 images-later s t f later none g u found n among = later n (none g u found n among)
 
 bind-spared : (b : Bool) (x : Variable) (f : Map) (s : Supply) (below : Map → Supply → Renamed) → ((g : Map) (t : Supply) → GivesNoImage t g → GivesNoImage (below g t).names (below g t).map) → GivesNoImage s f → GivesNoImage (bind b x f s below).names (bind b x f s below).map

@@ -4,6 +4,7 @@ pub mod Constants
 pub mod Equal
 pub mod Free
 pub mod Fresh
+pub mod FreshLaws
 pub mod Groups
 pub mod Laws
 pub mod Made

@@ -2,6 +2,8 @@
 
 ghost use Rattle.smt_terms.specs.Equal.{name_eq, sort_eq, symbol_eq, variable_eq, op_eq, head_eq, term_eq};
 ghost use Rattle.smt_terms.specs.Laws.{TellsEqual, RankIsRelation, SameIsReflexive, SameIsSymmetric, SameIsTransitive, SameAtEveryKey, BindersHaveRank, SortsAreWellFormed, ValueHasSort, FreeSymbolsDecide, HeadsKeepMeaning, QuantifiersKeepMeaning};
+ghost use Rattle.smt_terms.specs.FreshLaws.{NumbersNameApart, NextIsFree, NextIsLeast, NextIsLater, DrawnIsGone, GoneStaysGone};
+ghost use Rattle.smt_terms.specs.SubstLaws.{SubstKeepsMeaning, SubstGivesLater};
 
 /// Each test of equality says yes exactly at equal arguments.
 pub fn tests_tell_equality()
@@ -52,4 +54,21 @@ pub fn free_symbols_decide()
 pub fn meaning_is_kept_in_context()
     ensures heads { HeadsKeepMeaning }
     ensures quantifiers { QuantifiersKeepMeaning }
+{}
+
+/// The next fresh name is that of the least number whose name isn't taken, and a name that was drawn isn't drawn again.
+pub fn fresh_names_are_new()
+    ensures apart { NumbersNameApart }
+    ensures free { NextIsFree }
+    ensures least { NextIsLeast }
+    ensures later { NextIsLater }
+    ensures gone { DrawnIsGone }
+    ensures stays { GoneStaysGone }
+{}
+
+/// Substitution gives a term of the same sort, with the value that the term has where each replaced constant has the value
+/// of its image; it draws no name that the supply didn't give.
+pub fn substitution_keeps_meaning()
+    ensures meaning { SubstKeepsMeaning }
+    ensures later { SubstGivesLater }
 {}
