@@ -1,1 +1,4 @@
+mod Duals
+pub mod Nnf
+pub mod NnfShape
 mod Rows
