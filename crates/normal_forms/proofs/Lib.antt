@@ -1,3 +1,5 @@
+pub mod Aig
+pub mod AigShape
 mod Duals
 pub mod Nnf
 pub mod NnfShape

@@ -135,3 +135,14 @@ bool-operand t s has =
         head_sort : List Sort → Sort
         head_sort [] = bool
         head_sort (u ∷ us) = u
+
+opposite-added : (r : Term) (f : Sense) → Means r f → opposite r ≡ negated r → Means (opposite r) (λ m e. not (f m e))
+opposite-added r f a e = subst (λ t. Means t (λ m e. not (f m e))) (sym e) (means-negated r f a)
+
+pub means-opposite : (r : Term) (f : Sense) → Means r f → Means (opposite r) (λ m e. not (f m e))
+unfolding op_value
+means-opposite (apply (op Not) (t ⨾ none)) f a = record {
+  sort = bool-operand t bool a.sort;
+  value = λ m e. sym (not_not (is_true (val m t e))) ∙ ap not (a.value m e)
+}
+means-opposite r f a = opposite-added r f a refl
