@@ -1,20 +1,25 @@
 -- What the kinds of connectives say of sorts and truth values.
-use Rattle.std.proofs.Common.{◌≡◌, ℕ, suc, ◌≤◌, Bool, true, false, not, cond, ◌&&◌, ◌||◌, List, [], ◌∷◌, map, get_or, replicate, Some, Ok, refl, ap, sym, ◌∙◌, subst, arith}
+use Rattle.std.proofs.Common.{◌≡◌, ℕ, zero, suc, ◌+◌, ◌<◌, ◌≤◌, Bool, true, false, not, cond, ◌&&◌, ◌||◌, ◌⊎◌, inl, inr, List, [], ◌∷◌, map, length, get_or, replicate, Option, Some, None, Ok, Err, refl, ap, sym, ◌∙◌, subst, arith}
 use Rattle.std.specs.Prelude.{⊤, unwrap_or}
 use Rattle.std.specs.Bool.{beq}
 use Rattle.std.specs.List.{list_all, list_any}
 use Rattle.smt_terms.specs.declared.op.Op.{Op}
-use Rattle.smt_terms.specs.declared.op.Op.TheVariants.{Not, And, Or, Xor, Implies, Equal, Distinct, Ite}
-use Rattle.smt_terms.specs.Sorts.{Sort, bool}
-use Rattle.smt_terms.specs.Term.{Head, op, symbol, const_array, apply, Terms}
-use Rattle.smt_terms.specs.Rank.{rank, sort_of, sorts_of, shape}
-use Rattle.smt_terms.specs.Values.{Value, is_true, same, Sizes}
+use Rattle.smt_terms.specs.declared.op.Op.TheVariants.{Truth, Not, And, Or, Xor, Implies, Equal, Distinct, Ite}
+use Rattle.smt_terms.specs.Sorts.{Sort, bool, Symbol}
+use Rattle.smt_terms.specs.Term.{Head, op, symbol, const_array, Term, apply, quantified, Terms, none, ◌⨾◌, list, terms, over}
+use Rattle.smt_terms.specs.Rank.{rank, width, most_bits, sort_over, with_sort, sort_of, sorts_of, shape}
+use Rattle.smt_terms.specs.Values.{Value, truth, is_true, same, Sizes}
 use Rattle.smt_terms.specs.Operators.{Background, op_value, first_value, all_distinct}
 use Rattle.smt_terms.specs.Models.{Model, background}
 use Rattle.smt_terms.specs.Val.{Env, val, vals}
-use Rattle.smt_terms.specs.Connectives.{Kind, truth_value, negation, conjunction, disjunction, exclusive, implication, equivalence, difference, conditional, atom, where_bool, where_branch_bool, operator_kind, kind_of, is_connective}
-use Rattle.smt_terms.proofs.Ranked.{rank-takes}
-use Rattle.smt_terms.proofs.Sorted.{IsApplied, applied}
+use Rattle.smt_terms.specs.Connectives.{Kind, truth_value, negation, conjunction, disjunction, exclusive, implication, equivalence, difference, conditional, atom, where_bool, where_branch_bool, operator_kind, kind, kind_of, truth_term, negated, all_of, any_of, both, either}
+use Rattle.smt_terms.proofs.Ranked.{rank-takes, takes-rank}
+use Rattle.smt_terms.proofs.Sorted.{IsApplied, applied, sort_of-apply}
+
+-- connectives and the two truth values
+abbrev pub is_logical : Kind → Bool
+is_logical atom = false
+is_logical _ = true
 
 -- ---- how many operands a connective has
 
@@ -52,32 +57,33 @@ second-sort [] = bool
 second-sort (s ∷ ss) = head-sort ss
 
 -- a pair of Booleans, or a test of another sort that is no connective
-equation-ranks : (t : Sort) (ss : List Sort) (s : Sort) → ss ≡ t ∷ t ∷ [] → s ≡ bool → is_connective (where_bool (Some ss) equivalence) ≡ true → Ranks Equal ss s
+equation-ranks : (t : Sort) (ss : List Sort) (s : Sort) → ss ≡ t ∷ t ∷ [] → s ≡ bool → is_logical (where_bool (Some ss) equivalence) ≡ true → Ranks Equal ss s
 unfolding operator_kind
 equation-ranks bool ss s e f c = record { number = 2; sorts = e; count = subst (λ k. Count (where_bool (Some k) equivalence) 2) (sym e) refl; sort = f }
-equation-ranks _ ss s e f c = absurd (other (subst (λ k. is_connective (where_bool (Some k) equivalence) ≡ true) e c))
+equation-ranks _ ss s e f c = absurd (other (subst (λ k. is_logical (where_bool (Some k) equivalence) ≡ true) e c))
   where
     other : false ≡ true → ⊥
     other h = absurd cc
 
-distinct-ranks : (t : Sort) (n : ℕ) (ss : List Sort) (s : Sort) → ss ≡ t ∷ t ∷ replicate n t → s ≡ bool → is_connective (where_bool (Some ss) difference) ≡ true → Ranks Distinct ss s
+distinct-ranks : (t : Sort) (n : ℕ) (ss : List Sort) (s : Sort) → ss ≡ t ∷ t ∷ replicate n t → s ≡ bool → is_logical (where_bool (Some ss) difference) ≡ true → Ranks Distinct ss s
 unfolding operator_kind
 distinct-ranks bool n ss s e f c = record { number = suc (suc n); sorts = e; count = subst (λ k. Count (where_bool (Some k) difference) (suc (suc n))) (sym e) (omega arith); sort = f }
-distinct-ranks _ n ss s e f c = absurd (other (subst (λ k. is_connective (where_bool (Some k) difference) ≡ true) e c))
+distinct-ranks _ n ss s e f c = absurd (other (subst (λ k. is_logical (where_bool (Some k) difference) ≡ true) e c))
   where
     other : false ≡ true → ⊥
     other h = absurd cc
 
-choice-ranks : (t : Sort) (ss : List Sort) (s : Sort) → ss ≡ bool ∷ t ∷ t ∷ [] → s ≡ t → is_connective (where_branch_bool (Some ss) conditional) ≡ true → Ranks Ite ss s
+choice-ranks : (t : Sort) (ss : List Sort) (s : Sort) → ss ≡ bool ∷ t ∷ t ∷ [] → s ≡ t → is_logical (where_branch_bool (Some ss) conditional) ≡ true → Ranks Ite ss s
 unfolding operator_kind
 choice-ranks bool ss s e f c = record { number = 3; sorts = e; count = subst (λ k. Count (where_branch_bool (Some k) conditional) 3) (sym e) refl; sort = f }
-choice-ranks _ ss s e f c = absurd (other (subst (λ k. is_connective (where_branch_bool (Some k) conditional) ≡ true) e c))
+choice-ranks _ ss s e f c = absurd (other (subst (λ k. is_logical (where_branch_bool (Some k) conditional) ≡ true) e c))
   where
     other : false ≡ true → ⊥
     other h = absurd cc
 
-operator-ranks : (o : Op) (ss : List Sort) (s : Sort) → rank (op o) ss ≡ Ok s → is_connective (operator_kind o (Some ss)) ≡ true → Ranks o ss s
+operator-ranks : (o : Op) (ss : List Sort) (s : Sort) → rank (op o) ss ≡ Ok s → is_logical (operator_kind o (Some ss)) ≡ true → Ranks o ss s
 unfolding operator_kind shape
+operator-ranks (Truth b) ss s r c = let t = rank-takes (op (Truth b)) ss s r in record { number = 0; sorts = t.0; count = tt; sort = t.1 }
 operator-ranks Not ss s r c = let t = rank-takes (op Not) ss s r in record { number = 1; sorts = t.0; count = refl; sort = t.1 }
 operator-ranks And ss s r c = let t = rank-takes (op And) ss s r in record { number = suc (suc t.0); sorts = t.1; count = omega arith; sort = t.2 }
 operator-ranks Or ss s r c = let t = rank-takes (op Or) ss s r in record { number = suc (suc t.0); sorts = t.1; count = omega arith; sort = t.2 }
@@ -88,15 +94,15 @@ operator-ranks Distinct ss s r c = let t = rank-takes (op Distinct) ss s r in di
 operator-ranks Ite ss s r c = let t = rank-takes (op Ite) ss s r in choice-ranks t.0 ss s t.1 t.2 c
 operator-ranks _ ss s r c = absurd cc
 
-pub connected : (h : Head) (ts : Terms) (s : Sort) → sort_of (apply h ts) ≡ Some s → is_connective (kind_of h ts) ≡ true → Connected h ts s
+pub connected : (h : Head) (ts : Terms) (s : Sort) → sort_of (apply h ts) ≡ Some s → is_logical (kind_of h ts) ≡ true → Connected h ts s
 connected (op o) ts s has c =
     let a : IsApplied (op o) ts s = applied (op o) ts s has in
-    let r : Ranks o a.sorts s = operator-ranks o a.sorts s a.rank (subst (λ k. is_connective (operator_kind o k) ≡ true) a.operands c) in
+    let r : Ranks o a.sorts s = operator-ranks o a.sorts s a.rank (subst (λ k. is_logical (operator_kind o k) ≡ true) a.operands c) in
     record {
       number = r.number;
       sorts = a.operands ∙ ap Some r.sorts;
       count = subst (λ k. Count (operator_kind o k) r.number) (sym a.operands) r.count;
-      sort = r.sort;
+      sort = r.sort
     }
 connected (symbol f) ts s has c = absurd cc
 connected (const_array t) ts s has c = absurd cc
@@ -177,8 +183,9 @@ first-bit : (vs : List Value) → is_true (first_value vs) ≡ bit (map is_true 
 first-bit [] = refl
 first-bit (v ∷ vs) = refl
 
-operator-value : (o : Op) (ss : List Sort) (c : Background) (vs : List Value) → is_connective (operator_kind o (Some ss)) ≡ true → is_true (op_value c o ss vs) ≡ kind_value (operator_kind o (Some ss)) (map is_true vs)
+operator-value : (o : Op) (ss : List Sort) (c : Background) (vs : List Value) → is_logical (operator_kind o (Some ss)) ≡ true → is_true (op_value c o ss vs) ≡ kind_value (operator_kind o (Some ss)) (map is_true vs)
 unfolding operator_kind op_value
+operator-value (Truth b) ss c vs k = refl
 operator-value Not ss c [] k = refl
 operator-value Not ss c (v ∷ vs) k = refl
 operator-value And ss c vs k = list_all-bits vs
@@ -199,15 +206,12 @@ operator-value Ite (s ∷ bool ∷ ss) c (v ∷ w ∷ []) k = choice-bits (is_tr
 operator-value Ite (s ∷ bool ∷ ss) c (v ∷ w ∷ x ∷ vs) k = choice-bits (is_true v) w x
 operator-value _ ss c vs k = absurd cc
 
-pub truths : Model → Terms → Env → List Bool
-truths m ts e = map is_true (vals m ts e)
-
 -- the truth value of a connective, of those of its operands
-pub connective-value : (h : Head) (ts : Terms) (s : Sort) (m : Model) (e : Env) → sort_of (apply h ts) ≡ Some s → is_connective (kind_of h ts) ≡ true → is_true (val m (apply h ts) e) ≡ kind_value (kind_of h ts) (map is_true (vals m ts e))
+pub connective-value : (h : Head) (ts : Terms) (s : Sort) (m : Model) (e : Env) → sort_of (apply h ts) ≡ Some s → is_logical (kind_of h ts) ≡ true → is_true (val m (apply h ts) e) ≡ kind_value (kind_of h ts) (map is_true (vals m ts e))
 connective-value (op o) ts s m e has c =
     let a : IsApplied (op o) ts s = applied (op o) ts s has in
     ap (λ k. is_true (op_value (background m) o (unwrap_or k []) (vals m ts e))) a.operands
-    ∙ operator-value o a.sorts (background m) (vals m ts e) (subst (λ k. is_connective (operator_kind o k) ≡ true) a.operands c)
+    ∙ operator-value o a.sorts (background m) (vals m ts e) (subst (λ k. is_logical (operator_kind o k) ≡ true) a.operands c)
     ∙ ap (λ k. kind_value (operator_kind o k) (map is_true (vals m ts e))) (sym a.operands)
 connective-value (symbol f) ts s m e has c = absurd cc
 connective-value (const_array t) ts s m e has c = absurd cc

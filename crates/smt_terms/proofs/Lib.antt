@@ -3,6 +3,7 @@ pub mod Alike
 pub mod Among
 pub mod Binders
 pub mod BitLengths
+pub mod Built
 pub mod Connected
 pub mod Cuts
 pub mod Depends
