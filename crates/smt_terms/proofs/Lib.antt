@@ -6,6 +6,8 @@ mod Operators
 mod OverValues
 mod Rows
 pub mod Ranked
+pub mod Respects
+pub mod SameStores
 pub mod Same
 pub mod Sorted
 pub mod Tests
