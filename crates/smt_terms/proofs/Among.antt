@@ -1,11 +1,10 @@
 -- Which symbols are among those of a list.
-use Rattle.std.proofs.Common.{◌≡◌, Bool, true, false, not, cond, ◌&&◌, ◌||◌, ◌⊎◌, inl, inr, List, [], ◌∷◌, ◌++◌, map, refl, ap, sym, ◌∙◌, subst}
+use Rattle.std.proofs.Common.{◌≡◌, Bool, true, false, not, cond, ◌&&◌, ◌||◌, List, [], ◌∷◌, ◌++◌, map, refl, ap, ◌∙◌}
 use Rattle.std.specs.Prelude.{filter}
 use Rattle.smt_terms.specs.Sorts.{Symbol, Variable}
 use Rattle.smt_terms.specs.Term.{constant_of}
 use Rattle.smt_terms.specs.Equal.{symbol_eq}
 use Rattle.smt_terms.specs.Free.{is_among, with_more, without}
-use Rattle.smt_terms.proofs.Tests.{true_or_false}
 use Rattle.smt_terms.proofs.Equal.{Decides-symbol_eq}
 
 pub is_among-append : (fs gs : List Symbol) (f : Symbol) → is_among (fs ++ gs) f ≡ (is_among fs f || is_among gs f)

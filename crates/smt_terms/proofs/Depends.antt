@@ -1,17 +1,17 @@
 -- The value of a term depends on its free symbols alone.
-use Rattle.std.proofs.Common.{◌≡◌, ℕ, suc, Bool, true, false, not, cond, ◌&&◌, ◌||◌, ◌⊎◌, inl, inr, List, [], ◌∷◌, map, length, Option, Some, None, IsTrue, refl, ap, sym, ◌∙◌, subst, arith}
+use Rattle.std.proofs.Common.{◌≡◌, suc, Bool, true, false, not, cond, ◌&&◌, ◌||◌, inl, inr, List, [], ◌∷◌, map, length, Some, refl, ap, sym, ◌∙◌, arith}
 use Rattle.std.specs.Prelude.{unwrap_or}
 use Rattle.smt_terms.specs.Sorts.{Sort, Symbol, Variable}
 use Rattle.smt_terms.specs.Term.{Quantifier, Head, op, symbol, const_array, Term, apply, quantified, Terms, none, ◌⨾◌, list, constant_of}
 use Rattle.smt_terms.specs.Equal.{symbol_eq}
-use Rattle.smt_terms.specs.Free.{is_among, with_more, without, head_symbols, free, free_of}
+use Rattle.smt_terms.specs.Free.{is_among, without, head_symbols, free, free_of}
 use Rattle.smt_terms.specs.Rank.{sort_of, sorts_of}
 use Rattle.smt_terms.specs.Operators.{Background, op_value, first_value}
 use Rattle.smt_terms.specs.Values.{Value, table, no_pairs, Sizes, is_true, over_values, truth}
-use Rattle.smt_terms.specs.Models.{Model, background, symbol_value}
+use Rattle.smt_terms.specs.Models.{Model, symbol_value}
 use Rattle.smt_terms.specs.Val.{Env, assign, runs, head_value, val, vals}
 use Rattle.smt_terms.specs.Laws.{symbol_at, AgreeOn}
-use Rattle.smt_terms.proofs.Tests.{true_or_false, both_true, and_true, left_true, right_true}
+use Rattle.smt_terms.proofs.Tests.{true_or_false, and_true, left_true, right_true}
 use Rattle.smt_terms.proofs.Equal.{Decides-symbol_eq}
 use Rattle.smt_terms.proofs.Among.{is_among-with_more, is_among-without}
 use Rattle.smt_terms.proofs.Ranked.{rank-takes}
@@ -30,7 +30,7 @@ symbol_at-sorts m e f ss (v ∷ vs) = refl
 pub AgreeOn-fewer : (fs gs : List Symbol) (m n : Model) (d e : Env) → ((f : Symbol) → is_among gs f ≡ true → is_among fs f ≡ true) → AgreeOn fs m n d e → AgreeOn gs m n d e
 AgreeOn-fewer fs gs m n d e fewer agree = record {
   backgrounds = agree.backgrounds;
-  symbols = λ f among vs len. agree.symbols f (fewer f among) vs len
+  symbols = λ f among vs len. agree.symbols f (fewer f among) vs len;
 }
 
 -- ---- one variable more
@@ -50,9 +50,9 @@ agree_assign : (x : Variable) (xs : List Variable) (fs : List Symbol) (m n : Mod
 agree_assign x xs fs m n d e v agree = record {
   backgrounds = agree.backgrounds;
   symbols = λ f among vs len. elim (true_or_false (symbol_eq (constant_of x) f)) [
-    inl here ↦ at_itself m x v d f vs here len ∙ sym (at_itself n x v e f vs here len)
-  | inr other ↦ at_other m x v d f vs other ∙ agree.symbols f (still f among other) vs len ∙ sym (at_other n x v e f vs other)
-  ]
+    | inl here ↦ at_itself m x v d f vs here len ∙ sym (at_itself n x v e f vs here len)
+    | inr other ↦ at_other m x v d f vs other ∙ agree.symbols f (still f among other) vs len ∙ sym (at_other n x v e f vs other)
+  ];
 }
   where
     still : (f : Symbol) → is_among (without xs fs) f ≡ true → symbol_eq (constant_of x) f ≡ false → is_among (without (x ∷ xs) fs) f ≡ true

@@ -1,14 +1,20 @@
+pub mod Agree
 pub mod Among
+pub mod BitLengths
 pub mod Depends
 pub mod Equal
+pub mod Fresh
 mod Lookups
+pub mod Numeral
 mod Operators
 mod OverValues
-mod Rows
 pub mod Ranked
+pub mod Renaming
 pub mod Respects
-pub mod SameStores
+mod Rows
 pub mod Same
+pub mod SameStores
 pub mod Sorted
 pub mod Tests
+pub mod Valid
 pub mod Written

@@ -1,7 +1,7 @@
 -- What the pairs of an array have at a key, for a test of keys that is an equivalence.
-use Rattle.std.proofs.Common.{◌≡◌, Bool, true, false, cond, inl, inr, refl, sym, ◌∙◌, subst}
-use Rattle.smt_terms.specs.Values.{Value, Pairs, no_pairs, pair, is_key, value_at, every_pair}
-use Rattle.smt_terms.proofs.Tests.{IsEquivalent, like_before, both_true, and_true, either_true, both_false, true_or_false}
+use Rattle.std.proofs.Common.{◌≡◌, Bool, true, false, cond, not, inl, inr, refl, ap, sym, ◌∙◌, subst}
+use Rattle.smt_terms.specs.Values.{Value, Pairs, no_pairs, pair, is_key, value_at, put, distinct_keys, every_pair}
+use Rattle.smt_terms.proofs.Tests.{IsEquivalent, like_before, both_true, and_true, or_false, either_true, both_false, not_true, true_or_false, either_way}
 
 module _ (alike : Value → Value → Bool) (law : IsEquivalent alike) where
   -- like keys have the same place
@@ -59,3 +59,35 @@ value_at-passes alike test wanted k (pair j v ps) d leads h default =
       | inl here ↦ subst (λ b. wanted (cond b v (value_at alike k ps d)) ≡ true) (sym here) (leads j v parts.0)
       | inr other ↦ subst (λ b. wanted (cond b v (value_at alike k ps d)) ≡ true) (sym other) behind
     ]
+
+-- ---- an array with a new value at a key
+
+is_key-put : (alike : Value → Value → Bool) (j k v : Value) (ps : Pairs) → is_key alike j ps ≡ false → alike k j ≡ false → is_key alike j (put alike k v ps) ≡ false
+is_key-put alike j k v no_pairs absent other = let e : alike k j ≡ false = other in cc
+is_key-put alike j k v (pair x u ps) absent other =
+    let parts = both_false (alike x j) (is_key alike j ps) absent in
+    let behind : is_key alike j (put alike k v ps) ≡ false = is_key-put alike j k v ps parts.1 other in
+    either_way (is_key alike j) (alike x k) (pair x v ps) (pair x u (put alike k v ps)) false (λ e. absent) (λ e. or_false (alike x j) (is_key alike j (put alike k v ps)) parts.0 behind)
+
+pub distinct_keys-put : (alike : Value → Value → Bool) → ((j k : Value) → alike j k ≡ true → alike k j ≡ true) → (k v : Value) (ps : Pairs) → distinct_keys alike ps ≡ true → distinct_keys alike (put alike k v ps) ≡ true
+distinct_keys-put alike back k v no_pairs h = refl
+distinct_keys-put alike back k v (pair x u ps) h =
+    let parts = both_true (not (is_key alike x ps)) (distinct_keys alike ps) h in
+    let behind : distinct_keys alike (put alike k v ps) ≡ true = distinct_keys-put alike back k v ps parts.1 in
+    either_way (distinct_keys alike) (alike x k) (pair x v ps) (pair x u (put alike k v ps)) true (λ e. h)
+    (λ e. and_true (not (is_key alike x (put alike k v ps))) (distinct_keys alike (put alike k v ps)) (ap not (is_key-put alike x k v ps (not_true (is_key alike x ps) parts.0) (apart e))) behind)
+  where
+    apart : alike x k ≡ false → alike k x ≡ false
+    apart e = elim (true_or_false (alike k x)) [
+      | inl like ↦ let turned : alike x k ≡ true = back k x like in absurd cc
+      | inr other ↦ other
+    ]
+
+pub every_pair-put : (alike test : Value → Value → Bool) (k v : Value) (ps : Pairs) → ((j u : Value) → test j u ≡ true → test j v ≡ true) → test k v ≡ true → every_pair test ps ≡ true → every_pair test (put alike k v ps) ≡ true
+every_pair-put alike test k v no_pairs replaced new h = and_true (test k v) true new refl
+every_pair-put alike test k v (pair x u ps) replaced new h =
+    let parts = both_true (test x u) (every_pair test ps) h in
+    let behind : every_pair test (put alike k v ps) ≡ true = every_pair-put alike test k v ps replaced new parts.1 in
+    either_way (every_pair test) (alike x k) (pair x v ps) (pair x u (put alike k v ps)) true
+    (λ e. and_true (test x v) (every_pair test ps) (replaced x u parts.0) parts.1)
+    (λ e. and_true (test x u) (every_pair test (put alike k v ps)) parts.0 behind)

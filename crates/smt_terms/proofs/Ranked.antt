@@ -1,11 +1,11 @@
 -- `rank` answers a sort exactly where the relation `Takes` holds and the sort is narrow enough.
-use Rattle.std.proofs.Common.{◌≡◌, ℕ, zero, suc, ◌+◌, ◌-◌, ◌^◌, ◌<◌, ◌≤◌, Bool, true, false, not, cond, ◌&&◌, ◌||◌, ◌==◌, ◌⊎◌, inl, inr, nat_lt, nat_le, nat_abs, List, [], ◌∷◌, map, length, replicate, Option, Some, None, Result, Ok, Err, refl, ap, sym, ◌∙◌, subst, arith}
+use Rattle.std.proofs.Common.{◌≡◌, ℕ, zero, suc, ◌+◌, ◌-◌, ◌^◌, ◌<◌, ◌≤◌, Bool, true, false, cond, ◌||◌, ◌==◌, inl, inr, nat_lt, nat_le, nat_abs, List, [], ◌∷◌, map, length, replicate, Option, Some, None, Result, Ok, Err, refl, ap, sym, ◌∙◌, subst, arith}
 use Rattle.std.proofs.lemmas.Bool.{ltb-true, leb-true}
 use Rattle.std.proofs.lemmas.Bool.Decides.{Decides-eqb, nat_tests}
-use Rattle.smt_terms.specs.Sorts.{Sort, bool, int, bit_vector, array, free_sort}
+use Rattle.smt_terms.specs.Sorts.{Sort, bool, int, bit_vector, array}
 use Rattle.smt_terms.specs.Term.{Head}
 use Rattle.smt_terms.specs.Equal.{sort_eq}
-use Rattle.smt_terms.specs.Rank.{Fault, wrong_arity, width_limit, Shape, fixed, several, equation, distinctness, choice, whole_number, bit_constant, concatenation, extraction, extension, rotation, bitwise, bitwise_pair, bits_comparison, selection, storing, filling, no_head, shape_of, admits, arity, Place, only, any_sort, any_width, any_array, no_element, like_first, inside, element_place, places, misfit, before, first_misfit, most_bits, width, element_sort, operand, in_range, result_of, accepted, rank}
+use Rattle.smt_terms.specs.Rank.{Fault, wrong_arity, width_limit, Shape, fixed, several, equation, distinctness, choice, whole_number, bit_constant, concatenation, extraction, extension, rotation, bitwise, bitwise_pair, bits_comparison, selection, storing, filling, no_head, shape_of, admits, arity, only, any_width, any_array, like_first, element_place, places, misfit, before, first_misfit, most_bits, width, element_sort, operand, in_range, result_of, accepted, rank}
 use Rattle.smt_terms.specs.Takes.{Takes}
 use Rattle.smt_terms.proofs.Tests.{both_true, and_true, either_true, right_true, true_or_false}
 use Rattle.smt_terms.proofs.Equal.{Decides-sort_eq}
@@ -49,7 +49,7 @@ passed h ss s e =
       sorts = all.sorts;
       range = all.range;
       narrow = subst (λ t. nat_le (width t) most_bits ≡ true) (sym all.result) all.narrow;
-      result = all.result
+      result = all.result;
     }
 
 passed_ok : (h : Head) (ss : List Sort) (s : Sort) → Passed (shape_of h) ss s → rank h ss ≡ Ok s
@@ -73,8 +73,8 @@ before_none (Some f) y h = absurd cc
 only_none : (k : ℕ) (t s : Sort) → misfit k (only t) s ≡ None → s ≡ t
 only_none k t s h =
     elim (true_or_false (sort_eq s t)) [
-      inl e ↦ (Decides-sort_eq s t).0 e
-    | inr d ↦ absurd cc
+      | inl e ↦ (Decides-sort_eq s t).0 e
+      | inr d ↦ absurd cc
     ]
 
 width_none : (k : ℕ) (s : Sort) → misfit k any_width s ≡ None → (w : ℕ) × (s ≡ bit_vector w)
@@ -222,8 +222,8 @@ takes (bit_constant w bits) ss s p =
     let ranges = both_true (nat_lt 0 w) (nat_lt most_bits w || nat_lt bits (2 ^ w)) p.range in
     let narrow : w ≤ most_bits = leb-true w most_bits (subst (λ t. nat_le (width t) most_bits ≡ true) p.result p.narrow) in
     let low : bits < 2 ^ w = elim (either_true (nat_lt most_bits w) (nat_lt bits (2 ^ w)) ranges.1) [
-      inl wide ↦ let above : most_bits < w = ltb-true most_bits w wide in absurd (omega arith)
-    | inr fine ↦ ltb-true bits (2 ^ w) fine
+      | inl wide ↦ let above : most_bits < w = ltb-true most_bits w wide in absurd (omega arith)
+      | inr fine ↦ ltb-true bits (2 ^ w) fine
     ] in
     (none_in ss (exact ss 0 p.number), ltb-true 0 w ranges.0, low, p.result)
 takes concatenation ss s p =
@@ -314,7 +314,7 @@ at sh ss s us r operands result narrow fit = record {
   sorts = subst (λ vs. first_misfit 0 (places sh vs) vs ≡ None) (sym operands) fit.sorts;
   range = subst (λ vs. in_range sh vs ≡ true) (sym operands) fit.range;
   narrow = le_true (width s) most_bits narrow;
-  result = result ∙ fit.result ∙ ap (result_of sh) (sym operands)
+  result = result ∙ fit.result ∙ ap (result_of sh) (sym operands);
 }
 
 gives : (sh : Shape) (ss : List Sort) (s : Sort) → Takes sh ss s → width s ≤ most_bits → Passed sh ss s
@@ -322,40 +322,40 @@ gives (fixed args r) ss s t h = at (fixed args r) ss s args r t.0 t.1 h (record 
   number = (Decides-eqb (length args) (length args)).1 refl;
   sorts = fixed_fits 0 args;
   range = refl;
-  result = refl
+  result = refl;
 })
 gives (several u) ss s t h = at (several u) ss s (u ∷ u ∷ replicate t.0 u) u t.1 t.2 h (record {
   number = le_true 2 (length (u ∷ u ∷ replicate t.0 u)) (omega arith);
   sorts = alike_fits 0 u (suc (suc t.0));
   range = refl;
-  result = refl
+  result = refl;
 })
 gives equation ss s t h = at equation ss s (t.0 ∷ t.0 ∷ []) bool t.1 t.2 h (record { number = refl; sorts = second_fits t.0; range = refl; result = refl })
 gives distinctness ss s t h = at distinctness ss s (t.0 ∷ t.0 ∷ replicate t.1 t.0) bool t.2 t.3 h (record {
   number = le_true 2 (length (t.0 ∷ t.0 ∷ replicate t.1 t.0)) (omega arith);
   sorts = alike_fits 1 t.0 (suc t.1);
   range = refl;
-  result = refl
+  result = refl;
 })
 gives choice ss s t h = at choice ss s (bool ∷ t.0 ∷ t.0 ∷ []) t.0 t.1 t.2 h (record {
   number = refl;
   sorts = let here : misfit 2 (only t.0) t.0 ≡ None = only_fits 2 t.0 in cc;
   range = refl;
-  result = refl
+  result = refl;
 })
 gives (whole_number n) ss s t h = at (whole_number n) ss s [] int t.0 t.2 h (record { number = refl; sorts = refl; range = lt_true (nat_abs n) (2 ^ 127) t.1; result = refl })
 gives (bit_constant w bits) ss s t h = at (bit_constant w bits) ss s [] (bit_vector w) t.0 t.3 h (record {
   number = refl;
   sorts = refl;
   range = and_true (nat_lt 0 w) (nat_lt most_bits w || nat_lt bits (2 ^ w)) (lt_true 0 w t.1) (right_true (nat_lt most_bits w) (nat_lt bits (2 ^ w)) (lt_true bits (2 ^ w) t.2));
-  result = refl
+  result = refl;
 })
 gives concatenation ss s t h = at concatenation ss s (bit_vector t.0 ∷ bit_vector t.1 ∷ []) (bit_vector (t.0 + t.1)) t.2 t.3 h (record { number = refl; sorts = refl; range = refl; result = refl })
 gives (extraction high low) ss s t h = at (extraction high low) ss s (bit_vector t.0 ∷ []) (bit_vector (high - low + 1)) t.1 t.4 h (record {
   number = refl;
   sorts = refl;
   range = and_true (nat_lt high t.0) (nat_le low high) (lt_true high t.0 t.3) (le_true low high t.2);
-  result = refl
+  result = refl;
 })
 gives (extension i) ss s t h = at (extension i) ss s (bit_vector t.0 ∷ []) (bit_vector (t.0 + i)) t.1 t.2 h (record { number = refl; sorts = refl; range = refl; result = refl })
 gives (rotation i) ss s t h = at (rotation i) ss s (bit_vector t.0 ∷ []) (bit_vector t.0) t.1 t.3 h (record { number = refl; sorts = refl; range = lt_true i t.0 t.2; result = refl })
@@ -367,13 +367,13 @@ gives storing ss s t h = at storing ss s (array t.0 t.1 ∷ t.0 ∷ t.1 ∷ []) 
   number = refl;
   sorts = let key : misfit 1 (only t.0) t.0 ≡ None = only_fits 1 t.0 in let value : misfit 2 (only t.1) t.1 ≡ None = only_fits 2 t.1 in cc;
   range = refl;
-  result = refl
+  result = refl;
 })
 gives (filling r) ss s t h = at (filling r) ss s (t.1 ∷ []) r t.3 t.4 h (record {
   number = refl;
   sorts = subst (λ q. first_misfit 0 (element_place q ∷ []) (t.1 ∷ []) ≡ None) (sym t.2) (let here : misfit 0 (only t.1) t.1 ≡ None = only_fits 0 t.1 in cc);
   range = refl;
-  result = refl
+  result = refl;
 })
 gives no_head ss s t h = absurd t
 

@@ -1,9 +1,8 @@
 -- What it says that a term has a sort, and that a quantifier's operands have a rank.
-use Rattle.std.proofs.Common.{◌≡◌, ℕ, zero, suc, ◌+◌, ◌<◌, ◌≤◌, Bool, true, false, not, cond, ◌&&◌, ◌||◌, ◌==◌, ◌⊎◌, inl, inr, nat_le, List, [], ◌∷◌, ◌++◌, map, length, Option, Some, None, Result, Ok, Err, refl, ap, sym, ◌∙◌, subst, arith}
-use Rattle.smt_terms.specs.Sorts.{Name, Sort, bool, Variable}
+use Rattle.std.proofs.Common.{◌≡◌, suc, Bool, true, List, [], ◌∷◌, length, Option, Some, None, Result, Ok, Err, refl, ap, ◌∙◌}
+use Rattle.smt_terms.specs.Sorts.{Sort, bool, Variable}
 use Rattle.smt_terms.specs.Term.{Quantifier, Head, Term, apply, quantified, Terms, none, ◌⨾◌, list}
 use Rattle.smt_terms.specs.Rank.{Fault, rank, are_bindable, sort_bound, sort_over, with_sort, sort_of, sorts_of}
-use Rattle.smt_terms.proofs.Tests.{both_true, and_true, true_or_false}
 
 -- ---- an applied head has the sort of its rank over its operands' sorts
 

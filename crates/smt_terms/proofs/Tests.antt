@@ -1,5 +1,5 @@
 -- Tests that are joined by `&&` and `||`, and equivalences that are tests.
-use Rattle.std.proofs.Common.{◌≡◌, Bool, true, false, not, ◌&&◌, ◌||◌, ◌⊎◌, inl, inr, refl, sym, ◌∙◌}
+use Rattle.std.proofs.Common.{◌≡◌, Bool, true, false, cond, not, ◌&&◌, ◌||◌, ◌⊎◌, inl, inr, refl, sym, ◌∙◌}
 use Rattle.std.specs.Bool.{Decides}
 
 pub both_true : (a b : Bool) → (a && b) ≡ true → (a ≡ true) × (b ≡ true)
@@ -25,6 +25,9 @@ pub both_false : (a b : Bool) → (a || b) ≡ false → (a ≡ false) × (b ≡
 both_false true b h = absurd cc
 both_false false b h = (refl, h)
 
+pub or_false : (a b : Bool) → a ≡ false → b ≡ false → (a || b) ≡ false
+or_false a b h k = cc
+
 pub one_false : (a b : Bool) → (a && b) ≡ false → (a ≡ false) ⊎ (b ≡ false)
 one_false true b h = inr h
 one_false false b h = inl refl
@@ -42,6 +45,11 @@ alike_from true true f g = refl
 alike_from false false f g = refl
 alike_from true false f g = sym (f refl)
 alike_from false true f g = g refl
+
+-- what a test says of either choice it says of the choice
+pub either_way : {A : Type 0} (test : A → Bool) (b : Bool) (x y : A) (r : Bool) → (b ≡ true → test x ≡ r) → (b ≡ false → test y ≡ r) → test (cond b x y) ≡ r
+either_way test true x y r f g = f refl
+either_way test false x y r f g = g refl
 
 -- a test that is an equivalence
 pub record IsEquivalent {A : Type 0} (same : A → A → Bool) : Type 0 where

@@ -1,5 +1,5 @@
 -- Supplies of names that stand nowhere yet. SMT-LIB 2.6, section 3.1, has no names of this kind; its symbols leave them open.
-use Rattle.std.specs.Prelude.{ℕ, zero, suc, true, false, List, [], ◌∷◌, length}
+use Rattle.std.specs.Prelude.{◌≡◌, ◌≤◌, ℕ, zero, suc, true, false, List, [], ◌∷◌, length}
 use Rattle.smt_terms.specs.Sorts.{Name, Sort, Symbol, Variable}
 use Rattle.smt_terms.specs.Free.{name_among}
 use Rattle.smt_terms.specs.Numeral.{numeral}
@@ -35,3 +35,7 @@ fresh_for x s = record { name = next_name s; sort = x.sort }
 
 abbrev pub fresh_constant : Sort → Supply → Symbol
 fresh_constant to s = record { name = next_name s; args = []; result = to }
+
+-- a name that this supply doesn't give, neither next nor later
+abbrev pub NeverGives : Supply → Name → Type 0
+NeverGives s n = (i : ℕ) → s.number ≤ i → n ≡ numbered_name i → name_among s.taken n ≡ true

@@ -1,12 +1,13 @@
 -- Statements of the laws that hold of values and of the value of a term.
-use Rattle.std.specs.Prelude.{◌≡◌, true, List, [], length, Option, Some, IfSome, IsTrue}
-use Rattle.smt_terms.specs.Sorts.{Symbol}
-use Rattle.smt_terms.specs.Term.{symbol}
-use Rattle.smt_terms.specs.Free.{is_among}
-use Rattle.smt_terms.specs.Operators.{Background}
-use Rattle.smt_terms.specs.Values.{Value, Sizes, is_value}
-use Rattle.smt_terms.specs.Models.{Model, background}
-use Rattle.smt_terms.specs.Val.{Env, head_value}
+use Rattle.std.specs.Prelude.{◌≡◌, ◌≤◌, ◌↔◌, Bool, List, [], length, Some, Ok, IfSome, IsTrue, Decides}
+use Rattle.smt_terms.specs.Sorts.{Sort, array, Symbol}
+use Rattle.smt_terms.specs.Term.{Head, symbol, Term}
+use Rattle.smt_terms.specs.Rank.{shape_of, width, most_bits, rank, sort_of, is_sort}
+use Rattle.smt_terms.specs.Takes.{Takes}
+use Rattle.smt_terms.specs.Free.{is_among, free}
+use Rattle.smt_terms.specs.Values.{Value, Sizes, same, select, is_value}
+use Rattle.smt_terms.specs.Models.{Model, background, IsModel}
+use Rattle.smt_terms.specs.Val.{Env, head_value, val}
 
 -- a symbol at arguments, the quantified variables counted
 abbrev pub symbol_at : Model → Env → Symbol → List Value → Value
@@ -20,3 +21,34 @@ pub record AgreeOn (fs : List Symbol) (m n : Model) (d e : Env) : Type 0 where
 -- each variable that has a value has one of its sort
 abbrev pub IsEnv : Sizes → Env → Type 0
 IsEnv sizes e = (f : Symbol) → IfSome (e f) (λ v. IsTrue (is_value f.result sizes v))
+
+-- ---- the laws
+
+-- a test says `true` exactly at equal arguments
+abbrev pub TellsEqual : {A : Type 0} → (A → A → Bool) → Type 0
+TellsEqual {A = A} same = (a b : A) → Decides (same a b) (a ≡ b)
+
+-- the rank of a head answers a sort exactly where the relation of its shape holds and the sort has at most 128 bits
+abbrev pub RankIsRelation : Type 0
+RankIsRelation = (h : Head) (ss : List Sort) (s : Sort) → (rank h ss ≡ Ok s) ↔ (Takes (shape_of h) ss s × (width s ≤ most_bits))
+
+abbrev pub SameIsReflexive : Type 0
+SameIsReflexive = (s : Sort) (sizes : Sizes) (a : Value) → IsTrue (same s sizes a a)
+
+abbrev pub SameIsSymmetric : Type 0
+SameIsSymmetric = (s : Sort) (sizes : Sizes) (a b : Value) → IsTrue (same s sizes a b) → IsTrue (same s sizes b a)
+
+abbrev pub SameIsTransitive : Type 0
+SameIsTransitive = (s : Sort) (sizes : Sizes) (a b c : Value) → IsTrue (is_sort s) → IsTrue (is_value s sizes a) → IsTrue (is_value s sizes b) → IsTrue (is_value s sizes c) → IsTrue (same s sizes a b) → IsTrue (same s sizes b c) → IsTrue (same s sizes a c)
+
+-- arrays that are the same have values that are the same at every key
+abbrev pub SameAtEveryKey : Type 0
+SameAtEveryKey = (i e : Sort) (sizes : Sizes) (a b k : Value) → IsTrue (is_sort (array i e)) → IsTrue (is_value i sizes k) → IsTrue (same (array i e) sizes a b) → IsTrue (same e sizes (select i sizes a k) (select i sizes b k))
+
+-- the value of a term that has a sort is a value of that sort
+abbrev pub ValueHasSort : Type 0
+ValueHasSort = (t : Term) (s : Sort) (m : Model) (e : Env) → sort_of t ≡ Some s → IsModel m → IsEnv m.sizes e → IsTrue (is_value s m.sizes (val m t e))
+
+-- two models that agree on the free symbols of a term give it the same value
+abbrev pub FreeSymbolsDecide : Type 0
+FreeSymbolsDecide = (t : Term) (s : Sort) (m n : Model) (d e : Env) → sort_of t ≡ Some s → AgreeOn (free t) m n d e → val m t d ≡ val n t e

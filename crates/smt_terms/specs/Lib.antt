@@ -14,6 +14,7 @@ pub mod Rank
 pub mod Shapes
 pub mod Sorts
 pub mod Subst
+pub mod SubstLaws
 pub mod Takes
 pub mod Term
 pub mod Val

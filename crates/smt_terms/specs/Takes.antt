@@ -1,9 +1,9 @@
 -- The rank of an operator as a relation, shape by shape: which operands it takes and what it gives. SMT-LIB 2.6,
 -- section 3.6, and the declarations of the theories. `rank` answers a sort exactly where this relation holds and the
 -- sort has no more than 128 bits.
-use Rattle.std.specs.Prelude.{◌≡◌, ℕ, ◌+◌, ◌-◌, ◌^◌, ◌<◌, ◌≤◌, ◌⊎◌, List, [], ◌∷◌, replicate, nat_abs}
+use Rattle.std.specs.Prelude.{◌≡◌, ℕ, ◌+◌, ◌-◌, ◌^◌, ◌<◌, ◌≤◌, List, [], ◌∷◌, replicate, nat_abs}
 use Rattle.smt_terms.specs.Sorts.{Sort, bool, int, bit_vector, array}
-use Rattle.smt_terms.specs.Rank.{Shape, fixed, several, equation, distinctness, choice, whole_number, bit_constant, concatenation, extraction, extension, rotation, bitwise, bitwise_pair, bits_comparison, selection, storing, filling, no_head, most_bits}
+use Rattle.smt_terms.specs.Rank.{Shape, fixed, several, equation, distinctness, choice, whole_number, bit_constant, concatenation, extraction, extension, rotation, bitwise, bitwise_pair, bits_comparison, selection, storing, filling, no_head}
 
 abbrev pub Takes : Shape → List Sort → Sort → Type 0
 Takes (fixed args r) ss s = (ss ≡ args) × (s ≡ r)

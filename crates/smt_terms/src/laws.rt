@@ -1,0 +1,39 @@
+//! The laws of the definitions, each the contract of a function that does nothing.
+
+ghost use Rattle.smt_terms.specs.Equal.{name_eq, sort_eq, symbol_eq, variable_eq, op_eq, head_eq, term_eq};
+ghost use Rattle.smt_terms.specs.Laws.{TellsEqual, RankIsRelation, SameIsReflexive, SameIsSymmetric, SameIsTransitive, SameAtEveryKey, ValueHasSort, FreeSymbolsDecide};
+
+/// Each test of equality says yes exactly at equal arguments.
+pub fn tests_tell_equality()
+    ensures names { TellsEqual name_eq }
+    ensures sorts { TellsEqual sort_eq }
+    ensures symbols { TellsEqual symbol_eq }
+    ensures variables { TellsEqual variable_eq }
+    ensures operators { TellsEqual op_eq }
+    ensures heads { TellsEqual head_eq }
+    ensures terms { TellsEqual term_eq }
+{}
+
+/// The rank of an operator answers a sort exactly where the operator takes the operands' sorts.
+pub fn rank_is_a_relation()
+    ensures { RankIsRelation }
+{}
+
+/// Sameness of values is an equivalence at every sort, and arrays are the same only where they have the same values at
+/// every key.
+pub fn same_values_are_alike()
+    ensures reflexive { SameIsReflexive }
+    ensures symmetric { SameIsSymmetric }
+    ensures transitive { SameIsTransitive }
+    ensures at_every_key { SameAtEveryKey }
+{}
+
+/// The value of a term in a model is a value of the term's sort.
+pub fn value_has_the_sort()
+    ensures { ValueHasSort }
+{}
+
+/// The value of a term depends on the values of its free symbols alone.
+pub fn free_symbols_decide()
+    ensures { FreeSymbolsDecide }
+{}
