@@ -4,6 +4,7 @@ use Rattle.std.specs.Prelude.{if◌then◌else◌}
 use Rattle.smt_terms.specs.declared.op.Op.TheVariants.{Equal, Ite, Select, Store}
 use Rattle.smt_terms.specs.Term.{Head, op, const_array, Term, apply, quantified, Terms, none, ◌⨾◌}
 use Rattle.smt_terms.specs.Equal.{op_eq, term_eq}
+use Rattle.smt_terms.specs.Made.{made}
 use Rattle.smt_terms.specs.Constants.{are_different_constants}
 
 abbrev pub selected : Term → Term → Term
@@ -27,7 +28,7 @@ read a j = selected a j
 -- a head over operands that were gone through
 abbrev pub made_by_reading : Head → Terms → Term
 made_by_reading (op o) (a ⨾ j ⨾ none) = if op_eq o Select then read a j else apply (op o) (a ⨾ j ⨾ none)
-made_by_reading h ts = apply h ts
+made_by_reading h ts = made h ts
 
 abbrev mutual
   pub reads : Term → Term

@@ -13,8 +13,10 @@ pub mod Renaming
 pub mod Respects
 mod Rows
 pub mod Same
+pub mod SameOperands
 pub mod SameStores
 pub mod Sorted
+pub mod SortsOfTerms
 pub mod Tests
 pub mod Valid
 pub mod Written

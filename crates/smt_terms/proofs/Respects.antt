@@ -52,7 +52,7 @@ bits_alike n sizes v w h = (Decides-bits_eq (bits_of v) (bits_of w)).0 h
 -- ---- operands of one kind
 
 module _ (sizes : Sizes) (ss : List Sort) (vs ws : List Value) (h : all_same ss sizes vs ws ≡ true) where
-  at_sorts : (us : List Sort) → ss ≡ us → all_same us sizes vs ws ≡ true
+  pub at_sorts : (us : List Sort) → ss ≡ us → all_same us sizes vs ws ≡ true
   at_sorts us e = subst (λ rs. all_same rs sizes vs ws ≡ true) e h
 
   pub first_truth : (rest : List Sort) → ss ≡ bool ∷ rest → is_true (first_value vs) ≡ is_true (first_value ws)
@@ -93,7 +93,7 @@ module _ (sizes : Sizes) (ss : List Sort) (vs ws : List Value) (h : all_same ss 
 
 -- ---- operators over all their operands
 
-totals_alike : {B : Type 0} (s : Sort) (sizes : Sizes) (read : Value → B) (join : B → B → B) (total : List Value → B) → ((v : Value) (vs : List Value) → total (v ∷ vs) ≡ join (read v) (total vs)) → ((v w : Value) → same s sizes v w ≡ true → read v ≡ read w) → (k : ℕ) (vs ws : List Value) → all_same (replicate k s) sizes vs ws ≡ true → total vs ≡ total ws
+pub totals_alike : {B : Type 0} (s : Sort) (sizes : Sizes) (read : Value → B) (join : B → B → B) (total : List Value → B) → ((v : Value) (vs : List Value) → total (v ∷ vs) ≡ join (read v) (total vs)) → ((v w : Value) → same s sizes v w ≡ true → read v ≡ read w) → (k : ℕ) (vs ws : List Value) → all_same (replicate k s) sizes vs ws ≡ true → total vs ≡ total ws
 totals_alike s sizes read join total step reads zero [] [] h = refl
 totals_alike s sizes read join total step reads zero [] (w ∷ ws) h = absurd cc
 totals_alike s sizes read join total step reads zero (v ∷ vs) ws h = absurd cc

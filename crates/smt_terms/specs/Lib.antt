@@ -5,6 +5,7 @@ pub mod Equal
 pub mod Free
 pub mod Fresh
 pub mod Groups
+pub mod Keeps
 pub mod Laws
 pub mod Made
 pub mod Models
