@@ -1,5 +1,5 @@
 -- The value of a term depends on what the environment gives its free symbols.
-use Rattle.std.proofs.Common.{◌≡◌, Bool, true, false, not, cond, ◌&&◌, ◌||◌, ◌⊎◌, inl, inr, List, [], ◌∷◌, map, Option, Some, None, refl, ap, sym, ◌∙◌}
+use Rattle.std.proofs.Common.{◌≡◌, Bool, true, false, not, cond, ◌&&◌, ◌||◌, List, [], ◌∷◌, map, Some, refl, ap, sym, ◌∙◌}
 use Rattle.std.specs.Prelude.{unwrap_or}
 use Rattle.smt_terms.specs.Sorts.{Sort, Symbol, Variable}
 use Rattle.smt_terms.specs.Term.{Quantifier, Head, op, symbol, const_array, Term, apply, quantified, Terms, none, ◌⨾◌, constant_of}
@@ -9,7 +9,7 @@ use Rattle.smt_terms.specs.Rank.{sorts_of}
 use Rattle.smt_terms.specs.Values.{Value, Sizes, is_true, over_values, truth}
 use Rattle.smt_terms.specs.Models.{Model, symbol_value}
 use Rattle.smt_terms.specs.Val.{Env, assign, runs, head_value, val, vals}
-use Rattle.smt_terms.proofs.Tests.{true_or_false, and_true, left_true, right_true}
+use Rattle.smt_terms.proofs.Tests.{and_true, left_true, right_true}
 use Rattle.smt_terms.proofs.Equal.{Decides-symbol_eq}
 use Rattle.smt_terms.proofs.Among.{is_among-with_more, is_among-without}
 

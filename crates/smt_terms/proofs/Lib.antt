@@ -4,6 +4,7 @@ pub mod BitLengths
 pub mod Depends
 pub mod Equal
 pub mod Fresh
+pub mod Keeping
 mod Lookups
 pub mod Numeral
 mod Operators

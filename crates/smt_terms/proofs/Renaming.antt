@@ -1,23 +1,19 @@
 -- The renaming of a quantifier's variables: the names that it leaves, the sorts of what it maps to, and that the quantifier
 -- over the new variables runs as the old one did.
-use Rattle.std.proofs.Common.{◌≡◌, ◌≢◌, ℕ, Bool, true, false, not, cond, ◌&&◌, ◌||◌, ◌⊎◌, inl, inr, List, [], ◌∷◌, ◌++◌, map, Option, Some, None, refl, ap, sym, ◌∙◌, subst}
-use Rattle.std.specs.Prelude.{unwrap_or, ⊤, filter_map, flat_map, option_map}
-use Rattle.std.specs.List.{list_any, list_all, cons_option}
-use Rattle.smt_terms.specs.Sorts.{Name, Sort, Symbol, Variable}
-use Rattle.smt_terms.specs.Term.{Quantifier, Term, constant_of, constant, variable}
+use Rattle.std.proofs.Common.{◌≡◌, ◌≢◌, Bool, true, false, not, cond, ◌&&◌, ◌||◌, ◌⊎◌, inl, inr, List, [], ◌∷◌, map, Some, refl, ap, sym, ◌∙◌, subst}
+use Rattle.std.specs.Prelude.{⊤}
+use Rattle.std.specs.List.{list_all}
+use Rattle.smt_terms.specs.Sorts.{Name, Variable}
+use Rattle.smt_terms.specs.Term.{constant_of, constant, variable}
 use Rattle.smt_terms.specs.Equal.{name_eq, symbol_eq}
-use Rattle.smt_terms.specs.Free.{is_among, name_among, without, free, names_of}
+use Rattle.smt_terms.specs.Free.{name_among, free, names_of}
 use Rattle.smt_terms.specs.Rank.{has_name, are_distinct, is_quantifiable, are_bindable, rank, sort_of}
-use Rattle.smt_terms.specs.Values.{Value, Sizes, over_values}
-use Rattle.smt_terms.specs.Models.{Model, symbol_value}
-use Rattle.smt_terms.specs.Val.{Env, assign, runs, val}
 use Rattle.smt_terms.specs.Fresh.{Supply, next_name, after_draw, fresh_for, NeverGives}
-use Rattle.smt_terms.specs.Subst.{Map, image, names_in, Renamed, bound_first, bind, renaming}
-use Rattle.smt_terms.specs.SubstLaws.{value_or, under, HaveSorts, GivesNone, GivesNoImage}
-use Rattle.smt_terms.proofs.Tests.{both_true, and_true, either_true, both_false, not_true, true_or_false}
+use Rattle.smt_terms.specs.Subst.{Map, image, Renamed, bind, renaming}
+use Rattle.smt_terms.specs.SubstLaws.{HaveSorts, GivesNone, GivesNoImage}
+use Rattle.smt_terms.proofs.Tests.{both_true, and_true, either_true, both_false, not_true}
 use Rattle.smt_terms.proofs.Equal.{Decides-name_eq, Decides-symbol_eq}
 use Rattle.smt_terms.proofs.Fresh.{never-next, never-after, never-drawn}
-use Rattle.smt_terms.proofs.Agree.{SameAt, still_free, same_without-none, val_same}
 
 -- ---- names and tests
 

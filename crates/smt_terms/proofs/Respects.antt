@@ -1,17 +1,13 @@
 -- A head gives the same value to operands that are the same.
-use Rattle.std.proofs.Common.{◌≡◌, ℕ, zero, suc, ◌+◌, ◌<◌, Bool, true, false, not, cond, ◌&&◌, ◌||◌, ◌==◌, ◌⊎◌, inl, inr, ℤ, ◌+ℤ◌, ◌*ℤ◌, List, [], ◌∷◌, replicate, Option, Some, None, refl, ap, sym, ◌∙◌, subst}
-use Rattle.std.specs.Bool.{beq}
+use Rattle.std.proofs.Common.{◌≡◌, ℕ, zero, suc, Bool, true, ℤ, List, [], ◌∷◌, replicate, refl, ap, sym, ◌∙◌, subst}
 use Rattle.std.specs.Cmp.{booleans_Decides}
-use Rattle.std.specs.List.{list_all, list_any}
-use Rattle.std.specs.Ordering.{int_eq}
-use Rattle.std.proofs.lemmas.Bool.Decides.{Decides-eqb, Decides-int_eq}
-use Rattle.smt_terms.specs.Sorts.{Sort, bool, int, bit_vector, array, free_sort}
-use Rattle.smt_terms.specs.BitVectors.{BitVector, bits_eq}
-use Rattle.smt_terms.specs.Rank.{is_array, is_sort}
-use Rattle.smt_terms.specs.Values.{Value, Pairs, no_pairs, pair, table, Sizes, is_true, number, bits_of, pairs_of, default_of, value_at, put, same, all_same, is_value, are_values, select, store}
-use Rattle.smt_terms.specs.Operators.{first_value, second_value, third_value, logical, arithmetic, comparison, vector, vectors, vector_comparison, sum_of, product_of, all_distinct}
-use Rattle.smt_terms.proofs.Tests.{both_true, and_true, alike_from, true_or_false, IsEquivalent, like_before}
-use Rattle.smt_terms.proofs.Same.{Decides-bits_eq, same_scalar, same-itself, same-back, same-through, same-select, select-like, array_sorts}
+use Rattle.std.proofs.lemmas.Bool.Decides.{Decides-int_eq}
+use Rattle.smt_terms.specs.Sorts.{Sort, bool, int, bit_vector}
+use Rattle.smt_terms.specs.BitVectors.{BitVector}
+use Rattle.smt_terms.specs.Values.{Value, Sizes, is_true, number, bits_of, same, all_same}
+use Rattle.smt_terms.specs.Operators.{first_value, second_value, third_value, logical}
+use Rattle.smt_terms.proofs.Tests.{both_true}
+use Rattle.smt_terms.proofs.Same.{Decides-bits_eq, same-itself}
 
 -- ---- equal values are the same
 

@@ -1,25 +1,25 @@
 -- A head gives the same value to operands that are the same.
-use Rattle.std.proofs.Common.{◌≡◌, ℕ, zero, suc, ◌+◌, ◌<◌, Bool, true, false, not, cond, ◌&&◌, ◌||◌, ◌==◌, ◌⊎◌, inl, inr, ℤ, ◌+ℤ◌, ◌-ℤ◌, ◌*ℤ◌, pos, neg_ℤ, List, [], ◌∷◌, replicate, Option, Some, None, Ok, IsTrue, refl, ap, sym, ◌∙◌, subst}
-use Rattle.std.specs.Prelude.{unwrap_or, unsigned_abs, int_lt, int_le, IfSome}
+use Rattle.std.proofs.Common.{◌≡◌, ℕ, zero, suc, true, false, not, cond, ◌&&◌, ◌||◌, ◌+ℤ◌, ◌-ℤ◌, ◌*ℤ◌, pos, neg_ℤ, List, [], ◌∷◌, replicate, Option, Some, None, Ok, IsTrue, refl, ap, sym, ◌∙◌, subst}
+use Rattle.std.specs.Prelude.{unsigned_abs, int_lt, int_le, IfSome}
 use Rattle.std.specs.Bool.{beq}
 use Rattle.std.specs.List.{list_all, list_any}
 use Rattle.smt_terms.specs.declared.op.Op.{Op}
 use Rattle.smt_terms.specs.declared.op.Op.TheVariants.{Truth, Whole, Bits, Sym, Forall, Exists, ConstArray, Not, And, Or, Xor, Implies, Equal, Distinct, Ite, Neg, Sub, Add, Mul, Div, Mod, Abs, Le, Lt, Concat, Extract, BvNot, BvNeg, BvAnd, BvOr, BvXor, BvAdd, BvMul, BvSub, BvUdiv, BvUrem, BvSdiv, BvSrem, BvSmod, BvShl, BvLshr, BvAshr, BvComp, BvUlt, BvUle, BvSlt, BvSle, ZeroExt, SignExt, RotL, RotR, Select, Store}
-use Rattle.smt_terms.specs.Sorts.{Sort, bool, int, bit_vector, array, Symbol}
+use Rattle.smt_terms.specs.Sorts.{Sort, bool, int, array, Symbol}
 use Rattle.smt_terms.specs.Term.{Head, op, symbol, const_array}
-use Rattle.smt_terms.specs.BitVectors.{BitVector, nat2bv, concat, extract, zero_extend, sign_extend, rotate_left, rotate_right, bvnot, bvneg, bvand, bvor, bvxor, bvadd, bvmul, bvsub, bvudiv, bvurem, bvsdiv, bvsrem, bvsmod, bvshl, bvlshr, bvashr, bvcomp, bvult, bvule, bvslt, bvsle}
-use Rattle.smt_terms.specs.Rank.{is_array, is_sort, shape, rank, bitwise, bitwise_pair, bits_comparison, fixed, extension, rotation}
+use Rattle.smt_terms.specs.BitVectors.{nat2bv, concat, extract, zero_extend, sign_extend, rotate_left, rotate_right, bvnot, bvneg, bvand, bvor, bvxor, bvadd, bvmul, bvsub, bvudiv, bvurem, bvsdiv, bvsrem, bvsmod, bvshl, bvlshr, bvashr, bvcomp, bvult, bvule, bvslt, bvsle}
+use Rattle.smt_terms.specs.Rank.{is_array, is_sort, shape, rank}
 use Rattle.smt_terms.specs.Takes.{Takes}
-use Rattle.smt_terms.specs.Values.{Value, truth, whole, bits, table, no_pairs, Sizes, is_true, number, same, all_same, is_value, are_values, cover, select, store}
+use Rattle.smt_terms.specs.Values.{Value, truth, whole, bits, table, no_pairs, Sizes, is_true, number, same, all_same, is_value, are_values, cover, select}
 use Rattle.smt_terms.specs.Operators.{Background, first_value, second_value, third_value, sum_of, product_of, all_distinct, quotient, modulus, op_value}
-use Rattle.smt_terms.specs.Models.{Row, Graph, Model, row_value, graph_or_default, symbol_value, background, is_graph, IsModel, distinct_rows, rows_allowed}
+use Rattle.smt_terms.specs.Models.{Row, Graph, Model, row_value, graph_or_default, background, is_graph, IsModel, distinct_rows, rows_allowed}
 use Rattle.smt_terms.specs.Val.{Env, head_value}
-use Rattle.smt_terms.proofs.Tests.{both_true, and_true, alike_from, right_true}
+use Rattle.smt_terms.proofs.Tests.{both_true, alike_from, right_true}
 use Rattle.smt_terms.proofs.Same.{same-itself, same-back, same-through, same-select, select-like, array_sorts}
 use Rattle.smt_terms.proofs.SameStores.{same_choice, store_same}
-use Rattle.smt_terms.proofs.Respects.{equal_same, first_same, second_same, third_same, truths_alike, numbers_alike, at_sorts, first_truth, logical_alike, of_truth, of_number, of_numbers, of_bits, of_two_bits, totals_alike}
+use Rattle.smt_terms.proofs.Respects.{equal_same, first_same, second_same, third_same, truths_alike, numbers_alike, at_sorts, logical_alike, of_truth, of_number, of_numbers, of_bits, of_two_bits, totals_alike}
 use Rattle.smt_terms.proofs.Ranked.{rank-takes}
-use Rattle.smt_terms.proofs.Valid.{first_valid, second_valid, third_valid, op_valid}
+use Rattle.smt_terms.proofs.Valid.{first_valid, second_valid, op_valid}
 
 -- ---- equations between values that are the same
 
@@ -34,8 +34,8 @@ module _ (s : Sort) (sizes : Sizes) (fine : is_sort s ≡ true) where
   equations_alike v w x y vv vw vx vy h k =
       same_turned v w x vv vw vx h
       ∙ alike_from (same s sizes w x) (same s sizes w y)
-        (λ p. same-through s sizes w x y fine vw vx vy p k)
-        (λ p. same-through s sizes w y x fine vw vy vx p (same-back s sizes x y k))
+      (λ p. same-through s sizes w x y fine vw vx vy p k)
+      (λ p. same-through s sizes w y x fine vw vy vx p (same-back s sizes x y k))
 
   any_alike : (k : ℕ) (v w : Value) (vs ws : List Value) → is_value s sizes v ≡ true → is_value s sizes w ≡ true → same s sizes v w ≡ true → are_values (replicate k s) sizes vs ≡ true → are_values (replicate k s) sizes ws ≡ true → all_same (replicate k s) sizes vs ws ≡ true → list_any (same s sizes v) vs ≡ list_any (same s sizes w) ws
   any_alike zero v w [] [] vv vw e va wa h = refl
@@ -82,9 +82,9 @@ unfolding op_value
 equation_gives b u vs ws h =
     let fine : is_sort u ≡ true = (both_true (is_sort u) (is_sort u && true) h.sorts).0 in
     equal_same bool b.sizes (ap truth (equations_alike u b.sizes fine (first_value vs) (first_value ws) (second_value vs) (second_value ws)
-      (first_valid u (u ∷ []) b.sizes vs h.first) (first_valid u (u ∷ []) b.sizes ws h.second)
-      (second_valid u u [] b.sizes vs h.first) (second_valid u u [] b.sizes ws h.second)
-      (first_same u (u ∷ []) b.sizes vs ws h.operands) (second_same u u [] b.sizes vs ws h.operands)))
+    (first_valid u (u ∷ []) b.sizes vs h.first) (first_valid u (u ∷ []) b.sizes ws h.second)
+    (second_valid u u [] b.sizes vs h.first) (second_valid u u [] b.sizes ws h.second)
+    (first_same u (u ∷ []) b.sizes vs ws h.operands) (second_same u u [] b.sizes vs ws h.operands)))
 
 distinctness_gives : (b : Background) (u : Sort) (n : ℕ) (vs ws : List Value) → GivesSame b Distinct (u ∷ u ∷ replicate n u) bool vs ws
 unfolding op_value
@@ -246,10 +246,10 @@ head_gives m e (op o) ss s vs ws model ranked fine vv vw h =
 head_gives m e (symbol f) ss s vs ws model ranked fine vv vw h =
     let args = (rank-takes (symbol f) ss s ranked).0 in
     equal_same s m.sizes (symbol_alike m e f ss vs ws model
-      (subst (λ us. list_all is_sort us ≡ true) args fine)
-      (subst (λ us. are_values us m.sizes vs ≡ true) args vv)
-      (subst (λ us. are_values us m.sizes ws ≡ true) args vw)
-      (subst (λ us. all_same us m.sizes vs ws ≡ true) args h))
+    (subst (λ us. list_all is_sort us ≡ true) args fine)
+    (subst (λ us. are_values us m.sizes vs ≡ true) args vv)
+    (subst (λ us. are_values us m.sizes ws ≡ true) args vw)
+    (subst (λ us. all_same us m.sizes vs ws ≡ true) args h))
 head_gives m e (const_array r) ss s vs ws model ranked fine vv vw h =
     let taken = rank-takes (const_array r) ss s ranked in
     let one : same taken.1 m.sizes (first_value vs) (first_value ws) ≡ true = first_same taken.1 [] m.sizes vs ws (subst (λ us. all_same us m.sizes vs ws ≡ true) taken.3 h) in

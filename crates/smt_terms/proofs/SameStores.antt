@@ -1,5 +1,5 @@
 -- Arrays that are the same stay the same when the same is stored in them.
-use Rattle.std.proofs.Common.{◌≡◌, Bool, true, false, cond, ◌⊎◌, inl, inr, refl, ap, sym, ◌∙◌, subst}
+use Rattle.std.proofs.Common.{◌≡◌, Bool, true, false, cond, inl, inr, refl, ap, sym, ◌∙◌, subst}
 use Rattle.smt_terms.specs.Sorts.{Sort, array}
 use Rattle.smt_terms.specs.Rank.{is_array, is_sort}
 use Rattle.smt_terms.specs.Values.{Value, Pairs, no_pairs, pair, Sizes, pairs_of, default_of, value_at, put, same, is_value, select, store}
@@ -27,14 +27,14 @@ module _ (alike : Value → Value → Bool) (law : IsEquivalent alike) where
   pub value_at-put : (k v j : Value) (ps : Pairs) (d : Value) → value_at alike j (put alike k v ps) d ≡ cond (alike k j) v (value_at alike j ps d)
   value_at-put k v j no_pairs d = refl
   value_at-put k v j (pair x u ps) d = elim (true_or_false (alike x k)) [
-      | inl here ↦
-          ap (λ b. value_at alike j (cond b (pair x v ps) (pair x u (put alike k v ps))) d) here
-          ∙ put_here (alike x j) (alike k j) v u (value_at alike j ps d) (first_like x k j here)
-      | inr other ↦
-          ap (λ b. value_at alike j (cond b (pair x v ps) (pair x u (put alike k v ps))) d) other
-          ∙ ap (cond (alike x j) u) (value_at-put k v j ps d)
-          ∙ put_behind (alike x j) (alike k j) v u (value_at alike j ps d) (other_like x k j other)
-    ]
+    | inl here ↦
+        ap (λ b. value_at alike j (cond b (pair x v ps) (pair x u (put alike k v ps))) d) here
+        ∙ put_here (alike x j) (alike k j) v u (value_at alike j ps d) (first_like x k j here)
+    | inr other ↦
+        ap (λ b. value_at alike j (cond b (pair x v ps) (pair x u (put alike k v ps))) d) other
+        ∙ ap (cond (alike x j) u) (value_at-put k v j ps d)
+        ∙ put_behind (alike x j) (alike k j) v u (value_at alike j ps d) (other_like x k j other)
+  ]
 
 pub same_choice : (s : Sort) (sizes : Sizes) (b c : Bool) (v w r q : Value) → b ≡ c → same s sizes v w ≡ true → same s sizes r q ≡ true → same s sizes (cond b v r) (cond c w q) ≡ true
 same_choice s sizes true c v w r q e here other = subst (λ d. same s sizes v (cond d w q) ≡ true) e here
@@ -55,7 +55,7 @@ module _ (i e : Sort) (sizes : Sizes) (fine : is_sort (array i e) ≡ true) wher
       let right : select i sizes (store i sizes b l w) j ≡ cond (same i sizes l j) w (select i sizes b j) = value_at-put (same i sizes) law l w j (pairs_of b) (default_of b) in
       (λ x. same e sizes (left x) (right x))
       ∙ same_choice e sizes (same i sizes k j) (same i sizes l j) v w (select i sizes a j) (select i sizes b j)
-        (first_like (same i sizes) law k l j keys) results (same-select i e sizes a b j scalar valid arrays)
+      (first_like (same i sizes) law k l j keys) results (same-select i e sizes a b j scalar valid arrays)
 
   pub store_same : (a b k l v w : Value) → is_value (array i e) sizes (store i sizes a k v) ≡ true → is_value (array i e) sizes (store i sizes b l w) ≡ true → same (array i e) sizes a b ≡ true → same i sizes k l ≡ true → same e sizes v w ≡ true → same (array i e) sizes (store i sizes a k v) (store i sizes b l w) ≡ true
   store_same a b k l v w valid_left valid_right arrays keys results =

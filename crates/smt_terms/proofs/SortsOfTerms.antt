@@ -1,12 +1,12 @@
 -- The sort of a well-sorted term is a sort: its widths are from 1 to 128, and no index sort in it is an array sort.
-use Rattle.std.proofs.Common.{◌≡◌, ℕ, zero, suc, ◌+◌, ◌-◌, ◌<◌, ◌≤◌, Bool, true, false, not, ◌&&◌, nat_le, List, [], ◌∷◌, replicate, Option, Some, None, Ok, refl, ap, sym, ◌∙◌, subst, arith}
+use Rattle.std.proofs.Common.{◌≡◌, ℕ, ◌+◌, ◌-◌, ◌<◌, ◌≤◌, Bool, true, not, ◌&&◌, nat_le, List, [], ◌∷◌, Some, refl, sym, subst, arith}
 use Rattle.std.specs.List.{list_all}
 use Rattle.std.proofs.lemmas.Bool.{leb-true}
 use Rattle.smt_terms.specs.declared.op.Op.{Op}
 use Rattle.smt_terms.specs.declared.op.Op.TheVariants.{Truth}
-use Rattle.smt_terms.specs.Sorts.{Sort, bool, int, bit_vector, array, Variable}
-use Rattle.smt_terms.specs.Term.{Quantifier, Head, op, symbol, const_array, Term, apply, quantified, Terms, none, ◌⨾◌}
-use Rattle.smt_terms.specs.Rank.{Shape, fixed, several, equation, distinctness, choice, whole_number, bit_constant, concatenation, extraction, extension, rotation, bitwise, bitwise_pair, bits_comparison, selection, storing, filling, no_head, shape, shape_of, rank, most_bits, width, sort_of, sorts_of, is_sort, has_sorts, is_minus_of, is_regular, are_regular}
+use Rattle.smt_terms.specs.Sorts.{Sort, bool, int, bit_vector, array}
+use Rattle.smt_terms.specs.Term.{Head, op, symbol, const_array, Term, apply, quantified, Terms, none, ◌⨾◌}
+use Rattle.smt_terms.specs.Rank.{Shape, fixed, several, equation, distinctness, choice, whole_number, bit_constant, concatenation, extraction, extension, rotation, bitwise, bitwise_pair, bits_comparison, selection, storing, filling, no_head, shape, shape_of, most_bits, width, sort_of, sorts_of, is_sort, has_sorts, is_minus_of, is_regular, are_regular}
 use Rattle.smt_terms.specs.Takes.{Takes}
 use Rattle.smt_terms.proofs.Tests.{both_true, and_true}
 use Rattle.smt_terms.proofs.Ranked.{le_true, rank-takes, rank-narrow}

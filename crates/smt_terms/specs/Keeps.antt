@@ -1,6 +1,6 @@
 -- What it means that a rewriting keeps values (SMT-LIB 2.6, section 5.3): the result is well sorted, has the term's sort, and has
 -- the same value in every model, whatever the values of quantified variables are.
-use Rattle.std.specs.Prelude.{◌≡◌, Option, Some, IsTrue}
+use Rattle.std.specs.Prelude.{◌≡◌, Some, IsTrue}
 use Rattle.smt_terms.specs.Sorts.{Sort}
 use Rattle.smt_terms.specs.Term.{Term}
 use Rattle.smt_terms.specs.Rank.{sort_of, IsWellSorted}

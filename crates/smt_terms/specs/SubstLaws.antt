@@ -1,6 +1,6 @@
 -- What substitution does to values: the law speaks of the environment in which each replaced constant has the value of its
 -- image. SMT-LIB 2.6, section 5.3.
-use Rattle.std.specs.Prelude.{◌≡◌, true, List, [], ◌∷◌, ◌++◌, map, Option, Some, None}
+use Rattle.std.specs.Prelude.{◌≡◌, true, List, [], ◌++◌, map, Option, Some, None}
 use Rattle.smt_terms.specs.Sorts.{Name, Sort, Symbol}
 use Rattle.smt_terms.specs.Term.{Term, apply, quantified, Terms, none, ◌⨾◌, constant}
 use Rattle.smt_terms.specs.Free.{name_among, names_of, head_symbols, free}
