@@ -160,7 +160,7 @@ data MadeAs (h : Head) (us : Terms) : Type 0 where
   plain : made h us ≡ apply h us → is_minus_of h us ≡ false → MadeAs h us
   number : (n : ℤ) → h ≡ op Neg → us ≡ whole_term n ⨾ none → MadeAs h us
 
-two_or_more : (p : Op) (t u : Term) (us : Terms) → is_minus_of (op p) (t ⨾ (u ⨾ us)) ≡ false
+pub two_or_more : (p : Op) (t u : Term) (us : Terms) → is_minus_of (op p) (t ⨾ (u ⨾ us)) ≡ false
 unfolding is_minus_of
 two_or_more p (quantified q xs t) u us = refl
 two_or_more p (apply (symbol f) ts) u us = refl

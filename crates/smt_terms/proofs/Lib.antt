@@ -1,12 +1,15 @@
 pub mod Agree
 pub mod Among
 pub mod BitLengths
+pub mod ConstantTerms
 pub mod Depends
 pub mod Equal
 pub mod Fresh
+pub mod FromBelow
 pub mod Keeping
 mod Lookups
 pub mod Numeral
+pub mod Operands
 mod Operators
 mod OverValues
 pub mod Ranked

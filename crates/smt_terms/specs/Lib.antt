@@ -1,3 +1,4 @@
+pub mod ArrayTerms
 pub mod BitVectors
 pub mod Connectives
 pub mod Constants
