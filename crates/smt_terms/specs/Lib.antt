@@ -1,3 +1,4 @@
+pub mod ArrayTerms
 pub mod BitVectors
 pub mod Connectives
 pub mod Constants
@@ -6,6 +7,7 @@ pub mod Free
 pub mod Fresh
 pub mod FreshLaws
 pub mod Groups
+pub mod Keeps
 pub mod Laws
 pub mod Made
 pub mod Models
