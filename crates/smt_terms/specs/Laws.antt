@@ -54,27 +54,6 @@ ValueHasSort = (t : Term) (s : Sort) (m : Model) (e : Env) → sort_of t ≡ Som
 abbrev pub FreeSymbolsDecide : Type 0
 FreeSymbolsDecide = (t : Term) (s : Sort) (m n : Model) (d e : Env) → sort_of t ≡ Some s → AgreeOn (free t) m n d e → val m t d ≡ val n t e
 
--- ---- terms that mean the same: they have one sort, and values that are the same in every model
-
-pub record MeanSame (s : Sort) (t u : Term) : Type 0 where
-  pub before : sort_of t ≡ Some s
-  pub after : sort_of u ≡ Some s
-  pub values : (m : Model) (e : Env) → IsModel m → IsEnv m.sizes e → IsTrue (same s m.sizes (val m t e) (val m u e))
-
--- operands one by one
-pub record OperandsMeanSame (ss : List Sort) (ts us : Terms) : Type 0 where
-  pub before : sorts_of ts ≡ Some ss
-  pub after : sorts_of us ≡ Some ss
-  pub values : (m : Model) (e : Env) → IsModel m → IsEnv m.sizes e → IsTrue (all_same ss m.sizes (vals m ts e) (vals m us e))
-
--- so does a head over operands that mean the same
-abbrev pub HeadsKeepMeaning : Type 0
-HeadsKeepMeaning = (h : Head) (ts us : Terms) (ss : List Sort) (s : Sort) → IsTrue (has_sorts h) → IsTrue (list_all is_sort ss) → rank h ss ≡ Ok s → OperandsMeanSame ss ts us → MeanSame s (apply h ts) (apply h us)
-
--- and a quantifier over bodies that do
-abbrev pub QuantifiersKeepMeaning : Type 0
-QuantifiersKeepMeaning = (q : Quantifier) (xs : List Variable) (t u : Term) → IsTrue (are_bindable xs) → MeanSame bool t u → MeanSame bool (quantified q xs t) (quantified q xs u)
-
 -- the operands of a quantifier's node: its variables, as constants, and a body that is a truth value
 pub record IsBinder (ts : List Term) (ss : List Sort) (s : Sort) : Type 0 where
   pub variables : List Variable
