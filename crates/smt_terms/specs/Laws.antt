@@ -1,14 +1,13 @@
 -- Statements of the laws that hold of values and of the value of a term.
 use Rattle.std.specs.Prelude.{◌≡◌, ◌≤◌, ◌↔◌, Bool, List, [], length, Some, Ok, IfSome, IsTrue, Decides, true, ◌∷◌, ◌++◌, map}
-use Rattle.std.specs.List.{list_all}
 use Rattle.smt_terms.specs.Sorts.{Sort, bool, array, Symbol, Variable}
-use Rattle.smt_terms.specs.Term.{Quantifier, Head, symbol, Term, apply, quantified, Terms, variable}
-use Rattle.smt_terms.specs.Rank.{shape_of, width, most_bits, rank, rank_quantifier, are_bindable, IsWellSorted, sort_of, sorts_of, is_sort, has_sorts}
+use Rattle.smt_terms.specs.Term.{Head, symbol, Term, variable}
+use Rattle.smt_terms.specs.Rank.{shape_of, width, most_bits, rank, rank_quantifier, are_bindable, IsWellSorted, sort_of, is_sort}
 use Rattle.smt_terms.specs.Takes.{Takes}
 use Rattle.smt_terms.specs.Free.{is_among, free}
-use Rattle.smt_terms.specs.Values.{Value, Sizes, same, all_same, select, is_value}
+use Rattle.smt_terms.specs.Values.{Value, Sizes, same, select, is_value}
 use Rattle.smt_terms.specs.Models.{Model, background, IsModel}
-use Rattle.smt_terms.specs.Val.{Env, head_value, val, vals}
+use Rattle.smt_terms.specs.Val.{Env, head_value, val}
 
 -- a symbol at arguments, the quantified variables counted
 abbrev pub symbol_at : Model → Env → Symbol → List Value → Value

@@ -1,4 +1,3 @@
-use Rattle.std.proofs.Common.{◌≡◌, false}
 use Rattle.smt_terms.specs.Term.{Terms, none, ◌⨾◌}
 use Rattle.smt_terms.specs.KeepsLaws.{EachKeeps}
 use Rattle.smt_terms.proofs.Keeping.{KeepsAll, keeps_none, keeps_more, keeps_apply, keeps_quantified}
@@ -13,5 +12,5 @@ all_keep (t ⨾ ts) none h = absurd h
 pub returns : goal.returns
 returns c = record {
   heads = λ h ts us well each other. keeps_apply h ts us well (all_keep ts us each) other;
-  quantifiers = keeps_quantified
+  quantifiers = keeps_quantified;
 }
