@@ -13,6 +13,7 @@ pub mod FromBelow
 pub mod Keeping
 mod Lookups
 pub mod Made
+pub mod Nodes
 pub mod Numeral
 pub mod Operands
 mod Operators
