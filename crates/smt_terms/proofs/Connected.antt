@@ -102,7 +102,7 @@ connected (op o) ts s has c =
       number = r.number;
       sorts = a.operands ∙ ap Some r.sorts;
       count = subst (λ k. Count (operator_kind o k) r.number) (sym a.operands) r.count;
-      sort = r.sort
+      sort = r.sort;
     }
 connected (symbol f) ts s has c = absurd cc
 connected (const_array t) ts s has c = absurd cc
