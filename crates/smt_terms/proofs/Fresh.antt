@@ -1,6 +1,7 @@
 -- What a supply gives: different numbers have different names, a name that is drawn isn't taken, and numbers only rise.
-use Rattle.std.proofs.Common.{◌≡◌, ◌≢◌, ℕ, zero, suc, ◌+◌, ◌<◌, ◌≤◌, Bool, true, false, not, cond, ◌||◌, List, [], ◌∷◌, length, refl, ap, sym, ◌∙◌, arith}
+use Rattle.std.proofs.Common.{◌≡◌, ◌≢◌, ℕ, zero, suc, ◌+◌, ◌<◌, ◌≤◌, Bool, true, false, not, cond, ◌||◌, ◌⊎◌, inl, inr, nat_lt, List, [], ◌∷◌, length, refl, ap, sym, ◌∙◌, arith}
 use Rattle.std.specs.List.{filter}
+use Rattle.std.proofs.lemmas.Bool.{ltb-true, ltb-false}
 use Rattle.std.proofs.lemmas.List.Filters.{length-filter_both}
 use Rattle.smt_terms.specs.Sorts.{Name}
 use Rattle.smt_terms.specs.Equal.{name_eq}
@@ -80,6 +81,13 @@ among_others n k apart (m ∷ ms) = go (name_eq m n) refl (among_others n k apar
 
 -- ---- the search
 
+le_split : (i j : ℕ) → i ≤ j → (i ≡ j) ⊎ (suc i ≤ j)
+le_split i j h = go (nat_lt i j) refl
+  where
+    go : (b : Bool) → nat_lt i j ≡ b → (i ≡ j) ⊎ (suc i ≤ j)
+    go true e = inr (ltb-true i j e)
+    go false e = let back : j ≤ i = ltb-false i j e in inl (omega arith)
+
 abbrev chosen : Bool → ℕ → ℕ → ℕ
 chosen b x i = elim b [ true ↦ x | false ↦ i ]
 
@@ -119,6 +127,25 @@ found-free (suc room) taken i h = go (name_among taken (numbered_name i)) refl (
 
 pub next_name-free : (s : Supply) → name_among s.taken (next_name s) ≡ false
 next_name-free s = found-free (length s.taken) s.taken s.number (omega arith)
+
+-- and every number before it has a name that is taken
+found-least : (room : ℕ) (taken : List Name) (i j : ℕ) → i ≤ j → j < free_number taken room i → name_among taken (numbered_name j) ≡ true
+found-least zero taken i j h k = absurd (omega arith)
+found-least (suc room) taken i j h k = go (name_among taken (numbered_name i)) refl k (found-least room taken (suc i) j)
+  where
+    go : (b : Bool) → name_among taken (numbered_name i) ≡ b → j < elim b [ true ↦ free_number taken room (suc i) | false ↦ i ] → (suc i ≤ j → j < free_number taken room (suc i) → name_among taken (numbered_name j) ≡ true) → name_among taken (numbered_name j) ≡ true
+    go false e l below = absurd (omega arith)
+    go true e l below = first_or (le_split i j h) below
+      where
+        first_or : (i ≡ j) ⊎ (suc i ≤ j) → (suc i ≤ j → j < free_number taken room (suc i) → name_among taken (numbered_name j) ≡ true) → name_among taken (numbered_name j) ≡ true
+        first_or (inl same) further = ap (λ n. name_among taken (numbered_name n)) (sym same) ∙ e
+        first_or (inr less) further = further less l
+
+pub next-least : (s : Supply) (i : ℕ) → s.number ≤ i → i < next_number s → name_among s.taken (numbered_name i) ≡ true
+next-least s i = found-least (length s.taken) s.taken s.number i
+
+pub next-later : (s : Supply) → s.number ≤ next_number s
+next-later s = from_start s.taken (length s.taken) s.number
 
 -- ---- what a supply never gives
 

@@ -85,7 +85,7 @@ agrees i e sizes a b h =
       elsewhere = either_true (cover i sizes (same i sizes) (pairs_of a) (pairs_of b)) (same e sizes (default_of a) (default_of b)) all.1;
     }
 
-agreed : (i e : Sort) (sizes : Sizes) (a b : Value) → Agrees i e sizes a b → same (array i e) sizes a b ≡ true
+pub agreed : (i e : Sort) (sizes : Sizes) (a b : Value) → Agrees i e sizes a b → same (array i e) sizes a b ≡ true
 agreed i e sizes a b h =
     and_true (agree (same i sizes) (same e sizes) (pairs_of a) a b && agree (same i sizes) (same e sizes) (pairs_of b) a b)
     (cover i sizes (same i sizes) (pairs_of a) (pairs_of b) || same e sizes (default_of a) (default_of b))

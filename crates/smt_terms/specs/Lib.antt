@@ -5,6 +5,7 @@ pub mod Constants
 pub mod Equal
 pub mod Free
 pub mod Fresh
+pub mod FreshLaws
 pub mod Groups
 pub mod Keeps
 pub mod Laws

@@ -9,7 +9,7 @@ use Rattle.smt_terms.specs.Values.{Value}
 use Rattle.smt_terms.specs.Models.{Model}
 use Rattle.smt_terms.specs.Val.{Env, val, vals}
 use Rattle.smt_terms.specs.Fresh.{Supply, NeverGives}
-use Rattle.smt_terms.specs.Subst.{Map, image}
+use Rattle.smt_terms.specs.Subst.{Map, image, subst}
 
 abbrev pub value_or : Model → Option Term → Env → Symbol → Option Value
 value_or m None e f = e f
@@ -47,3 +47,17 @@ IsResult f t r = (s : Sort) → sort_of t ≡ Some s → (sort_of r ≡ Some s) 
 
 abbrev pub AreResults : Map → Terms → Terms → Type 0
 AreResults f ts us = (ss : List Sort) → sorts_of ts ≡ Some ss → (sorts_of us ≡ Some ss) × ((m : Model) (e : Env) → vals m us e ≡ vals m ts (under m f e))
+
+-- ---- the law
+
+-- what the first supply never gives, the second never gives
+abbrev pub Later : Supply → Supply → Type 0
+Later s t = (n : Name) → NeverGives s n → NeverGives t n
+
+-- where the supply gives no name of the term and none that is free in an image, substitution of terms of the right sorts
+-- gives a term of the same sort, whose value is that of the term under the map
+abbrev pub SubstKeepsMeaning : Type 0
+SubstKeepsMeaning = (f : Map) (t : Term) (s : Supply) → HaveSorts f → GivesNoImage s f → GivesNone s (names_within t) → IsResult f t (subst f t s).0
+
+abbrev pub SubstGivesLater : Type 0
+SubstGivesLater = (f : Map) (t : Term) (s : Supply) → HaveSorts f → GivesNoImage s f → GivesNone s (names_within t) → Later s (subst f t s).1

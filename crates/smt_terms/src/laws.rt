@@ -1,7 +1,9 @@
 //! The laws of the definitions, each the contract of a function that does nothing.
 
 ghost use Rattle.smt_terms.specs.Equal.{name_eq, sort_eq, symbol_eq, variable_eq, op_eq, head_eq, term_eq};
-ghost use Rattle.smt_terms.specs.Laws.{TellsEqual, RankIsRelation, SameIsReflexive, SameIsSymmetric, SameIsTransitive, SameAtEveryKey, ValueHasSort, FreeSymbolsDecide};
+ghost use Rattle.smt_terms.specs.Laws.{TellsEqual, RankIsRelation, SameIsReflexive, SameIsSymmetric, SameIsTransitive, SameAtEveryKey, BindersHaveRank, SortsAreWellFormed, ValueHasSort, FreeSymbolsDecide, HeadsKeepMeaning, QuantifiersKeepMeaning};
+ghost use Rattle.smt_terms.specs.FreshLaws.{NumbersNameApart, NextIsFree, NextIsLeast, NextIsLater, DrawnIsGone, GoneStaysGone};
+ghost use Rattle.smt_terms.specs.SubstLaws.{SubstKeepsMeaning, SubstGivesLater};
 
 /// Each test of equality says yes exactly at equal arguments.
 pub fn tests_tell_equality()
@@ -17,6 +19,16 @@ pub fn tests_tell_equality()
 /// The rank of an operator answers a sort exactly where the operator takes the operands' sorts.
 pub fn rank_is_a_relation()
     ensures { RankIsRelation }
+{}
+
+/// A quantifier's node has a rank exactly where its operands are constants that it may bind and a truth value.
+pub fn binders_have_a_rank()
+    ensures { BindersHaveRank }
+{}
+
+/// The sort of a well-sorted term is a sort of this profile: widths from 1 to 128, and no array sort as an index sort.
+pub fn sorts_are_well_formed()
+    ensures { SortsAreWellFormed }
 {}
 
 /// Sameness of values is an equivalence at every sort, and arrays are the same only where they have the same values at
@@ -36,4 +48,27 @@ pub fn value_has_the_sort()
 /// The value of a term depends on the values of its free symbols alone.
 pub fn free_symbols_decide()
     ensures { FreeSymbolsDecide }
+{}
+
+/// Terms that mean the same may stand for one another, below every head and below every quantifier.
+pub fn meaning_is_kept_in_context()
+    ensures heads { HeadsKeepMeaning }
+    ensures quantifiers { QuantifiersKeepMeaning }
+{}
+
+/// The next fresh name is that of the least number whose name isn't taken, and a name that was drawn isn't drawn again.
+pub fn fresh_names_are_new()
+    ensures apart { NumbersNameApart }
+    ensures free { NextIsFree }
+    ensures least { NextIsLeast }
+    ensures later { NextIsLater }
+    ensures gone { DrawnIsGone }
+    ensures stays { GoneStaysGone }
+{}
+
+/// Substitution gives a term of the same sort, with the value that the term has where each replaced constant has the value
+/// of its image; it draws no name that the supply didn't give.
+pub fn substitution_keeps_meaning()
+    ensures meaning { SubstKeepsMeaning }
+    ensures later { SubstGivesLater }
 {}
