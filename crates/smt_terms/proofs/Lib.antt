@@ -1,5 +1,4 @@
 pub mod Agree
-pub mod Alike
 pub mod Among
 pub mod Binders
 pub mod BitLengths
@@ -14,13 +13,11 @@ pub mod FromBelow
 pub mod Keeping
 mod Lookups
 pub mod Made
-pub mod Meaning
 pub mod Numeral
 pub mod Operands
 mod Operators
 mod OverValues
 pub mod Ranked
-pub mod Regular
 pub mod Renaming
 pub mod Respects
 mod Rows

@@ -1,7 +1,7 @@
 -- What the pairs of an array have at a key, for a test of keys that is an equivalence.
 use Rattle.std.proofs.Common.{◌≡◌, Bool, true, false, cond, not, inl, inr, refl, ap, sym, ◌∙◌, subst}
 use Rattle.smt_terms.specs.Values.{Value, Pairs, no_pairs, pair, is_key, value_at, put, distinct_keys, every_pair}
-use Rattle.smt_terms.proofs.Tests.{IsEquivalent, like_before, both_true, and_true, or_false, either_true, both_false, not_true, true_or_false, alike_from, either_way}
+use Rattle.smt_terms.proofs.Tests.{IsEquivalent, like_before, both_true, and_true, or_false, either_true, both_false, not_true, true_or_false, either_way}
 
 module _ (alike : Value → Value → Bool) (law : IsEquivalent alike) where
   -- like keys have the same place
@@ -91,29 +91,3 @@ every_pair-put alike test k v (pair x u ps) replaced new h =
     either_way (every_pair test) (alike x k) (pair x v ps) (pair x u (put alike k v ps)) true
     (λ e. and_true (test x v) (every_pair test ps) (replaced x u parts.0) parts.1)
     (λ e. and_true (test x u) (every_pair test (put alike k v ps)) parts.0 behind)
-
-twice : (b : Bool) (v u r : Value) → cond b v r ≡ cond b v (cond b u r)
-twice true v u r = refl
-twice false v u r = refl
-
-turned : (a b : Bool) (u v r : Value) → (a ≡ true → b ≡ true → ⊥) → cond a u (cond b v r) ≡ cond b v (cond a u r)
-turned true true u v r h = absurd (h refl refl)
-turned true false u v r h = refl
-turned false b u v r h = refl
-
--- what an array has after a new value at a key: the new value at like keys, and what it had at others
-pub value_at-put : (alike : Value → Value → Bool) → IsEquivalent alike → (j k v : Value) (ps : Pairs) (d : Value) → value_at alike j (put alike k v ps) d ≡ cond (alike k j) v (value_at alike j ps d)
-value_at-put alike law j k v no_pairs d = refl
-value_at-put alike law j k v (pair x u ps) d =
-    let behind : value_at alike j (put alike k v ps) d ≡ cond (alike k j) v (value_at alike j ps d) = value_at-put alike law j k v ps d in
-    placed (alike x k) refl behind
-  where
-    both : alike x j ≡ true → alike k j ≡ true → alike x k ≡ false → ⊥
-    both p q here = let like : alike x k ≡ true = law.through x j k p (law.back k j q) in absurd cc
-
-    placed : (b : Bool) → alike x k ≡ b → value_at alike j (put alike k v ps) d ≡ cond (alike k j) v (value_at alike j ps d) → value_at alike j (cond b (pair x v ps) (pair x u (put alike k v ps))) d ≡ cond (alike k j) v (cond (alike x j) u (value_at alike j ps d))
-    placed true here behind =
-        let like : alike x j ≡ alike k j = alike_from (alike x j) (alike k j) (λ h. law.through k x j (law.back x k here) h) (λ h. law.through x k j here h) in
-        ap (λ b. cond b v (value_at alike j ps d)) like ∙ twice (alike k j) v u (value_at alike j ps d) ∙ ap (λ b. cond (alike k j) v (cond b u (value_at alike j ps d))) (sym like)
-    placed false here behind =
-        ap (cond (alike x j) u) behind ∙ turned (alike x j) (alike k j) u v (value_at alike j ps d) (λ p q. both p q here)

@@ -1,14 +1,13 @@
 -- Statements of the laws that hold of values and of the value of a term.
 use Rattle.std.specs.Prelude.{◌≡◌, ◌≤◌, ◌↔◌, Bool, List, [], length, Some, Ok, IfSome, IsTrue, Decides, true, ◌∷◌, ◌++◌, map}
-use Rattle.std.specs.List.{list_all}
 use Rattle.smt_terms.specs.Sorts.{Sort, bool, array, Symbol, Variable}
-use Rattle.smt_terms.specs.Term.{Quantifier, Head, symbol, Term, apply, quantified, Terms, variable}
-use Rattle.smt_terms.specs.Rank.{shape_of, width, most_bits, rank, rank_quantifier, are_bindable, IsWellSorted, sort_of, sorts_of, is_sort, has_sorts}
+use Rattle.smt_terms.specs.Term.{Head, symbol, Term, variable}
+use Rattle.smt_terms.specs.Rank.{shape_of, width, most_bits, rank, rank_quantifier, are_bindable, IsWellSorted, sort_of, is_sort}
 use Rattle.smt_terms.specs.Takes.{Takes}
 use Rattle.smt_terms.specs.Free.{is_among, free}
-use Rattle.smt_terms.specs.Values.{Value, Sizes, same, all_same, select, is_value}
+use Rattle.smt_terms.specs.Values.{Value, Sizes, same, select, is_value}
 use Rattle.smt_terms.specs.Models.{Model, background, IsModel}
-use Rattle.smt_terms.specs.Val.{Env, head_value, val, vals}
+use Rattle.smt_terms.specs.Val.{Env, head_value, val}
 
 -- a symbol at arguments, the quantified variables counted
 abbrev pub symbol_at : Model → Env → Symbol → List Value → Value
@@ -53,27 +52,6 @@ ValueHasSort = (t : Term) (s : Sort) (m : Model) (e : Env) → sort_of t ≡ Som
 -- two models that agree on the free symbols of a term give it the same value
 abbrev pub FreeSymbolsDecide : Type 0
 FreeSymbolsDecide = (t : Term) (s : Sort) (m n : Model) (d e : Env) → sort_of t ≡ Some s → AgreeOn (free t) m n d e → val m t d ≡ val n t e
-
--- ---- terms that mean the same: they have one sort, and values that are the same in every model
-
-pub record MeanSame (s : Sort) (t u : Term) : Type 0 where
-  pub before : sort_of t ≡ Some s
-  pub after : sort_of u ≡ Some s
-  pub values : (m : Model) (e : Env) → IsModel m → IsEnv m.sizes e → IsTrue (same s m.sizes (val m t e) (val m u e))
-
--- operands one by one
-pub record OperandsMeanSame (ss : List Sort) (ts us : Terms) : Type 0 where
-  pub before : sorts_of ts ≡ Some ss
-  pub after : sorts_of us ≡ Some ss
-  pub values : (m : Model) (e : Env) → IsModel m → IsEnv m.sizes e → IsTrue (all_same ss m.sizes (vals m ts e) (vals m us e))
-
--- so does a head over operands that mean the same
-abbrev pub HeadsKeepMeaning : Type 0
-HeadsKeepMeaning = (h : Head) (ts us : Terms) (ss : List Sort) (s : Sort) → IsTrue (has_sorts h) → IsTrue (list_all is_sort ss) → rank h ss ≡ Ok s → OperandsMeanSame ss ts us → MeanSame s (apply h ts) (apply h us)
-
--- and a quantifier over bodies that do
-abbrev pub QuantifiersKeepMeaning : Type 0
-QuantifiersKeepMeaning = (q : Quantifier) (xs : List Variable) (t u : Term) → IsTrue (are_bindable xs) → MeanSame bool t u → MeanSame bool (quantified q xs t) (quantified q xs u)
 
 -- the operands of a quantifier's node: its variables, as constants, and a body that is a truth value
 pub record IsBinder (ts : List Term) (ss : List Sort) (s : Sort) : Type 0 where

@@ -8,6 +8,7 @@ pub mod Fresh
 pub mod FreshLaws
 pub mod Groups
 pub mod Keeps
+pub mod KeepsLaws
 pub mod Laws
 pub mod Made
 pub mod Models

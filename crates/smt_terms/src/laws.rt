@@ -1,8 +1,9 @@
 //! The laws of the definitions, each the contract of a function that does nothing.
 
 ghost use Rattle.smt_terms.specs.Equal.{name_eq, sort_eq, symbol_eq, variable_eq, op_eq, head_eq, term_eq};
-ghost use Rattle.smt_terms.specs.Laws.{TellsEqual, RankIsRelation, SameIsReflexive, SameIsSymmetric, SameIsTransitive, SameAtEveryKey, BindersHaveRank, SortsAreWellFormed, ValueHasSort, FreeSymbolsDecide, HeadsKeepMeaning, QuantifiersKeepMeaning};
+ghost use Rattle.smt_terms.specs.Laws.{TellsEqual, RankIsRelation, SameIsReflexive, SameIsSymmetric, SameIsTransitive, SameAtEveryKey, BindersHaveRank, SortsAreWellFormed, ValueHasSort, FreeSymbolsDecide};
 ghost use Rattle.smt_terms.specs.FreshLaws.{NumbersNameApart, NextIsFree, NextIsLeast, NextIsLater, DrawnIsGone, GoneStaysGone};
+ghost use Rattle.smt_terms.specs.KeepsLaws.{HeadsKeep, QuantifiersKeep};
 ghost use Rattle.smt_terms.specs.SubstLaws.{SubstKeepsMeaning, SubstGivesLater};
 
 /// Each test of equality says yes exactly at equal arguments.
@@ -50,10 +51,10 @@ pub fn free_symbols_decide()
     ensures { FreeSymbolsDecide }
 {}
 
-/// Terms that mean the same may stand for one another, below every head and below every quantifier.
-pub fn meaning_is_kept_in_context()
-    ensures heads { HeadsKeepMeaning }
-    ensures quantifiers { QuantifiersKeepMeaning }
+/// What keeps its value may be put in place of what it was made of, below every head and below every quantifier.
+pub fn values_are_kept_in_context()
+    ensures heads { HeadsKeep }
+    ensures quantifiers { QuantifiersKeep }
 {}
 
 /// The next fresh name is that of the least number whose name isn't taken, and a name that was drawn isn't drawn again.
