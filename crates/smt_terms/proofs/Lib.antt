@@ -11,6 +11,7 @@ pub mod Fresh
 mod Lookups
 pub mod Made
 pub mod Numeral
+pub mod Operands
 mod Operators
 mod OverValues
 pub mod Ranked
