@@ -1,5 +1,6 @@
 pub mod Aig
 pub mod AigShape
+mod AtTruth
 mod Duals
 pub mod Nnf
 pub mod NnfShape
