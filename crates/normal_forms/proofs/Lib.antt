@@ -5,3 +5,4 @@ mod Duals
 pub mod Nnf
 pub mod NnfShape
 mod Rows
+pub mod Shannon
