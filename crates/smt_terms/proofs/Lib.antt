@@ -2,6 +2,7 @@ pub mod Agree
 pub mod Among
 pub mod Binders
 pub mod BitLengths
+pub mod BoolOperands
 pub mod Built
 pub mod Connected
 pub mod ConstantTerms
