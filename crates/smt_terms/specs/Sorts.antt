@@ -1,6 +1,6 @@
 -- Sorts and symbols: SMT-LIB 2.6, sections 3.5 and 3.6, with the sorts of the theories Core, Ints,
 -- FixedSizeBitVectors and ArraysEx and the free sorts of arity 0.
-use Rattle.std.specs.Prelude.{◌≡◌, ℕ, List}
+use Rattle.std.specs.Prelude.{ℕ, List}
 
 -- a name, as the list of its bytes, without bars
 abbrev pub Name : Type 0

@@ -1,7 +1,7 @@
 -- Terms: SMT-LIB 2.6, sections 3.6 and 5.3.
-use Rattle.std.specs.Prelude.{ℕ, List, [], ◌∷◌}
+use Rattle.std.specs.Prelude.{List, [], ◌∷◌}
 use Rattle.smt_terms.specs.declared.op.Op.{Op}
-use Rattle.smt_terms.specs.Sorts.{Name, Sort, Symbol, Variable}
+use Rattle.smt_terms.specs.Sorts.{Sort, Symbol, Variable}
 
 pub data Quantifier : Type 0 where
   universal : Quantifier

@@ -6,6 +6,7 @@
 #![tactic(auto)]
 
 pub mod ids;
+pub mod laws;
 pub mod op;
 
 pub use ids::{NodeId, SortId, SymId};

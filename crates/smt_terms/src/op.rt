@@ -1,6 +1,8 @@
 //! The node operators: those of the theories Core, Ints, FixedSizeBitVectors (with the operators of the logic
 //! QF_BV) and ArraysEx that a formula's nodes carry, constants, symbols and quantifiers.
 
+ghost use Rattle.std.specs.Prelude.{◌≡◌, ◌↔◌, IsTrue};
+
 use crate::ids::{SortId, SymId};
 
 /// The operator of a node. Written operators that are other ones in disguise (`>=`, `bvnand`, `(_ repeat i)` ..)
@@ -72,4 +74,13 @@ pub enum Op {
     RotR(u32),
     Select,
     Store,
+}
+
+impl Op {
+    /// Whether this is that operator, with the same parameters.
+    pub fn is(self, other: Op) -> bool
+        ensures { IsTrue result ↔ (self ≡ other) }
+    {
+        self == other
+    }
 }

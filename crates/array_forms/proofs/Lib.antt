@@ -1,0 +1,2 @@
+pub mod ReadsKeep
+mod Rows

@@ -1,0 +1,4 @@
+mod Aig
+mod Nnf
+mod Prenex
+mod Quantifiers

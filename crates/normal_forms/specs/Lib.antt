@@ -1,0 +1,4 @@
+pub mod Aig
+pub mod Nnf
+pub mod Prenex
+pub mod Quantifiers

@@ -1,0 +1,5 @@
+use Rattle.smt_terms.proofs.Substitution.{subst-keeps_meaning, subst-gives_later}
+use Rattle.smt_terms.proofs.laws.substitution_keeps_meaning.Goals as goal
+
+pub returns : goal.returns
+returns c = record { meaning = subst-keeps_meaning; later = subst-gives_later }
