@@ -1,0 +1,11 @@
+//! Where texts come from and where they go: sources of named texts and sinks of bytes, in memory and
+//! on the host, with counts of their faults, and the calls that move a whole text.
+#![tactic(auto)]
+
+pub mod inputs;
+pub mod sink;
+pub mod transfer;
+
+pub use inputs::{Inputs, ReadFault, StartFault};
+pub use sink::{Failed, Sink};
+pub use transfer::{LONGEST_TEXT, read_all, send_all};
