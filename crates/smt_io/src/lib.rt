@@ -2,10 +2,13 @@
 //! on the host, with counts of their faults, and the calls that move a whole text.
 #![tactic(auto)]
 
+mod calls;
 pub mod inputs;
+pub mod mem_sink;
 pub mod sink;
 pub mod transfer;
 
 pub use inputs::{Inputs, ReadFault, StartFault};
+pub use mem_sink::MemSink;
 pub use sink::{Failed, Sink};
 pub use transfer::{LONGEST_TEXT, read_all, send_all};
