@@ -5,10 +5,12 @@
 mod calls;
 pub mod inputs;
 pub mod mem_sink;
+pub mod pieces;
 pub mod sink;
 pub mod transfer;
 
 pub use inputs::{Inputs, ReadFault, StartFault};
 pub use mem_sink::MemSink;
+pub use pieces::{Pieces, send_pieces};
 pub use sink::{Failed, Sink};
 pub use transfer::{LONGEST_TEXT, read_all, send_all};

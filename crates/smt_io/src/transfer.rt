@@ -114,7 +114,7 @@ pub fn send_all<S: Sink>(sink: &mut S, bytes: &[u8]) -> Result<(), Failed>
 }
 
 // Writes all bytes, at least one in each turn.
-fn write_whole<S: Sink>(sink: &mut S, bytes: &[u8]) -> Result<(), Failed>
+pub(crate) fn write_whole<S: Sink>(sink: &mut S, bytes: &[u8]) -> Result<(), Failed>
     ensures ok { OnOk result (S.sent sink.new ≡ with_bytes (S.sent sink.old) bytes.now) }
     ensures prefix { OnErr result ((n : ℕ) × (n ≤ length bytes.now)
         × (S.sent sink.new ≡ with_bytes (S.sent sink.old) (take n bytes.now))) }
