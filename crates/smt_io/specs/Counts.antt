@@ -4,9 +4,9 @@ use Rattle.std.specs.Prelude.{ℕ, ◌+◌, ◌≤◌, min, max}
 abbrev pub last_count : ℕ
 last_count = 18446744073709551615
 
--- a count raised by n
+-- a count raised by n, at most to its last value
 abbrev pub raised_by : ℕ → ℕ → ℕ
-raised_by n count = min (count + n) last_count
+raised_by n count = max count (min (count + n) last_count)
 
 -- a count raised by one
 abbrev pub raised : ℕ → ℕ
@@ -14,7 +14,7 @@ raised count = raised_by 1 count
 
 -- the count rose by n or more, or stands at its last value
 abbrev pub RoseBy : ℕ → ℕ → ℕ → Type 0
-RoseBy n before now = raised_by n before ≤ now
+RoseBy n before now = min (before + n) last_count ≤ now
 
 -- the count is greater now than before, or stands at its last value
 abbrev pub Rose : ℕ → ℕ → Type 0

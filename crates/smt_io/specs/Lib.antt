@@ -1,4 +1,6 @@
 pub mod Calls
 pub mod Counts
+pub mod Memory
 pub mod MemorySink
+pub mod NameCounts
 pub mod Told

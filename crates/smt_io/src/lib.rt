@@ -3,13 +3,16 @@
 #![tactic(auto)]
 
 mod calls;
+mod fault_counts;
 pub mod inputs;
+pub mod mem_inputs;
 pub mod mem_sink;
 pub mod pieces;
 pub mod sink;
 pub mod transfer;
 
 pub use inputs::{Inputs, ReadFault, StartFault};
+pub use mem_inputs::MemInputs;
 pub use mem_sink::MemSink;
 pub use pieces::{Pieces, send_pieces};
 pub use sink::{Failed, Sink};
