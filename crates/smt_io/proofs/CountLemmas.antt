@@ -1,13 +1,14 @@
 -- Counts of faults by name, as one of them is raised or a place is added.
-use Rattle.std.proofs.Common.{◌≡◌, ℕ, zero, suc, ◌+◌, ◌<◌, ◌≤◌, Bool, true, false, cond, List, [], ◌∷◌, ◌++◌, length, get_or, Option, None, Some, refl, sym, ap, subst, ◌∙◌, arith}
-use Rattle.std.proofs.Math.ListN.{set}
+use Rattle.std.proofs.Common.{◌≡◌, ℕ, zero, suc, ◌+◌, ◌<◌, ◌≤◌, Bool, true, false, cond, List, [], ◌∷◌, ◌++◌, length, get_or, Option, None, Some, unwrap_or, zero-add, refl, sym, ap, subst, ◌∙◌, arith}
+use Rattle.std.proofs.Math.ListN.{set, get_or-append}
+use Rattle.std.proofs.Math.Seq.{get_or-append_seam}
 use Rattle.std.proofs.lemmas.List.{get_or-set_same}
 use Rattle.std.proofs.lemmas.Slice.Eq.{bytes_eq-Decides}
 use Rattle.std.specs.List.{position_from}
-use Rattle.std.specs.Option.{option_map_or}
+use Rattle.std.specs.Option.{option_map, option_map_or}
 use Rattle.std.specs.Str.{bytes_eq}
 use Rattle.smt_io.specs.Counts.{NeverFalls, Rose, raised}
-use Rattle.smt_io.specs.NameCounts.{NamedCount, NameCounts, no_place, at_place, place_of, count_of, raised_place, raise_at}
+use Rattle.smt_io.specs.NameCounts.{NamedCount, NameCounts, no_place, at_place, place_of, count_of, raised_place, raise_at, with_new_place, IsPlaceOfName}
 
 -- the test of a name
 abbrev pub named : List ℕ → NamedCount → Bool
@@ -117,3 +118,76 @@ rose_here c (Some i) name e =
 -- the count of the name that is at the raised place rose
 pub count_of-rose : (old new : NameCounts) (place : Option ℕ) (name : List ℕ) → new ≡ raise_at place old → place_of name old ≡ place → Rose (count_of name old) (count_of name new)
 count_of-rose old new place name e at = subst (λ (c : NameCounts). Rose (count_of name old) (count_of name c)) (sym e) (rose_here old place name at)
+
+-- a search in a list with one more behind it
+appended_some_cons : (t : NamedCount → Bool) (k : ℕ) (ps : List NamedCount) (y : NamedCount) (j : ℕ) (b : Bool)
+    → cond b (Some k) (position_from t (k + 1) ps) ≡ Some j → (position_from t (k + 1) ps ≡ Some j → position_from t (k + 1) (ps ++ y ∷ []) ≡ Some j)
+    → cond b (Some k) (position_from t (k + 1) (ps ++ y ∷ [])) ≡ Some j
+appended_some_cons t k ps y j true e later = e
+appended_some_cons t k ps y j false e later = later e
+
+appended_some : (t : NamedCount → Bool) (k : ℕ) (ps : List NamedCount) (y : NamedCount) (j : ℕ) → position_from t k ps ≡ Some j → position_from t k (ps ++ y ∷ []) ≡ Some j
+appended_some t k [] y j e = absurd (cc)
+appended_some t k (p ∷ ps) y j e = appended_some_cons t k ps y j (t p) e (appended_some t (k + 1) ps y j)
+
+appended_none_cons : (k : ℕ) (q r : Option ℕ) (b : Bool) (n : ℕ) (c : Bool) → cond b (Some k) q ≡ None → (q ≡ None → r ≡ cond c (Some (k + 1 + n)) None)
+    → cond b (Some k) r ≡ cond c (Some (k + suc n)) None
+appended_none_cons k q r true n c e later = absurd (cc)
+appended_none_cons k q r false n c e later = later e ∙ ap (λ m. cond c (Some m) None) (let same : k + 1 + n ≡ k + suc n = omega arith in same)
+
+appended_none : (t : NamedCount → Bool) (k : ℕ) (ps : List NamedCount) (y : NamedCount) → position_from t k ps ≡ None
+    → position_from t k (ps ++ y ∷ []) ≡ cond (t y) (Some (k + length ps)) None
+appended_none t k [] y e = ap (λ m. cond (t y) (Some m) None) (let same : k ≡ k + 0 = omega arith in same)
+appended_none t k (p ∷ ps) y e = appended_none_cons k (position_from t (k + 1) ps) (position_from t (k + 1) (ps ++ y ∷ [])) (t p) (length ps) (t y) e (appended_none t (k + 1) ps y)
+
+-- an added name is at the end
+pub place_of-added : (name : List ℕ) (c : NameCounts) → place_of name c ≡ None → place_of name (with_new_place name c) ≡ Some (length c.places)
+place_of-added name c e =
+    appended_none (named name) 0 c.places (record { name = name; faults = c.others }) e
+    ∙ ap (λ b. cond b (Some (0 + length c.places)) None) ((bytes_eq-Decides name name).1 refl)
+    ∙ ap Some (let same : 0 + length c.places ≡ length c.places = omega arith in same)
+
+added_here : (c : NameCounts) (name : List ℕ) (b : Bool) → option_map_or (λ j. (at_place j (with_new_place name c)).faults) (cond b (Some (0 + length c.places)) None) c.others ≡ c.others
+added_here c name true =
+    ap (λ i. (at_place i (with_new_place name c)).faults) (zero-add (length c.places))
+    ∙ ap (λ (p : NamedCount). p.faults) (get_or-append_seam c.places (record { name = name; faults = c.others }) [] no_place)
+added_here c name false = refl
+
+added_of : (c : NameCounts) (name n : List ℕ) (q : Option ℕ) → place_of n c ≡ q → count_of n (with_new_place name c) ≡ option_map_or (λ j. (at_place j c).faults) q c.others
+added_of c name n None e =
+    ap (λ q. option_map_or (λ j. (at_place j (with_new_place name c)).faults) q c.others) (appended_none (named n) 0 c.places (record { name = name; faults = c.others }) e)
+    ∙ added_here c name (bytes_eq name n)
+added_of c name n (Some j) e =
+    ap (λ q. option_map_or (λ j. (at_place j (with_new_place name c)).faults) q c.others) (appended_some (named n) 0 c.places (record { name = name; faults = c.others }) j e)
+    ∙ ap (λ (p : NamedCount). p.faults) (get_or-append c.places (record { name = name; faults = c.others } ∷ []) no_place j (place_of-found n c j e).0)
+
+-- no count changes where a name is added
+pub count_of-added : (c : NameCounts) (name n : List ℕ) → count_of n (with_new_place name c) ≡ count_of n c
+count_of-added c name n = added_of c name n (place_of n c) refl
+
+-- a place was made where there was none, and then a count raised
+pub count_of-falls_later : (old mid new : NameCounts) (place : Option ℕ) (n : List ℕ) → count_of n mid ≡ count_of n old → new ≡ raise_at place mid → NeverFalls (count_of n old) (count_of n new)
+count_of-falls_later old mid new place n kept e = subst (λ (m : ℕ). NeverFalls m (count_of n new)) kept (count_of-falls mid new place n e)
+
+pub count_of-rose_later : (old mid new : NameCounts) (place : Option ℕ) (n : List ℕ) → count_of n mid ≡ count_of n old → new ≡ raise_at place mid → place_of n mid ≡ place → Rose (count_of n old) (count_of n new)
+count_of-rose_later old mid new place n kept e at = subst (λ (m : ℕ). Rose m (count_of n new)) kept (count_of-rose mid new place n e at)
+
+-- the place of a name has it
+pub place_of-place : (name : List ℕ) (c : NameCounts) (i : ℕ) → place_of name c ≡ Some i → place_of (at_place i c).name c ≡ Some i
+place_of-place name c i e = ap (λ n. place_of n c) (place_of-found name c i e).1 ∙ e
+
+named_raised : (c : NameCounts) (place q : Option ℕ) → IsPlaceOfName q c → IsPlaceOfName q (raise_at place c)
+named_raised c place None h = tt
+named_raised c place (Some i) h = ap (λ n. place_of n (raise_at place c)) (name_at-raise_at c place i) ∙ place_of-raise_at (at_place i c).name place c ∙ h
+
+pub IsPlaceOfName-raised : (old new : NameCounts) (place q : Option ℕ) → new ≡ raise_at place old → IsPlaceOfName q old → IsPlaceOfName q new
+IsPlaceOfName-raised old new place q e h = subst (λ (c : NameCounts). IsPlaceOfName q c) (sym e) (named_raised old place q h)
+
+-- the name of the text that is begun has its place
+pub begun_place : (c : NameCounts) (begun : Option ℕ) (i : ℕ) → begun ≡ Some i → IsPlaceOfName begun c
+    → place_of (unwrap_or (option_map (λ j. (at_place j c).name) begun) []) c ≡ Some i
+begun_place c None i e h = absurd (cc)
+begun_place c (Some j) i e h = h ∙ e
+
+pub begun_within : (c : NameCounts) (begun : Option ℕ) (i : ℕ) → begun ≡ Some i → IsPlaceOfName begun c → i < length c.places
+begun_within c begun i e h = (place_of-found _ c i (begun_place c begun i e h)).0

@@ -1,5 +1,6 @@
 pub mod Calls
 pub mod Counts
+pub mod Host
 pub mod Memory
 pub mod MemorySink
 pub mod NameCounts

@@ -1,5 +1,5 @@
 -- Counts of faults by name: one for each name that has a place, and one that all other names share.
-use Rattle.std.specs.Prelude.{ℕ, ◌+◌, Option, None, Some, List, [], ◌∷◌, ◌++◌, slice_set, slice_index_or}
+use Rattle.std.specs.Prelude.{◌≡◌, ℕ, ◌+◌, IfSome, Option, None, Some, List, [], ◌∷◌, ◌++◌, slice_set, slice_index_or}
 use Rattle.std.specs.List.{position_from}
 use Rattle.std.specs.Option.{option_map_or}
 use Rattle.std.specs.Str.{bytes_eq}
@@ -46,3 +46,7 @@ after_fault name c = raise_at (place_of name c) c
 -- with a place behind the others for a name, whose count goes on from the shared one
 abbrev pub with_new_place : List ℕ → NameCounts → NameCounts
 with_new_place name c = record { places = c.places ++ record { name = name; faults = c.others } ∷ []; others = c.others }
+
+-- the place is that of the name which it has
+abbrev pub IsPlaceOfName : Option ℕ → NameCounts → Type 0
+IsPlaceOfName place c = IfSome place (λ i. place_of (at_place i c).name c ≡ Some i)

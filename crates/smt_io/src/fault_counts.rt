@@ -1,7 +1,7 @@
 //! Counts of faults by name.
-ghost use Rattle.std.specs.Prelude.{◌≡◌, ◌<◌, None, length, OnOk, OnErr, IfSome};
+ghost use Rattle.std.specs.Prelude.{◌≡◌, ℕ, ◌<◌, List, IfOk, None, Some, length, OnOk, OnErr, IfSome};
 ghost use Rattle.std.specs.Str.{bytes_eq};
-ghost use Rattle.smt_io.specs.NameCounts.{no_counts, place_of, raised_place, raise_at, with_new_place};
+ghost use Rattle.smt_io.specs.NameCounts.{no_counts, place_of, count_of, raised_place, raise_at, with_new_place};
 
 use std::alloc::{AllocError, Global};
 use std::marker::Model;
@@ -95,5 +95,25 @@ impl FaultCounts {
         let faults = self.others;
         self.places.push(Place { name, faults })?;
         Ok(())
+    }
+
+    // The place of a name, which is made where it has none. No count changes.
+    pub(crate) fn place_for(&mut self, name: &str) -> Result<usize, AllocError>
+        ensures place { IfOk result (λ i. place_of name.now self.new ≡ Some i) }
+        ensures within { IfOk result (λ i. i < length self.new.places) }
+        ensures counts { (n : List ℕ) → count_of n self.new ≡ count_of n self.old }
+    {
+        if let Some(place) = self.place(name) {
+            return Ok(place);
+        }
+        let place = self.len();
+        self.add(name)?;
+        Ok(place)
+    }
+
+    fn len(&self) -> usize
+        ensures { result ≡ length self.now.places }
+    {
+        self.places.len()
     }
 }
