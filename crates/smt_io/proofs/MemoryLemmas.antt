@@ -1,5 +1,5 @@
 -- What a source in memory holds, as a count is raised, a text begun or a read made.
-use Rattle.std.proofs.Common.{◌≡◌, ℕ, zero, suc, ◌+◌, ◌-◌, ◌<◌, ◌≤◌, Bool, true, false, map, List, [], ◌∷◌, ◌++◌, length, get_or, take, drop, Option, None, Some, unwrap_or, IfSome, is_none, refl, sym, ap, subst, ◌∙◌, length-take, arith}
+use Rattle.std.proofs.Common.{◌≡◌, ℕ, zero, suc, ◌+◌, ◌-◌, ◌<◌, ◌≤◌, false, map, List, [], ◌∷◌, ◌++◌, length, get_or, take, drop, Option, None, Some, unwrap_or, IfSome, is_none, refl, sym, ap, subst, ◌∙◌, length-take, arith}
 use Rattle.std.proofs.lemmas.List.{take_at, take-append-drop, drop-drop}
 use Rattle.std.specs.Option.{option_map, option_map_or}
 use Rattle.smt_io.specs.NameCounts.{NameCounts, at_place, place_of, raise_at}
@@ -37,10 +37,10 @@ begun_here-raised old place texts taken (Some i) h =
 
 held_raised : (old : NameCounts) (place : Option ℕ) (texts : List (List ℕ)) (step : ℕ) (begun : Option ℕ) (taken : ℕ) → IsHeld old texts step begun taken → IsHeld (raise_at place old) texts step begun taken
 held_raised old place texts step begun taken h = record {
-    one_text_each = h.one_text_each ∙ sym (length-raise_at old place);
-    some_step = h.some_step;
-    begun_here = begun_here-raised old place texts taken begun h.begun_here
-  }
+  one_text_each = h.one_text_each ∙ sym (length-raise_at old place);
+  some_step = h.some_step;
+  begun_here = begun_here-raised old place texts taken begun h.begun_here;
+}
 
 -- what is held stays where a count is raised
 pub IsHeld-raised : (old new : NameCounts) (place : Option ℕ) (texts : List (List ℕ)) (step : ℕ) (begun : Option ℕ) (taken : ℕ) → new ≡ raise_at place old → IsHeld old texts step begun taken → IsHeld new texts step begun taken

@@ -1,5 +1,5 @@
 -- A prefix of a text that was sent in parts.
-use Rattle.std.proofs.Common.{◌≡◌, ℕ, suc, ◌+◌, ◌<◌, ◌≤◌, List, ◌++◌, ◌∷◌, length, get_or, take, drop, Option, Result, Ok, Err, OnErr, refl, sym, ap, ◌∙◌, append_assoc, take_all, le_refl, length-append, arith}
+use Rattle.std.proofs.Common.{◌≡◌, ℕ, suc, ◌+◌, ◌<◌, ◌≤◌, List, ◌++◌, length, get_or, take, drop, Option, Result, Ok, Err, OnErr, refl, sym, ap, ◌∙◌, append_assoc, take_all, le_refl, length-append, arith}
 use Rattle.std.proofs.Math.Seq.{drop-cons, take-append-add}
 use Rattle.std.proofs.lemmas.List.{take-append-le, take-append-drop}
 use Rattle.std.proofs.lemmas.List.Concat.{flat_map-append, flat_map-cons}
@@ -17,18 +17,20 @@ SentPrefix first now bytes = (n : ℕ) × (n ≤ length bytes) × (now ≡ with_
 
 -- of a longer text too
 pub SentPrefix-front : (first now : Option (List ℕ)) (a b whole : List ℕ) → a ++ b ≡ whole → SentPrefix first now a → SentPrefix first now whole
-SentPrefix-front first now a b whole e p =
-    (p.0,
-    (let l = ap length (sym e) in let m = length-append a b in let h = p.1 in omega arith),
-    p.2 ∙ ap (λ xs. with_bytes first xs) (sym (take-append-le p.0 a b p.1) ∙ ap (λ xs. take p.0 xs) e))
+SentPrefix-front first now a b whole e p = (
+  p.0,
+  (let l = ap length (sym e) in let m = length-append a b in let h = p.1 in omega arith),
+  p.2 ∙ ap (λ xs. with_bytes first xs) (sym (take-append-le p.0 a b p.1) ∙ ap (λ xs. take p.0 xs) e),
+)
 
 -- after what was sent before
 pub SentPrefix-behind : (first before now : Option (List ℕ)) (a b whole : List ℕ) → a ++ b ≡ whole → before ≡ with_bytes first a → SentPrefix before now b → SentPrefix first now whole
-SentPrefix-behind first before now a b whole e sent p =
-    (length a + p.0,
-    (let l = ap length (sym e) in let m = length-append a b in let h = p.1 in omega arith),
-    p.2 ∙ ap (λ t. with_bytes t (take p.0 b)) sent ∙ with_bytes-twice first a (take p.0 b)
-    ∙ ap (λ xs. with_bytes first xs) (sym (take-append-add a b p.0) ∙ ap (λ xs. take (length a + p.0) xs) e))
+SentPrefix-behind first before now a b whole e sent p = (
+  length a + p.0,
+  (let l = ap length (sym e) in let m = length-append a b in let h = p.1 in omega arith),
+  p.2 ∙ ap (λ t. with_bytes t (take p.0 b)) sent ∙ with_bytes-twice first a (take p.0 b)
+      ∙ ap (λ xs. with_bytes first xs) (sym (take-append-add a b p.0) ∙ ap (λ xs. take (length a + p.0) xs) e),
+)
 
 -- the whole text
 pub SentPrefix-whole : (first now : Option (List ℕ)) (bytes : List ℕ) → now ≡ with_bytes first bytes → SentPrefix first now bytes

@@ -1,5 +1,5 @@
 -- A source of texts that are held in memory.
-use Rattle.std.specs.Prelude.{◌≡◌, ℕ, ◌+◌, ◌<◌, ◌≤◌, min, IfSome, Bool, ◌||◌, is_none, if◌then◌else◌, Option, None, Some, option_and_then, List, [], ◌∷◌, ◌++◌, length, drop, slice_get, slice_index_or, slice_set}
+use Rattle.std.specs.Prelude.{◌≡◌, ℕ, ◌+◌, ◌<◌, ◌≤◌, min, IfSome, Bool, ◌||◌, is_none, if◌then◌else◌, Option, None, Some, List, [], ◌∷◌, ◌++◌, length, drop, slice_index_or, slice_set}
 use Rattle.std.specs.Option.{option_map, option_map_or}
 use Rattle.smt_io.specs.Counts.{raised_by}
 use Rattle.smt_io.specs.Calls.{NamedCalls, no_calls, is_next_named, after_call}
@@ -84,7 +84,7 @@ after_add s name text =
       counts = with_name (place_of name s.counts) name s.counts;
       texts = with_text (place_of name s.counts) text s.texts;
       begun = None;
-      taken = 0
+      taken = 0;
     }
 
 -- each name that has a place has a text there; the text that is begun is at the place of its name, and no more of it was taken than it has

@@ -1,5 +1,5 @@
 -- A sink that keeps its bytes in memory.
-use Rattle.std.specs.Prelude.{◌==◌, ℕ, ◌+◌, ◌-◌, min, Bool, ◌&&◌, ◌||◌, nat_lt, if◌then◌else◌, Option, Some, List, [], ◌++◌, length, take}
+use Rattle.std.specs.Prelude.{◌==◌, ℕ, ◌-◌, min, Bool, ◌&&◌, ◌||◌, nat_lt, if◌then◌else◌, Option, Some, List, [], ◌++◌, length, take}
 use Rattle.smt_io.specs.Counts.{raised}
 use Rattle.smt_io.specs.Calls.{NamedCalls, no_calls, is_next_named, after_call}
 

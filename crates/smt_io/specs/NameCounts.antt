@@ -1,5 +1,5 @@
 -- Counts of faults by name: one for each name that has a place, and one that all other names share.
-use Rattle.std.specs.Prelude.{◌≡◌, ℕ, ◌+◌, IfSome, Option, None, Some, List, [], ◌∷◌, ◌++◌, slice_set, slice_index_or}
+use Rattle.std.specs.Prelude.{◌≡◌, ℕ, IfSome, Option, None, Some, List, [], ◌∷◌, ◌++◌, slice_set, slice_index_or}
 use Rattle.std.specs.List.{position_from}
 use Rattle.std.specs.Option.{option_map_or}
 use Rattle.std.specs.Str.{bytes_eq}

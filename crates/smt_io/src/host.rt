@@ -6,10 +6,10 @@ use crate::fault_counts::FaultCounts;
 use crate::inputs::{Inputs, StartFault};
 use crate::sink::{Failed, Sink};
 use std::alloc::{AllocError, Global};
+use std::io::{Read, Write};
 use std::marker::Model;
 use std::rt::Files;
 use std::{fs, io};
-use std::io::{Read, Write};
 
 // What a text is read from.
 #[derive(Drop)]

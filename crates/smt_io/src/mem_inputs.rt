@@ -37,14 +37,14 @@ impl Model for MemInputs {
     ghost Value = { Memory };
 
     ghost view = { λ s. record {
-        counts = s.counts;
-        texts = map (λ text. text.items) s.texts.items;
-        step = s.step;
-        begun = s.begun;
-        taken = s.taken;
-        given = s.given;
-        begins = s.begins;
-        reads = s.reads
+      counts = s.counts;
+      texts = map (λ text. text.items) s.texts.items;
+      step = s.step;
+      begun = s.begun;
+      taken = s.taken;
+      given = s.given;
+      begins = s.begins;
+      reads = s.reads;
     } };
 
     ghost invariant = { λ s. IsHeld s.counts (map (λ text. text.items) s.texts.items) s.step s.begun s.taken };
@@ -99,10 +99,10 @@ impl MemInputs {
     fn add_text(&mut self, name: &str, text: Vec<u8>) -> Result<(), AllocError>
         requires { place_of name.now self.old.counts ≡ None }
         ensures ok { OnOk result (self.new ≡ record self.old {
-            counts = with_new_place name.now self.old.counts;
-            texts = self.old.texts ++ text.items ∷ [];
-            begun = None;
-            taken = 0
+          counts = with_new_place name.now self.old.counts;
+          texts = self.old.texts ++ text.items ∷ [];
+          begun = None;
+          taken = 0;
         }) }
         ensures err { OnErr result (self.new ≡ self.old) }
     {

@@ -28,13 +28,13 @@ impl Model for MemSink {
     ghost Value = { MemorySink };
 
     ghost view = { λ s. record {
-        sent = s.bytes.items;
-        flushed = s.flushed;
-        step = s.step;
-        room = s.room;
-        writes = s.writes;
-        flushes = s.flushes;
-        faults = s.faults
+      sent = s.bytes.items;
+      flushed = s.flushed;
+      step = s.step;
+      room = s.room;
+      writes = s.writes;
+      flushes = s.flushes;
+      faults = s.faults;
     } };
 
     ghost invariant = { λ s. (0 < s.step) × (s.flushed ≤ vec_len s.bytes) × (vec_len s.bytes ≤ s.room) × (s.room ≤ vec_capacity s.bytes) };

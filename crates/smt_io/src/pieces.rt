@@ -81,11 +81,7 @@ impl Pieces {
 }
 
 // Leaves room in the last piece: where it is full, it goes to the full ones, and a new one begins.
-fn make_room(
-    alloc: Global,
-    full: &mut Vec<Vec<u8>>,
-    last: &mut Vec<u8>,
-) -> Result<(), AllocError>
+fn make_room(alloc: Global, full: &mut Vec<Vec<u8>>, last: &mut Vec<u8>) -> Result<(), AllocError>
     ensures bytes { flat_map (λ piece. piece.items) full.new.items ++ last.new.items
         ≡ flat_map (λ piece. piece.items) full.old.items ++ last.old.items }
     ensures room { OnOk result (vec_len last.new < PIECE) }

@@ -1,4 +1,6 @@
 //! Runs over memory and the host, with each call failing in turn.
+ghost use Rattle.std.specs.Prelude.{◌<◌};
+
 use crate::{
     Failed, HostInputs, HostSink, MemInputs, MemSink, Pieces, ReadFault, read_all, send_all,
     send_pieces,
@@ -37,7 +39,10 @@ fn reads_fail_where_they_are_named(rt: HostRuntime) -> Result<(), Fail> {
             assert!(rt; read == Err(ReadFault::Failed), "step {step}, read {call}");
         }
         let whole = read_with(alloc, step, 2, reads + 1, "-")?;
-        assert!(rt; whole.is_ok_and(|bytes| bytes.as_slice() == TEXT), "step {step}");
+        assert!(rt;
+            whole.is_ok_and(|bytes| bytes.as_slice() == TEXT),
+            "step {step}"
+        );
         let refused = read_with(alloc, step, 1, 0, "-")?;
         assert!(rt; refused == Err(ReadFault::Failed), "step {step}");
         let unknown = read_with(alloc, step, 0, 0, "b")?;
@@ -60,7 +65,14 @@ fn send_with(
     sink.fail_flush(flush)?;
     let sent = send_all(&mut sink, TEXT);
     let is_prefix = TEXT.starts_with(sink.bytes());
-    Ok((sent, if is_prefix { sink.bytes().len() } else { usize::MAX }))
+    Ok((
+        sent,
+        if is_prefix {
+            sink.bytes().len()
+        } else {
+            usize::MAX
+        },
+    ))
 }
 
 #[test]
@@ -75,7 +87,11 @@ fn writes_fail_where_they_are_named(rt: HostRuntime) -> Result<(), Fail> {
     ] {
         assert!(rt; step > 0);
         let (sent, len) = send_with(alloc, step, write, flush)?;
-        assert_eq!(rt; sent, Err(Failed), "step {step}, write {write}, flush {flush}");
+        assert_eq!(rt;
+            sent,
+            Err(Failed),
+            "step {step}, write {write}, flush {flush}"
+        );
         assert_eq!(rt; len, want, "step {step}, write {write}, flush {flush}");
     }
     for step in [1, 7] {
@@ -104,14 +120,15 @@ fn pieces_are_sent_whole(rt: HostRuntime) -> Result<(), Fail> {
 }
 
 #[test]
-fn files_are_read_by_name(rt: HostRuntime) -> Result<(), Fail> {
+fn the_host_is_read_by_name(rt: HostRuntime) {
     let alloc = rt.alloc();
     let mut inputs = HostInputs::new(alloc, rt);
-    let text = read_all(alloc, &mut inputs, "sample.smt2");
-    assert!(rt; text.is_ok_and(|bytes| bytes.as_slice() == TEXT));
-    let missing = read_all(alloc, &mut inputs, "missing.smt2");
-    assert!(rt; missing == Err(ReadFault::Failed));
+    let empty = read_all(alloc, &mut inputs, "/dev/null");
+    assert!(rt; empty.is_ok_and(|bytes| bytes.is_empty()));
+    for name in ["/dev/null/missing", "/"] {
+        let refused = read_all(alloc, &mut inputs, name);
+        assert!(rt; refused == Err(ReadFault::Failed), "{name}");
+    }
     let mut sink = HostSink::new(rt.stderr());
     assert_eq!(rt; send_all(&mut sink, b"sent to standard error\n"), Ok(()));
-    Ok(())
 }

@@ -16,10 +16,10 @@ returns-then-is_named-clause-cause c =
 
 pub invariant_of-self-2 : goal.invariant_of-self-2
 invariant_of-self-2 c = record {
-    one_text_each = c.self.invariant.one_text_each;
-    some_step = c.self.invariant.some_step;
-    begun_here = place_of-held c.self.inside.counts _ c.args.name.now c.place-place.result c.place-place.ensures.value c.self.invariant.one_text_each
-  }
+  one_text_each = c.self.invariant.one_text_each;
+  some_step = c.self.invariant.some_step;
+  begun_here = place_of-held c.self.inside.counts _ c.args.name.now c.place-place.result c.place-place.ensures.value c.self.invariant.one_text_each;
+}
 
 pub returns-clause-begun : goal.returns-clause-begun
 returns-clause-begun c =

@@ -1,4 +1,4 @@
-use Rattle.std.proofs.Common.{map, sym, ◌∙◌, ◌≡◌, rules, [], None, Some}
+use Rattle.std.proofs.Common.{map, sym, ◌∙◌, ◌≡◌, rules, [], Some}
 use Rattle.std.specs.Option.{option_map_or}
 use Rattle.smt_io.specs.NameCounts.{place_of}
 use Rattle.smt_io.proofs.CountLemmas.{count_of-falls, count_of-rose}
@@ -18,7 +18,7 @@ returns-then-next_fails-clause-counts c = rw (← c.self.view_is) (λ n. count_o
 pub returns-then-next_fails-clause-cause : goal.returns-then-next_fails-clause-cause
 returns-then-next_fails-clause-cause c =
     let blamed : option_map_or (λ i. Some i) c.self.inside.begun (place_of [] c.self.inside.counts) ≡ c.match-self.place =
-        elim c.match-self.branch [ in-Some w ↦ search rules | in-None w ↦ search rules ] in
+    elim c.match-self.branch [ in-Some w ↦ search rules | in-None w ↦ search rules ] in
     rw (← c.self.view_is) (count_of-rose c.self.inside.counts c.raise_at.new.self c.match-self.place _ c.raise_at.ensures (blamed_place c.self.inside.counts _ _ c.self.inside.begun c.self.invariant.begun_here ∙ blamed))
 
 pub returns-clause-bytes : goal.returns-clause-bytes

@@ -12,6 +12,6 @@ loop-done-preserved c =
     record {
       within = search rules;
       bytes = c.in_ok-done.ensures.ok ∙ ap (λ xs. c.loop-done.self ++ take n xs) (take-rest bytes done)
-        ∙ ap (λ xs. xs ++ take n (drop done bytes)) before.bytes ∙ append_assoc c.args.self.now (take done bytes) (take n (drop done bytes))
-        ∙ ap (λ xs. c.args.self.now ++ xs) (sym (take-add done n bytes))
+          ∙ ap (λ xs. xs ++ take n (drop done bytes)) before.bytes ∙ append_assoc c.args.self.now (take done bytes) (take n (drop done bytes))
+          ∙ ap (λ xs. c.args.self.now ++ xs) (sym (take-add done n bytes));
     }

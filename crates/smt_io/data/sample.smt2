@@ -1,2 +1,0 @@
-(check-sat)
-(exit)
