@@ -1,0 +1,4 @@
+pub mod CountLemmas
+pub mod MemoryLemmas
+pub mod Prefixes
+pub mod Transfers

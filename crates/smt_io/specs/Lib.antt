@@ -1,0 +1,7 @@
+pub mod Calls
+pub mod Counts
+pub mod Host
+pub mod Memory
+pub mod MemorySink
+pub mod NameCounts
+pub mod Told

@@ -1,0 +1,24 @@
+//! Where texts come from and where they go: sources of named texts and sinks of bytes, in memory and
+//! on the host, with counts of their faults, and the calls that move a whole text.
+#![tactic(auto)]
+
+mod calls;
+mod fault_counts;
+pub mod host;
+pub mod inputs;
+pub mod mem_inputs;
+pub mod mem_sink;
+pub mod pieces;
+pub mod sink;
+pub mod transfer;
+
+pub use host::{HostInputs, HostSink};
+pub use inputs::{Inputs, ReadFault, StartFault};
+pub use mem_inputs::MemInputs;
+pub use mem_sink::MemSink;
+pub use pieces::{Pieces, send_pieces};
+pub use sink::{Failed, Sink};
+pub use transfer::{LONGEST_TEXT, read_all, send_all};
+
+#[cfg(test)]
+mod tests;
