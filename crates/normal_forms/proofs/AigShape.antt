@@ -2,7 +2,7 @@
 use Rattle.std.proofs.Common.{◌≡◌, ℕ, zero, suc, Bool, true, false, not, ◌&&◌, List, [], ◌∷◌, map, refl, ap, sym, ◌∙◌, subst}
 use Rattle.std.specs.Prelude.{⊤}
 use Rattle.smt_terms.specs.declared.op.Op.TheVariants.{Not}
-use Rattle.smt_terms.specs.Term.{Quantifier, Head, op, Term, apply, quantified, Terms, none, ◌⨾◌, list, terms}
+use Rattle.smt_terms.specs.Term.{Head, op, Term, apply, quantified, Terms, none, ◌⨾◌, list, terms}
 use Rattle.smt_terms.specs.Connectives.{Kind, truth_value, negation, conjunction, disjunction, exclusive, implication, equivalence, difference, conditional, atom, operator_kind, kind_of, truth_term, negated, all_of, both, opposite, nth}
 use Rattle.smt_terms.specs.Shapes.{is_negation_kind, is_negation, aig_node, is_aig, are_aig}
 use Rattle.smt_terms.proofs.Tests.{both_true, and_true, not_true}
@@ -51,7 +51,7 @@ negated-form : (t : Term) → InForm t → is_negation t ≡ false → InForm (n
 unfolding operator_kind
 negated-form t a other = record {
   form = and_true (not (is_negation t)) (is_aig t && true) (ap not other) (and_true (is_aig t) true a.form refl);
-  single = λ e. (t, refl)
+  single = λ e. (t, refl);
 }
 
 opposite-other : (t : Term) → is_negation t ≡ false → opposite t ≡ negated t

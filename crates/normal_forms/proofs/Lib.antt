@@ -2,7 +2,9 @@ pub mod Aig
 pub mod AigShape
 mod AtTruth
 mod Duals
+mod Keeps
 pub mod Nnf
 pub mod NnfShape
+mod NoBool
 mod Rows
 pub mod Shannon

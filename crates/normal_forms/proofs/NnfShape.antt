@@ -1,10 +1,10 @@
 -- Both forms of a formula are in negation normal form.
-use Rattle.std.proofs.Common.{◌≡◌, ℕ, zero, suc, Bool, true, false, not, ◌&&◌, List, [], ◌∷◌, get_or, refl, ap, sym, ◌∙◌}
-use Rattle.smt_terms.specs.Term.{Quantifier, Head, op, symbol, const_array, Term, apply, quantified, Terms, none, ◌⨾◌, list, terms}
+use Rattle.std.proofs.Common.{◌≡◌, ℕ, zero, suc, Bool, true, false, not, ◌&&◌, List, [], ◌∷◌, refl, ap, ◌∙◌}
+use Rattle.smt_terms.specs.Term.{Head, Term, apply, quantified, Terms, none, ◌⨾◌, list, terms}
 use Rattle.smt_terms.specs.Connectives.{Kind, truth_value, negation, conjunction, disjunction, exclusive, implication, equivalence, difference, conditional, atom, operator_kind, kind_of, truth_term, negated, all_of, any_of, both, either, nth}
 use Rattle.smt_terms.specs.Shapes.{is_atom_kind, is_nnf, are_nnf, nnf_node}
 use Rattle.smt_terms.proofs.Tests.{both_true, and_true}
-use Rattle.normal_forms.specs.Nnf.{differ, agree, positive_distinct, negative_distinct, positive, negative, dual, nnf, nnf_not, nnf_each, nnf_not_each}
+use Rattle.normal_forms.specs.Nnf.{differ, agree, positive_distinct, negative_distinct, positive, negative, nnf, nnf_not, nnf_each, nnf_not_each}
 
 abbrev InForm : Term → Type 0
 InForm t = is_nnf t ≡ true
@@ -72,11 +72,12 @@ forms-of h ts ps ns a b implication e =
 forms-of h ts ps ns a b exclusive e = (differ-form ps ns a b, agree-form ps ns a b)
 forms-of h ts ps ns a b equivalence e = (agree-form ps ns a b, differ-form ps ns a b)
 forms-of h ts ps ns a b difference e = distinct-forms ps ns a b
-forms-of h ts ps ns a b conditional e =
-    (both-form (either (nth ns 0) (nth ps 1)) (either (nth ps 0) (nth ps 2))
-        (either-form (nth ns 0) (nth ps 1) (nth-form ns 0 b) (nth-form ps 1 a)) (either-form (nth ps 0) (nth ps 2) (nth-form ps 0 a) (nth-form ps 2 a))
-    , both-form (either (nth ns 0) (nth ns 1)) (either (nth ps 0) (nth ns 2))
-        (either-form (nth ns 0) (nth ns 1) (nth-form ns 0 b) (nth-form ns 1 b)) (either-form (nth ps 0) (nth ns 2) (nth-form ps 0 a) (nth-form ns 2 b)))
+forms-of h ts ps ns a b conditional e = (
+  both-form (either (nth ns 0) (nth ps 1)) (either (nth ps 0) (nth ps 2))
+      (either-form (nth ns 0) (nth ps 1) (nth-form ns 0 b) (nth-form ps 1 a)) (either-form (nth ps 0) (nth ps 2) (nth-form ps 0 a) (nth-form ps 2 a)),
+  both-form (either (nth ns 0) (nth ns 1)) (either (nth ps 0) (nth ns 2))
+      (either-form (nth ns 0) (nth ns 1) (nth-form ns 0 b) (nth-form ns 1 b)) (either-form (nth ps 0) (nth ns 2) (nth-form ps 0 a) (nth-form ns 2 b)),
+)
 
 mutual
   pub both-forms : (t : Term) → (is_nnf (nnf t) ≡ true) × (is_nnf (nnf_not t) ≡ true)
