@@ -21,6 +21,8 @@ mod Rows
 pub mod Runs
 pub mod Same
 pub mod Sorted
+pub mod SubstFree
+pub mod SubstNames
 pub mod Substitution
 pub mod Tests
 pub mod Valid
