@@ -1,1 +1,2 @@
+pub mod ReadsKeep
 mod Rows

@@ -1,6 +1,6 @@
 -- Worked rows of reading over writing, and of the terms of values.
 use Rattle.std.specs.Prelude.{◌≡◌, ℕ, true, false, [], ◌∷◌, map, pos, negsuc, Some, None, codes, refl}
-use Rattle.smt_terms.specs.declared.op.Op.TheVariants.{Truth, Whole, Bits, Equal, Ite, Select, Store}
+use Rattle.smt_terms.specs.declared.op.Op.TheVariants.{Truth, Whole, Bits, Equal, Ite, Neg, Select, Store}
 use Rattle.smt_terms.specs.Sorts.{Name, Sort, bool, int, bit_vector, array, free_sort}
 use Rattle.smt_terms.specs.Term.{existential, op, const_array, Term, apply, quantified, none, ◌⨾◌, variable}
 use Rattle.smt_terms.specs.Equal.{op_eq}
@@ -90,6 +90,11 @@ choice = refl
 from_below : map reads (select (store m (select (store m i j) i) y) j ∷ select m (select (store m i y) i) ∷ store m i (select (store m i y) i) ∷ quantified existential (record { name = codes "b"; sort = bool } ∷ []) (equal (select (store m i y) i) z) ∷ []) ≡ y ∷ select m y ∷ store m i y ∷ quantified existential (record { name = codes "b"; sort = bool } ∷ []) (equal y z) ∷ []
 unfolding op_eq literal_value
 from_below = refl
+
+-- a minus over a constant that was read is the constant
+minus : reads (apply (op Neg) (select (everywhere (n 5)) j ⨾ none)) ≡ apply (op (Whole (negsuc 4))) none
+unfolding op_eq literal_value
+minus = refl
 
 -- ---- terms of values
 

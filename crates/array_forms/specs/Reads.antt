@@ -1,17 +1,17 @@
 -- Reading over writing: SMT-LIB 2.6, theory ArraysEx. `reads` goes from below, everywhere: a `select` of an array at an index
 -- becomes what `read` gives for them.
 use Rattle.std.specs.Prelude.{if◌then◌else◌}
-use Rattle.smt_terms.specs.declared.op.Op.TheVariants.{Equal, Ite, Select, Store}
+use Rattle.smt_terms.specs.declared.op.Op.TheVariants.{Ite, Select, Store}
 use Rattle.smt_terms.specs.Term.{Head, op, const_array, Term, apply, quantified, Terms, none, ◌⨾◌}
+use Rattle.smt_terms.specs.ArrayTerms.{selected}
+use Rattle.smt_terms.specs.Connectives.{equal}
 use Rattle.smt_terms.specs.Equal.{op_eq, term_eq}
+use Rattle.smt_terms.specs.Made.{made}
 use Rattle.smt_terms.specs.Constants.{are_different_constants}
-
-abbrev pub selected : Term → Term → Term
-selected a j = apply (op Select) (a ⨾ j ⨾ none)
 
 -- v where the indices are equal, else w
 abbrev pub where_equal : Term → Term → Term → Term → Term
-where_equal i j v w = apply (op Ite) (apply (op Equal) (i ⨾ j ⨾ none) ⨾ v ⨾ w ⨾ none)
+where_equal i j v w = apply (op Ite) (equal i j ⨾ v ⨾ w ⨾ none)
 
 -- what is read at index j, where v has been stored at i, and w is read from the array before that
 abbrev pub over_store : Term → Term → Term → Term → Term
@@ -27,7 +27,7 @@ read a j = selected a j
 -- a head over operands that were gone through
 abbrev pub made_by_reading : Head → Terms → Term
 made_by_reading (op o) (a ⨾ j ⨾ none) = if op_eq o Select then read a j else apply (op o) (a ⨾ j ⨾ none)
-made_by_reading h ts = apply h ts
+made_by_reading h ts = made h ts
 
 abbrev mutual
   pub reads : Term → Term

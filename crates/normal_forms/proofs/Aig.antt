@@ -10,7 +10,7 @@ use Rattle.smt_terms.specs.Val.{Env, runs, vals}
 use Rattle.smt_terms.specs.Connectives.{Kind, truth_value, negation, conjunction, disjunction, exclusive, implication, equivalence, difference, conditional, atom, kind_of, truth_term, all_of, both, opposite}
 use Rattle.smt_terms.proofs.Sorted.{quantified_sort, sort_of-quantified}
 use Rattle.smt_terms.proofs.Connected.{is_logical, Count, Connected, connected, connective-value, kind_value, all_bits, any_bit}
-use Rattle.smt_terms.proofs.Operands.{IfBool, Each, each-bool, operand-number, map-same}
+use Rattle.smt_terms.proofs.BoolOperands.{IfBool, Each, each-bool, operand-number, map-same}
 use Rattle.smt_terms.proofs.Built.{sense, Means, means-same, means-itself, means-truth, means-both, means-opposite, MeanEach, means-all}
 use Rattle.normal_forms.specs.Aig.{same_sides, inverted, aig, aig_each}
 

@@ -12,7 +12,7 @@ use Rattle.smt_terms.specs.Connectives.{Kind, truth_value, negation, conjunction
 use Rattle.smt_terms.proofs.Tests.{both_true}
 use Rattle.smt_terms.proofs.Sorted.{quantified_sort, sort_of-quantified}
 use Rattle.smt_terms.proofs.Connected.{is_logical, Count, Connected, connected, connective-value, kind_value, all_bits, any_bit}
-use Rattle.smt_terms.proofs.Operands.{IfBool, Each, each-bool, operand-number, map-same}
+use Rattle.smt_terms.proofs.BoolOperands.{IfBool, Each, each-bool, operand-number, map-same}
 use Rattle.smt_terms.proofs.Built.{sense, Means, means-same, means-itself, means-truth, means-negated, means-both, means-either, MeanEach, means-all, means-any}
 use Rattle.normal_forms.specs.Nnf.{differ, agree, positive, negative, dual, nnf, nnf_not, nnf_each, nnf_not_each}
 use Rattle.normal_forms.proofs.Duals.{runs-dual}

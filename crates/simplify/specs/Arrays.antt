@@ -1,15 +1,10 @@
 -- The laws of `select` and `store` (SMT-LIB 2.6, theory ArraysEx) over operands that are simplified already.
 use Rattle.std.specs.Prelude.{◌&&◌, if◌then◌else◌}
-use Rattle.smt_terms.specs.declared.op.Op.TheVariants.{Select, Store}
+use Rattle.smt_terms.specs.declared.op.Op.TheVariants.{Store}
 use Rattle.smt_terms.specs.Term.{op, const_array, Term, apply, none, ◌⨾◌}
+use Rattle.smt_terms.specs.ArrayTerms.{selected, stored}
 use Rattle.smt_terms.specs.Equal.{op_eq, term_eq}
 use Rattle.smt_terms.specs.Constants.{are_different_constants}
-
-abbrev pub selected : Term → Term → Term
-selected a j = apply (op Select) (a ⨾ j ⨾ none)
-
-abbrev pub stored : Term → Term → Term → Term
-stored a i v = apply (op Store) (a ⨾ i ⨾ v ⨾ none)
 
 -- an element: of a constant array its value; where the array has just been stored to, the stored value at the same index, and
 -- what was there before at a different constant

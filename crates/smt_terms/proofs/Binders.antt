@@ -8,6 +8,7 @@ use Rattle.smt_terms.specs.Sorts.{Name, Sort, bool, Variable}
 use Rattle.smt_terms.specs.Term.{op, symbol, const_array, Term, apply, quantified, none, ◌⨾◌, variable}
 use Rattle.smt_terms.specs.Equal.{name_eq, sort_eq}
 use Rattle.smt_terms.specs.Rank.{Fault, wrong_arity, wrong_sort, is_quantifiable, has_name, are_distinct, is_empty, may_bind, symbol_name, rank_bound, rank_quantifier, are_bindable}
+use Rattle.smt_terms.specs.Laws.{IsBinder}
 use Rattle.smt_terms.proofs.Tests.{both_true, and_true, both_false, or_false, not_true, true_or_false}
 use Rattle.smt_terms.proofs.Equal.{Decides-name_eq, Decides-sort_eq}
 
@@ -129,17 +130,6 @@ bound_ok k earlier (t ∷ t' ∷ ts) (u ∷ ss) s h =
 
 -- ---- the law
 
--- a quantifier's operands: its variables as constants, and a body that is a truth value
-pub record IsBinder (ts : List Term) (ss : List Sort) (s : Sort) : Type 0 where
-  pub variables : List Variable
-  pub body : Term
-  pub sorts : List Sort
-  pub operands : ts ≡ map variable variables ++ body ∷ []
-  pub operand_sorts : ss ≡ sorts ++ bool ∷ []
-  pub number : length sorts ≡ length variables
-  pub bindable : are_bindable variables ≡ true
-  pub result : s ≡ bool
-
 some_bindable : (xs : List Variable) → 1 ≤ length xs → are_distinct (names xs) ≡ true → may_all xs ≡ true → are_bindable xs ≡ true
 some_bindable [] some distinct allowed = absurd (omega arith)
 some_bindable (x ∷ xs) some distinct allowed = and_true (are_distinct (names (x ∷ xs))) (may_all (x ∷ xs)) distinct allowed
@@ -209,3 +199,7 @@ rank_quantifier-binder (x ∷ xs) t us e h =
   where
     enough : (n : ℕ) → 2 ≤ n → nat_le 2 n ≡ true
     enough n h = grind (arith, nat_tests)
+
+pub binder-rank_quantifier : (ts : List Term) (ss : List Sort) (s : Sort) → IsBinder ts ss s → rank_quantifier ts ss ≡ Ok s
+binder-rank_quantifier ts ss s b =
+    (λ i. rank_quantifier (b.operands i) (b.operand_sorts i)) ∙ rank_quantifier-binder b.variables b.body b.sorts b.number b.bindable ∙ ap (λ t. Ok t) (sym b.result)

@@ -295,10 +295,10 @@ fixed_fits k (a ∷ args) =
 second_fits : (t : Sort) → first_misfit 1 (only t ∷ []) (t ∷ []) ≡ None
 second_fits t = let here : misfit 1 (only t) t ≡ None = only_fits 1 t in cc
 
-le_true : (m n : ℕ) → m ≤ n → nat_le m n ≡ true
+pub le_true : (m n : ℕ) → m ≤ n → nat_le m n ≡ true
 le_true m n h = grind (arith, nat_tests)
 
-lt_true : (m n : ℕ) → m < n → nat_lt m n ≡ true
+pub lt_true : (m n : ℕ) → m < n → nat_lt m n ≡ true
 lt_true m n h = grind (arith, nat_tests)
 
 -- the tests at given operands and result, but for the width

@@ -69,12 +69,12 @@ array_sorts i e h =
     (not_true (is_array i) all.0, rest.0, rest.1)
 
 -- what `same` says of two arrays, and what it takes
-record Agrees (i e : Sort) (sizes : Sizes) (a b : Value) : Type 0 where
-  first : agree (same i sizes) (same e sizes) (pairs_of a) a b ≡ true
-  second : agree (same i sizes) (same e sizes) (pairs_of b) a b ≡ true
-  elsewhere : (cover i sizes (same i sizes) (pairs_of a) (pairs_of b) ≡ true) ⊎ (same e sizes (default_of a) (default_of b) ≡ true)
+pub record Agrees (i e : Sort) (sizes : Sizes) (a b : Value) : Type 0 where
+  pub first : agree (same i sizes) (same e sizes) (pairs_of a) a b ≡ true
+  pub second : agree (same i sizes) (same e sizes) (pairs_of b) a b ≡ true
+  pub elsewhere : (cover i sizes (same i sizes) (pairs_of a) (pairs_of b) ≡ true) ⊎ (same e sizes (default_of a) (default_of b) ≡ true)
 
-agrees : (i e : Sort) (sizes : Sizes) (a b : Value) → same (array i e) sizes a b ≡ true → Agrees i e sizes a b
+pub agrees : (i e : Sort) (sizes : Sizes) (a b : Value) → same (array i e) sizes a b ≡ true → Agrees i e sizes a b
 agrees i e sizes a b h =
     let all = both_true (agree (same i sizes) (same e sizes) (pairs_of a) a b && agree (same i sizes) (same e sizes) (pairs_of b) a b)
     (cover i sizes (same i sizes) (pairs_of a) (pairs_of b) || same e sizes (default_of a) (default_of b)) h in
@@ -85,7 +85,7 @@ agrees i e sizes a b h =
       elsewhere = either_true (cover i sizes (same i sizes) (pairs_of a) (pairs_of b)) (same e sizes (default_of a) (default_of b)) all.1;
     }
 
-agreed : (i e : Sort) (sizes : Sizes) (a b : Value) → Agrees i e sizes a b → same (array i e) sizes a b ≡ true
+pub agreed : (i e : Sort) (sizes : Sizes) (a b : Value) → Agrees i e sizes a b → same (array i e) sizes a b ≡ true
 agreed i e sizes a b h =
     and_true (agree (same i sizes) (same e sizes) (pairs_of a) a b && agree (same i sizes) (same e sizes) (pairs_of b) a b)
     (cover i sizes (same i sizes) (pairs_of a) (pairs_of b) || same e sizes (default_of a) (default_of b))
@@ -193,7 +193,7 @@ same-select i e sizes a b k scalar valid h =
 -- ---- three arrays
 
 -- the arrays agree at each key of the index sort
-abbrev AgreeAt : Sort → Sort → Sizes → Value → Value → Type 0
+abbrev pub AgreeAt : Sort → Sort → Sizes → Value → Value → Type 0
 AgreeAt i e sizes a c = (k : Value) → is_value i sizes k ≡ true → same e sizes (select i sizes a k) (select i sizes c k) ≡ true
 
 agree_at : (i e : Sort) (sizes : Sizes) (a b c : Value) → IsArrayValue i e sizes b → AgreeAt i e sizes a c → agree (same i sizes) (same e sizes) (pairs_of b) a c ≡ true
@@ -202,7 +202,7 @@ agree_at i e sizes a b c valid at =
     (λ k v t. at k (both_true (is_value i sizes k) (is_value e sizes v) t).0) valid.entries
 
 -- over a finite index sort, arrays that agree at each key are the same
-same_finite : (i e : Sort) (sizes : Sizes) (a c : Value) → IsArrayValue i e sizes a → IsArrayValue i e sizes c → AgreeAt i e sizes a c → is_finite i ≡ true → same (array i e) sizes a c ≡ true
+pub same_finite : (i e : Sort) (sizes : Sizes) (a c : Value) → IsArrayValue i e sizes a → IsArrayValue i e sizes c → AgreeAt i e sizes a c → is_finite i ≡ true → same (array i e) sizes a c ≡ true
 same_finite i e sizes a c va vc at finite = agreed i e sizes a c (record {
   first = agree_at i e sizes a a c va at;
   second = agree_at i e sizes a c c vc at;
@@ -216,7 +216,7 @@ same_finite i e sizes a c va vc at finite = agreed i e sizes a c (record {
 })
 
 -- over any, if their defaults are the same
-same_default : (i e : Sort) (sizes : Sizes) (a c : Value) → IsArrayValue i e sizes a → IsArrayValue i e sizes c → AgreeAt i e sizes a c → same e sizes (default_of a) (default_of c) ≡ true → same (array i e) sizes a c ≡ true
+pub same_default : (i e : Sort) (sizes : Sizes) (a c : Value) → IsArrayValue i e sizes a → IsArrayValue i e sizes c → AgreeAt i e sizes a c → same e sizes (default_of a) (default_of c) ≡ true → same (array i e) sizes a c ≡ true
 same_default i e sizes a c va vc at default = agreed i e sizes a c (record {
   first = agree_at i e sizes a a c va at;
   second = agree_at i e sizes a c c vc at;

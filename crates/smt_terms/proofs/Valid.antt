@@ -33,18 +33,18 @@ is_value-default (array i e) sizes some = and_true (is_value e sizes (default_va
 
 -- ---- values by their places
 
-first_valid : (s : Sort) (ss : List Sort) (sizes : Sizes) (vs : List Value) → are_values (s ∷ ss) sizes vs ≡ true → is_value s sizes (first_value vs) ≡ true
+pub first_valid : (s : Sort) (ss : List Sort) (sizes : Sizes) (vs : List Value) → are_values (s ∷ ss) sizes vs ≡ true → is_value s sizes (first_value vs) ≡ true
 first_valid s ss sizes [] h = absurd cc
 first_valid s ss sizes (v ∷ vs) h = (both_true (is_value s sizes v) (are_values ss sizes vs) h).0
 
-later_valid : (s : Sort) (ss : List Sort) (sizes : Sizes) (v : Value) (vs : List Value) → are_values (s ∷ ss) sizes (v ∷ vs) ≡ true → are_values ss sizes vs ≡ true
+pub later_valid : (s : Sort) (ss : List Sort) (sizes : Sizes) (v : Value) (vs : List Value) → are_values (s ∷ ss) sizes (v ∷ vs) ≡ true → are_values ss sizes vs ≡ true
 later_valid s ss sizes v vs h = (both_true (is_value s sizes v) (are_values ss sizes vs) h).1
 
-second_valid : (r s : Sort) (ss : List Sort) (sizes : Sizes) (vs : List Value) → are_values (r ∷ s ∷ ss) sizes vs ≡ true → is_value s sizes (second_value vs) ≡ true
+pub second_valid : (r s : Sort) (ss : List Sort) (sizes : Sizes) (vs : List Value) → are_values (r ∷ s ∷ ss) sizes vs ≡ true → is_value s sizes (second_value vs) ≡ true
 second_valid r s ss sizes [] h = absurd cc
 second_valid r s ss sizes (v ∷ vs) h = first_valid s ss sizes vs (later_valid r (s ∷ ss) sizes v vs h)
 
-third_valid : (q r s : Sort) (ss : List Sort) (sizes : Sizes) (vs : List Value) → are_values (q ∷ r ∷ s ∷ ss) sizes vs ≡ true → is_value s sizes (third_value vs) ≡ true
+pub third_valid : (q r s : Sort) (ss : List Sort) (sizes : Sizes) (vs : List Value) → are_values (q ∷ r ∷ s ∷ ss) sizes vs ≡ true → is_value s sizes (third_value vs) ≡ true
 third_valid q r s ss sizes [] h = absurd cc
 third_valid q r s ss sizes (v ∷ vs) h = second_valid r s ss sizes vs (later_valid q (r ∷ s ∷ ss) sizes v vs h)
 
@@ -101,7 +101,7 @@ is_value-store i e sizes a k v valid key new =
 -- ---- operators
 
 -- what an operator gives from operands that it takes has its sort
-op_valid : (c : Background) (o : Op) (ss : List Sort) (s : Sort) (vs : List Value) → Takes (shape o) ss s → are_values ss c.sizes vs ≡ true → is_value s c.sizes (op_value c o ss vs) ≡ true
+pub op_valid : (c : Background) (o : Op) (ss : List Sort) (s : Sort) (vs : List Value) → Takes (shape o) ss s → are_values ss c.sizes vs ≡ true → is_value s c.sizes (op_value c o ss vs) ≡ true
 unfolding shape op_value
 op_valid c (Truth b) ss s vs t h = truth_valid s c.sizes b t.1
 op_valid c (Whole n) ss s vs t h = whole_valid s c.sizes n t.2

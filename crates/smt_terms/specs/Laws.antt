@@ -1,8 +1,8 @@
 -- Statements of the laws that hold of values and of the value of a term.
-use Rattle.std.specs.Prelude.{◌≡◌, ◌≤◌, ◌↔◌, Bool, List, [], length, Some, Ok, IfSome, IsTrue, Decides}
-use Rattle.smt_terms.specs.Sorts.{Sort, array, Symbol}
-use Rattle.smt_terms.specs.Term.{Head, symbol, Term}
-use Rattle.smt_terms.specs.Rank.{shape_of, width, most_bits, rank, sort_of, is_sort}
+use Rattle.std.specs.Prelude.{◌≡◌, ◌≤◌, ◌↔◌, Bool, List, [], length, Some, Ok, IfSome, IsTrue, Decides, true, ◌∷◌, ◌++◌, map}
+use Rattle.smt_terms.specs.Sorts.{Sort, bool, array, Symbol, Variable}
+use Rattle.smt_terms.specs.Term.{Head, symbol, Term, variable}
+use Rattle.smt_terms.specs.Rank.{shape_of, width, most_bits, rank, rank_quantifier, are_bindable, IsWellSorted, sort_of, is_sort}
 use Rattle.smt_terms.specs.Takes.{Takes}
 use Rattle.smt_terms.specs.Free.{is_among, free}
 use Rattle.smt_terms.specs.Values.{Value, Sizes, same, select, is_value}
@@ -52,3 +52,22 @@ ValueHasSort = (t : Term) (s : Sort) (m : Model) (e : Env) → sort_of t ≡ Som
 -- two models that agree on the free symbols of a term give it the same value
 abbrev pub FreeSymbolsDecide : Type 0
 FreeSymbolsDecide = (t : Term) (s : Sort) (m n : Model) (d e : Env) → sort_of t ≡ Some s → AgreeOn (free t) m n d e → val m t d ≡ val n t e
+
+-- the operands of a quantifier's node: its variables, as constants, and a body that is a truth value
+pub record IsBinder (ts : List Term) (ss : List Sort) (s : Sort) : Type 0 where
+  pub variables : List Variable
+  pub body : Term
+  pub sorts : List Sort
+  pub operands : ts ≡ map variable variables ++ body ∷ []
+  pub operand_sorts : ss ≡ sorts ++ bool ∷ []
+  pub number : length sorts ≡ length variables
+  pub bindable : are_bindable variables ≡ true
+  pub result : s ≡ bool
+
+-- a quantifier's node has a rank exactly where its operands are such
+abbrev pub BindersHaveRank : Type 0
+BindersHaveRank = (ts : List Term) (ss : List Sort) (s : Sort) → (rank_quantifier ts ss ≡ Ok s) ↔ IsBinder ts ss s
+
+-- the sort of a well-sorted term is well formed
+abbrev pub SortsAreWellFormed : Type 0
+SortsAreWellFormed = (t : Term) (s : Sort) → IsWellSorted t → sort_of t ≡ Some s → IsTrue (is_sort s)

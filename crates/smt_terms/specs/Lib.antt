@@ -1,3 +1,4 @@
+pub mod ArrayTerms
 pub mod BitVectors
 pub mod Connectives
 pub mod Constants
@@ -6,9 +7,12 @@ pub mod Free
 pub mod Fresh
 pub mod FreshLaws
 pub mod Groups
+pub mod Keeps
+pub mod KeepsLaws
 pub mod Laws
 pub mod Made
 pub mod Models
+pub mod NodeLaws
 pub mod Numeral
 pub mod Operators
 pub mod Rank

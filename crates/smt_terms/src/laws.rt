@@ -1,8 +1,10 @@
 //! The laws of the definitions, each the contract of a function that does nothing.
 
 ghost use Rattle.smt_terms.specs.Equal.{name_eq, sort_eq, symbol_eq, variable_eq, op_eq, head_eq, term_eq};
-ghost use Rattle.smt_terms.specs.Laws.{TellsEqual, RankIsRelation, SameIsReflexive, SameIsSymmetric, SameIsTransitive, SameAtEveryKey, ValueHasSort, FreeSymbolsDecide};
+ghost use Rattle.smt_terms.specs.Laws.{TellsEqual, RankIsRelation, SameIsReflexive, SameIsSymmetric, SameIsTransitive, SameAtEveryKey, BindersHaveRank, SortsAreWellFormed, ValueHasSort, FreeSymbolsDecide};
 ghost use Rattle.smt_terms.specs.FreshLaws.{NumbersNameApart, NextIsFree, NextIsLeast, NextIsLater, DrawnIsGone, GoneStaysGone};
+ghost use Rattle.smt_terms.specs.KeepsLaws.{HeadsKeep, QuantifiersKeep};
+ghost use Rattle.smt_terms.specs.NodeLaws.{HeadsHaveSorts, BindersHaveSorts};
 ghost use Rattle.smt_terms.specs.SubstLaws.{SubstKeepsMeaning, SubstGivesLater, SubstSparesNames, SubstLeavesFree};
 
 /// Each test of equality says yes exactly at equal arguments.
@@ -19,6 +21,22 @@ pub fn tests_tell_equality()
 /// The rank of an operator answers a sort exactly where the operator takes the operands' sorts.
 pub fn rank_is_a_relation()
     ensures { RankIsRelation }
+{}
+
+/// A quantifier's node has a rank exactly where its operands are constants that it may bind and a truth value.
+pub fn binders_have_a_rank()
+    ensures { BindersHaveRank }
+{}
+
+/// A term that is made of well-sorted operands which its head takes, or its quantifier may bind, is well sorted.
+pub fn made_terms_are_well_sorted()
+    ensures heads { HeadsHaveSorts }
+    ensures quantifiers { BindersHaveSorts }
+{}
+
+/// The sort of a well-sorted term is a sort of this profile: widths from 1 to 128, and no array sort as an index sort.
+pub fn sorts_are_well_formed()
+    ensures { SortsAreWellFormed }
 {}
 
 /// Sameness of values is an equivalence at every sort, and arrays are the same only where they have the same values at
@@ -38,6 +56,12 @@ pub fn value_has_the_sort()
 /// The value of a term depends on the values of its free symbols alone.
 pub fn free_symbols_decide()
     ensures { FreeSymbolsDecide }
+{}
+
+/// What keeps its value may be put in place of what it was made of, below every head and below every quantifier.
+pub fn values_are_kept_in_context()
+    ensures heads { HeadsKeep }
+    ensures quantifiers { QuantifiersKeep }
 {}
 
 /// The next fresh name is that of the least number whose name isn't taken, and a name that was drawn isn't drawn again.
