@@ -2,6 +2,7 @@ pub mod Aig
 pub mod AigShape
 mod AtTruth
 mod Duals
+mod Inherited
 mod Keeps
 pub mod Nnf
 pub mod NnfShape
