@@ -9,3 +9,4 @@ pub mod NnfShape
 mod NoBool
 mod Rows
 pub mod Shannon
+pub mod ShannonRegular
