@@ -1,0 +1,4 @@
+pub mod Lexicon
+pub mod Names
+pub mod Lex
+pub mod Forms

@@ -7,7 +7,7 @@ use std::alloc::{AllocError, Global};
 
 /// A token, its first byte and the one behind it, and the number of the token behind the form that begins here.
 #[derive(Clone, Copy)]
-pub(crate) struct Token {
+pub(crate) struct Entry {
     pub(crate) start: u32,
     pub(crate) end: u32,
     pub(crate) after: u32,
@@ -17,7 +17,7 @@ pub(crate) struct Token {
 // The tokens so far, and the numbers of those `(` whose `)` hasn't come.
 #[derive(Drop)]
 struct Builder {
-    tokens: Vec<Token>,
+    tokens: Vec<Entry>,
     open: Vec<u32>,
 }
 
@@ -33,7 +33,7 @@ impl Builder {
     fn step(&mut self, bytes: &[u8], place: usize) -> Result<usize, LexFault> {
         match front_of(&bytes[place..]) {
             Front::Gap(length) => Ok(place + length),
-            Front::Token(item, length) => self.add(bytes, item, place, place + length),
+            Front::Lexeme(item, length) => self.add(bytes, item, place, place + length),
             Front::BadByte(skipped) => Err(bad_byte(bytes, place + skipped)),
             Front::BadToken => Err(bad_token(bytes, place)),
             Front::OpenText => Err(open_text(bytes, place)),
@@ -61,7 +61,7 @@ impl Builder {
 
     fn push(&mut self, item: Item, start: usize, end: usize) -> Result<(), AllocError> {
         let after = self.tokens.len() as u32 + 1;
-        self.tokens.push(Token {
+        self.tokens.push(Entry {
             start: start as u32,
             end: end as u32,
             after,
@@ -88,7 +88,7 @@ impl Builder {
     }
 
     // The tokens, unless a list is still open at the end of the text.
-    fn finish(self, bytes: &[u8]) -> Result<Vec<Token>, LexFault> {
+    fn finish(self, bytes: &[u8]) -> Result<Vec<Entry>, LexFault> {
         if self.open.is_empty() {
             Ok(self.tokens)
         } else {
@@ -98,7 +98,7 @@ impl Builder {
 }
 
 // Whether these three tokens are `(exit)`.
-fn is_exit(bytes: &[u8], tokens: &[Token]) -> bool {
+fn is_exit(bytes: &[u8], tokens: &[Entry]) -> bool {
     let word = tokens[1];
     matches!(tokens[0].item, Item::Left)
         && matches!(word.item, Item::Word)
@@ -107,7 +107,7 @@ fn is_exit(bytes: &[u8], tokens: &[Token]) -> bool {
 }
 
 /// The tokens of the text, as far as it is examined.
-pub(crate) fn tokens_of(alloc: Global, bytes: &[u8], until: Until) -> Result<Vec<Token>, LexFault> {
+pub(crate) fn tokens_of(alloc: Global, bytes: &[u8], until: Until) -> Result<Vec<Entry>, LexFault> {
     let mut builder = Builder::new(alloc);
     let mut place = 0;
     while place < bytes.len() {

@@ -1,5 +1,7 @@
 // Why a text isn't a list of forms.
 
+ghost use Rattle.std.specs.Prelude.{◌≡◌, ◌≤◌, ◌<◌, ◌^◌, length};
+ghost use Rattle.smt_lex.specs.Lex.{line_at};
 ghost use Rattle.smt_lex.specs.declared.faults.LexFault.TheVariants.{Memory};
 
 use std::alloc::{AllocError, AllocFailed};
@@ -38,6 +40,7 @@ impl<T: Drop> From<AllocFailed<T>> for LexFault {
 /// The line of the byte at this place: 1 and the number of LF before it.
 pub fn line_of(bytes: &[u8], place: usize) -> u64
     requires { place ≤ length bytes.now }
+    ensures { result ≡ line_at bytes.now place }
 {
     let mut line = 1;
     for byte in &bytes[..place] {
@@ -48,28 +51,44 @@ pub fn line_of(bytes: &[u8], place: usize) -> u64
     line
 }
 
-pub(crate) fn bad_byte(bytes: &[u8], place: usize) -> LexFault {
+pub(crate) fn bad_byte(bytes: &[u8], place: usize) -> LexFault
+    requires within { place ≤ length bytes.now }
+    requires small { length bytes.now < 2 ^ 32 }
+    ensures { result ≡ LexFault.BadByte place (line_at bytes.now place) }
+{
     LexFault::BadByte {
         place: place as u32,
         line: line_of(bytes, place),
     }
 }
 
-pub(crate) fn bad_token(bytes: &[u8], place: usize) -> LexFault {
+pub(crate) fn bad_token(bytes: &[u8], place: usize) -> LexFault
+    requires within { place ≤ length bytes.now }
+    requires small { length bytes.now < 2 ^ 32 }
+    ensures { result ≡ LexFault.BadToken place (line_at bytes.now place) }
+{
     LexFault::BadToken {
         place: place as u32,
         line: line_of(bytes, place),
     }
 }
 
-pub(crate) fn open_text(bytes: &[u8], place: usize) -> LexFault {
+pub(crate) fn open_text(bytes: &[u8], place: usize) -> LexFault
+    requires within { place ≤ length bytes.now }
+    requires small { length bytes.now < 2 ^ 32 }
+    ensures { result ≡ LexFault.OpenText place (line_at bytes.now place) }
+{
     LexFault::OpenText {
         place: place as u32,
         line: line_of(bytes, place),
     }
 }
 
-pub(crate) fn unbalanced(bytes: &[u8], place: usize) -> LexFault {
+pub(crate) fn unbalanced(bytes: &[u8], place: usize) -> LexFault
+    requires within { place ≤ length bytes.now }
+    requires small { length bytes.now < 2 ^ 32 }
+    ensures { result ≡ LexFault.Unbalanced place (line_at bytes.now place) }
+{
     LexFault::Unbalanced {
         place: place as u32,
         line: line_of(bytes, place),

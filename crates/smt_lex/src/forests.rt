@@ -1,6 +1,6 @@
 // The forms of a text, as a flat list of tokens.
 
-use crate::builders::{Token, tokens_of};
+use crate::builders::{Entry, tokens_of};
 use crate::faults::LexFault;
 use crate::items::{Item, Span, Until};
 use std::alloc::Global;
@@ -11,7 +11,7 @@ use std::alloc::Global;
 #[derive(Drop)]
 pub struct Forest {
     bytes: Vec<u8>,
-    tokens: Vec<Token>,
+    tokens: Vec<Entry>,
 }
 
 /// The forms of a text of fewer than 2^32 bytes, or its first fault.

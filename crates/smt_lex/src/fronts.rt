@@ -1,5 +1,8 @@
 // What a text begins with.
 
+ghost use Rattle.std.specs.Prelude.{◌≡◌, ◌<◌, length};
+ghost use Rattle.smt_lex.specs.Lex.{front, run_front, literal_front, literal_length, quoted_front};
+
 use crate::classes::{is_blank, is_run_byte, length_until, line_length, run_length};
 use crate::items::Item;
 use crate::runs::run_item;
@@ -10,7 +13,7 @@ pub(crate) enum Front {
     /// White space, or a comment.
     Gap(usize),
     /// A token.
-    Token(Item, usize),
+    Lexeme(Item, usize),
     /// A byte that may not stand where it does, behind this many bytes.
     BadByte(usize),
     /// A run that is no token.
@@ -22,10 +25,11 @@ pub(crate) enum Front {
 /// What the text begins with.
 pub(crate) fn front_of(text: &[u8]) -> Front
     requires { 0 < length text.now }
+    ensures { result ≡ front text.now }
 {
     match text[0] {
-        b'(' => Front::Token(Item::Left, 1),
-        b')' => Front::Token(Item::Right, 1),
+        b'(' => Front::Lexeme(Item::Left, 1),
+        b')' => Front::Lexeme(Item::Right, 1),
         b';' => Front::Gap(1 + line_length(&text[1..])),
         b'"' => literal_front(&text[1..]),
         b'|' => quoted_front(&text[1..]),
@@ -36,24 +40,30 @@ pub(crate) fn front_of(text: &[u8]) -> Front
 }
 
 // What the run is that the text begins with.
-fn run_front(text: &[u8]) -> Front {
+fn run_front(text: &[u8]) -> Front
+    ensures { result ≡ run_front text.now }
+{
     let length = run_length(text);
     match run_item(&text[..length]) {
-        Some(item) => Front::Token(item, length),
+        Some(item) => Front::Lexeme(item, length),
         None => Front::BadToken,
     }
 }
 
 // The literal whose first quote stands before the text.
-fn literal_front(text: &[u8]) -> Front {
+fn literal_front(text: &[u8]) -> Front
+    ensures { result ≡ literal_front text.now }
+{
     match literal_length(text) {
-        Some(length) => Front::Token(Item::Text, 1 + length),
+        Some(length) => Front::Lexeme(Item::Text, 1 + length),
         None => Front::OpenText,
     }
 }
 
 // How many bytes there are up to and including the quote that ends a literal: the first that isn't doubled.
-fn literal_length(text: &[u8]) -> Option<usize> {
+fn literal_length(text: &[u8]) -> Option<usize>
+    ensures { result ≡ literal_length text.now }
+{
     let mut at = 0;
     while at < text.len() {
         if text[at] != b'"' {
@@ -68,7 +78,9 @@ fn literal_length(text: &[u8]) -> Option<usize> {
 }
 
 // The quoted symbol whose first bar stands before the text.
-fn quoted_front(text: &[u8]) -> Front {
+fn quoted_front(text: &[u8]) -> Front
+    ensures { result ≡ quoted_front text.now }
+{
     let length = length_until(text, b'|');
     if length == text.len() {
         return Front::OpenText;
@@ -77,6 +89,6 @@ fn quoted_front(text: &[u8]) -> Front {
     if clean < length {
         Front::BadByte(1 + clean)
     } else {
-        Front::Token(Item::Quoted, 2 + length)
+        Front::Lexeme(Item::Quoted, 2 + length)
     }
 }

@@ -1,10 +1,16 @@
 // Which token a run is.
 
+ghost use Rattle.std.specs.Prelude.{◌≡◌};
+ghost use Rattle.std.specs.Char.{is_ascii_digit, is_ascii_hexdigit};
+ghost use Rattle.smt_lex.specs.Lexicon.{is_word, is_numeral, is_keyword, is_decimal, is_hexadecimal, is_binary, is_some_of, is_symbol_byte, is_binary_digit, starts_as, run_item};
+
 use crate::classes::{digits_length, is_symbol_byte};
 use crate::items::Item;
 
 /// The token that the run is, or None where it is none.
-pub(crate) fn run_item(run: &[u8]) -> Option<Item> {
+pub(crate) fn run_item(run: &[u8]) -> Option<Item>
+    ensures { result ≡ run_item run.now }
+{
     if is_word(run) {
         Some(Item::Word)
     } else if is_numeral(run) {
@@ -22,47 +28,105 @@ pub(crate) fn run_item(run: &[u8]) -> Option<Item> {
     }
 }
 
-/// One or more symbol bytes that don't begin with a digit.
-pub(crate) fn is_word(run: &[u8]) -> bool {
-    !run.is_empty() && !run[0].is_ascii_digit() && run.iter().all(|byte| is_symbol_byte(*byte))
+/// Symbol bytes that don't begin with a digit.
+pub(crate) fn is_word(run: &[u8]) -> bool
+    ensures { result ≡ is_word run.now }
+{
+    !starts_with_digit(run) && is_symbol_bytes(run)
 }
 
 // `0`, or digits that begin with another digit than 0.
-fn is_numeral(run: &[u8]) -> bool {
-    is_digits(run) && (run[0] != b'0' || run.len() == 1)
-}
-
-// One or more digits.
-fn is_digits(run: &[u8]) -> bool {
-    !run.is_empty() && run.iter().all(|byte| byte.is_ascii_digit())
+fn is_numeral(run: &[u8]) -> bool
+    ensures { result ≡ is_numeral run.now }
+{
+    is_digits(run) && (!run.starts_with(b"0") || run.len() == 1)
 }
 
 // `:` and one or more symbol bytes.
-fn is_keyword(run: &[u8]) -> bool {
-    run.len() >= 2 && run[0] == b':' && run[1..].iter().all(|byte| is_symbol_byte(*byte))
+fn is_keyword(run: &[u8]) -> bool
+    ensures { result ≡ is_keyword run.now }
+{
+    run.starts_with(b":") && is_symbol_bytes(&run[1..])
 }
 
 // A numeral, a dot and one or more digits.
-fn is_decimal(run: &[u8]) -> bool {
+fn is_decimal(run: &[u8]) -> bool
+    ensures { result ≡ is_decimal run.now }
+{
     let whole = digits_length(run);
-    whole < run.len()
-        && run[whole] == b'.'
-        && is_numeral(&run[..whole])
-        && is_digits(&run[whole + 1..])
+    is_numeral(&run[..whole]) && run[whole..].starts_with(b".") && is_digits(&run[whole + 1..])
 }
 
 // `#x` and one or more hexadecimal digits.
-fn is_hexadecimal(run: &[u8]) -> bool {
-    run.len() >= 3
-        && run[0] == b'#'
-        && run[1] == b'x'
-        && run[2..].iter().all(|byte| byte.is_ascii_hexdigit())
+fn is_hexadecimal(run: &[u8]) -> bool
+    ensures { result ≡ is_hexadecimal run.now }
+{
+    run.starts_with(b"#x") && is_hexadecimal_digits(&run[2..])
 }
 
 // `#b` and one or more binary digits.
-fn is_binary(run: &[u8]) -> bool {
-    run.len() >= 3
-        && run[0] == b'#'
-        && run[1] == b'b'
-        && run[2..].iter().all(|byte| *byte == b'0' || *byte == b'1')
+fn is_binary(run: &[u8]) -> bool
+    ensures { result ≡ is_binary run.now }
+{
+    run.starts_with(b"#b") && is_binary_digits(&run[2..])
+}
+
+fn starts_with_digit(text: &[u8]) -> bool
+    ensures { result ≡ starts_as is_ascii_digit text.now }
+{
+    !text.is_empty() && text[0].is_ascii_digit()
+}
+
+// One or more symbol bytes.
+fn is_symbol_bytes(text: &[u8]) -> bool
+    ensures { result ≡ is_some_of is_symbol_byte text.now }
+{
+    for byte in text {
+        if !is_symbol_byte(*byte) {
+            return false;
+        }
+    }
+    !text.is_empty()
+}
+
+// One or more digits.
+fn is_digits(text: &[u8]) -> bool
+    ensures { result ≡ is_some_of is_ascii_digit text.now }
+{
+    for byte in text {
+        if !byte.is_ascii_digit() {
+            return false;
+        }
+    }
+    !text.is_empty()
+}
+
+// One or more hexadecimal digits.
+fn is_hexadecimal_digits(text: &[u8]) -> bool
+    ensures { result ≡ is_some_of is_ascii_hexdigit text.now }
+{
+    for byte in text {
+        if !byte.is_ascii_hexdigit() {
+            return false;
+        }
+    }
+    !text.is_empty()
+}
+
+// One or more binary digits.
+fn is_binary_digits(text: &[u8]) -> bool
+    ensures { result ≡ is_some_of is_binary_digit text.now }
+{
+    for byte in text {
+        if !is_binary_digit(*byte) {
+            return false;
+        }
+    }
+    !text.is_empty()
+}
+
+fn is_binary_digit(byte: u8) -> bool
+    ensures { result ≡ is_binary_digit byte }
+{
+    byte == b'0' || byte == b'1'
 }
