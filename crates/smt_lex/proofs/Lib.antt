@@ -1,2 +1,3 @@
+mod Beginnings
+mod Literals
 mod Rows
-pub mod Beginnings

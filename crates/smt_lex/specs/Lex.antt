@@ -1,5 +1,5 @@
 -- The tokens of a text (SMT-LIB 2.6, section 3.1), with their places: bytes counted from 0.
-use Rattle.std.specs.Prelude.{ℕ, zero, suc, ◌+◌, ◌-◌, Bool, true, false, ◌&&◌, not, List, [], ◌∷◌, length, take, drop, count_by, Option, Some, None, option_map, ◌==◌, nat_lt, if◌then◌else◌}
+use Rattle.std.specs.Prelude.{ℕ, zero, suc, ◌+◌, ◌-◌, Bool, true, false, ◌&&◌, not, List, [], ◌∷◌, length, take, drop, count_by, Option, Some, None, ◌==◌, nat_lt, if◌then◌else◌}
 use Rattle.smt_lex.specs.Lexicon.{line_feed, quote, left_parenthesis, right_parenthesis, semicolon, backslash, bar, is_blank, is_line_end, is_run_byte, length_while, run_item}
 use Rattle.smt_lex.specs.Names.{Name, is_reserved}
 use Rattle.smt_lex.specs.declared.items.Item.{Item}
@@ -25,14 +25,21 @@ pub data Lexed : Type 0 where
   faulty : Fault → Lexed
   next : Token → Lexed → Lexed
 
--- how many bytes there are up to and including the quote that closes a literal: two quotes together stand for one
+-- a length with more bytes before it
+abbrev pub longer : ℕ → Option ℕ → Option ℕ
+longer more None = None
+longer more (Some n) = Some (more + n)
+
+-- How many bytes there are up to and including the quote that closes a literal. A quote closes it unless another
+-- stands behind it: the two are one quote of the literal. Such a quote was met, and the next byte decides, where pending.
+abbrev pub literal_from : Bool → List ℕ → Option ℕ
+literal_from pending [] = if pending then Some 0 else None
+literal_from pending (b ∷ bs) =
+    if pending && not (b == quote) then Some 0
+    else longer 1 (literal_from (not pending && b == quote) bs)
+
 abbrev pub literal_length : List ℕ → Option ℕ
-literal_length [] = None
-literal_length (b ∷ []) = if b == quote then Some 1 else None
-literal_length (b ∷ c ∷ bs) = elim (b == quote) [
-    false ↦ option_map suc (literal_length (c ∷ bs))
-  | true ↦ elim (c == quote) [ true ↦ option_map (λ n. n + 2) (literal_length bs) | false ↦ Some 1 ]
-  ]
+literal_length bs = literal_from false bs
 
 -- a literal whose first quote stands before the bytes
 abbrev pub literal_front : List ℕ → Front

@@ -1,6 +1,6 @@
 // What a text begins with.
 
-ghost use Rattle.std.specs.Prelude.{◌≡◌, ◌<◌, length};
+ghost use Rattle.std.specs.Prelude.{◌≡◌, ◌<◌, ◌≤◌, length, IfSome};
 ghost use Rattle.smt_lex.specs.Lex.{front, run_front, literal_front, literal_length, quoted_front};
 
 use crate::classes::{is_blank, is_run_byte, length_until, line_length, run_length};
@@ -62,7 +62,8 @@ fn literal_front(text: &[u8]) -> Front
 
 // How many bytes there are up to and including the quote that ends a literal: the first that isn't doubled.
 fn literal_length(text: &[u8]) -> Option<usize>
-    ensures { result ≡ literal_length text.now }
+    ensures within { IfSome result (λ n. n ≤ length text.now) }
+    ensures closed { result ≡ literal_length text.now }
 {
     let mut at = 0;
     while at < text.len() {
