@@ -1,3 +1,5 @@
 mod Beginnings
 mod Literals
+mod Nesting
+mod Putting
 mod Rows

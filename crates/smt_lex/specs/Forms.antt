@@ -12,6 +12,7 @@ mutual
   pub data Form : Type 0 where
     atom : Token → Form
     node : ℕ → Forms → Form
+
   pub data Forms : Type 0 where
     none : Forms
     ◌⨾◌ : Form → Forms → Forms
@@ -107,8 +108,8 @@ abbrev pub forms_until : Until → List ℕ → Result Forms Fault
 forms_until until bytes = as_forms (tokens_of until bytes)
 
 abbrev pub forms : List ℕ → Result Forms Fault
-forms = forms_until End
+forms bytes = forms_until End bytes
 
 -- the same up to and including the first form `(exit)` that stands in no other
 abbrev pub forms_to_exit : List ℕ → Result Forms Fault
-forms_to_exit = forms_until Exit
+forms_to_exit bytes = forms_until Exit bytes

@@ -73,21 +73,33 @@ front (b ∷ bs) =
     else (if is_run_byte b then run_front (b ∷ bs)
     else BadByte 0))))))
 
+-- how many bytes that takes off
+abbrev pub front_length : Front → ℕ
+front_length (Gap n) = n
+front_length (Lexeme item n) = n
+front_length _ = 0
+
+-- the tokens of bytes that begin at a place, from what the bytes begin with and the tokens behind it
+abbrev pub lexed : Front → ℕ → List ℕ → Lexed → Lexed
+lexed (Gap n) place bytes behind = behind
+lexed (Lexeme item n) place bytes behind = next (record { item = item; start = place; text = take n bytes }) behind
+lexed (BadByte n) place bytes behind = faulty (bad_byte (place + n))
+lexed BadToken place bytes behind = faulty (bad_token place)
+lexed OpenText place bytes behind = faulty (open_text place)
+
 -- the tokens of bytes that begin at a place; the first skip bytes belong to what was just taken off
 abbrev pub lex_from : ℕ → ℕ → List ℕ → Lexed
 lex_from place skip [] = ended place
 lex_from place (suc skip) (b ∷ bs) = lex_from (suc place) skip bs
-lex_from place zero (b ∷ bs) = elim (front (b ∷ bs)) [
-    Gap n ↦ lex_from (suc place) (n - 1) bs
-  | Lexeme item n ↦ next (record { item = item; start = place; text = take n (b ∷ bs) }) (lex_from (suc place) (n - 1) bs)
-  | BadByte n ↦ faulty (bad_byte (place + n))
-  | BadToken ↦ faulty (bad_token place)
-  | OpenText ↦ faulty (open_text place)
-  ]
+lex_from place zero (b ∷ bs) = lexed (front (b ∷ bs)) place (b ∷ bs) (lex_from (suc place) (front_length (front (b ∷ bs)) - 1) bs)
 
 -- the tokens of a text
 abbrev pub lex : List ℕ → Lexed
 lex bytes = lex_from 0 0 bytes
+
+-- the tokens from a place on
+abbrev pub lex_at : List ℕ → ℕ → Lexed
+lex_at bytes place = lex_from place 0 (drop place bytes)
 
 -- the line of a place: 1 and the number of LF before it
 abbrev pub line_at : List ℕ → ℕ → ℕ

@@ -2,3 +2,5 @@ pub mod Lexicon
 pub mod Names
 pub mod Lex
 pub mod Forms
+pub mod Forest
+pub mod Building

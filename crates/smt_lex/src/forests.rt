@@ -1,6 +1,7 @@
 // The forms of a text, as a flat list of tokens.
 
-use crate::builders::{Entry, tokens_of};
+use crate::builders::tokens_of;
+use crate::entries::Entry;
 use crate::faults::LexFault;
 use crate::items::{Item, Span, Until};
 use std::alloc::Global;
@@ -11,19 +12,19 @@ use std::alloc::Global;
 #[derive(Drop)]
 pub struct Forest {
     bytes: Vec<u8>,
-    tokens: Vec<Entry>,
+    entries: Vec<Entry>,
 }
 
 /// The forms of a text of fewer than 2^32 bytes, or its first fault.
 pub fn scan(alloc: Global, bytes: Vec<u8>, until: Until) -> Result<Forest, LexFault> {
-    let tokens = tokens_of(alloc, bytes.as_slice(), until)?;
-    Ok(Forest { bytes, tokens })
+    let entries = tokens_of(alloc, bytes.as_slice(), until)?;
+    Ok(Forest { bytes, entries })
 }
 
 impl Forest {
     /// The number of tokens.
     pub fn len(&self) -> usize {
-        self.tokens.len()
+        self.entries.len()
     }
 
     /// The bytes that `scan` was given.
@@ -33,12 +34,12 @@ impl Forest {
 
     /// The kind of token `i`.
     pub fn item(&self, i: usize) -> Item {
-        self.tokens[i].item
+        self.entries[i].item
     }
 
     /// Where token `i` stands.
     pub fn span(&self, i: usize) -> Span {
-        let token = self.tokens[i];
+        let token = self.entries[i];
         Span {
             start: token.start,
             end: token.end,
@@ -47,13 +48,13 @@ impl Forest {
 
     /// The bytes of token `i`.
     pub fn text(&self, i: usize) -> &[u8] {
-        let token = self.tokens[i];
+        let token = self.entries[i];
         &self.bytes[token.start as usize..token.end as usize]
     }
 
     /// The number of the token behind the form that begins at token `i`; behind a `)` its own and one.
     pub fn after(&self, i: usize) -> usize {
-        self.tokens[i].after as usize
+        self.entries[i].after as usize
     }
 
     /// The symbol that token `i` is, without bars, and its bytes where it is none.

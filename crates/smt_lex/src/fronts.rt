@@ -1,7 +1,8 @@
 // What a text begins with.
 
-ghost use Rattle.std.specs.Prelude.{◌≡◌, ◌<◌, ◌≤◌, length, IfSome};
+ghost use Rattle.std.specs.Prelude.{◌≡◌, ◌+◌, ◌<◌, ◌≤◌, length, IfSome};
 ghost use Rattle.smt_lex.specs.Lex.{front, run_front, literal_front, literal_length, quoted_front};
+ghost use Rattle.smt_lex.specs.Building.{FitsIn};
 
 use crate::classes::{is_blank, is_run_byte, length_until, line_length, run_length};
 use crate::items::Item;
@@ -25,7 +26,8 @@ pub(crate) enum Front {
 /// What the text begins with.
 pub(crate) fn front_of(text: &[u8]) -> Front
     requires { 0 < length text.now }
-    ensures { result ≡ front text.now }
+    ensures within { FitsIn (length text.now) result }
+    ensures value { result ≡ front text.now }
 {
     match text[0] {
         b'(' => Front::Lexeme(Item::Left, 1),
@@ -41,7 +43,8 @@ pub(crate) fn front_of(text: &[u8]) -> Front
 
 // What the run is that the text begins with.
 fn run_front(text: &[u8]) -> Front
-    ensures { result ≡ run_front text.now }
+    ensures within { FitsIn (length text.now) result }
+    ensures value { result ≡ run_front text.now }
 {
     let length = run_length(text);
     match run_item(&text[..length]) {
@@ -52,7 +55,8 @@ fn run_front(text: &[u8]) -> Front
 
 // The literal whose first quote stands before the text.
 fn literal_front(text: &[u8]) -> Front
-    ensures { result ≡ literal_front text.now }
+    ensures within { FitsIn (length text.now + 1) result }
+    ensures value { result ≡ literal_front text.now }
 {
     match literal_length(text) {
         Some(length) => Front::Lexeme(Item::Text, 1 + length),
@@ -80,7 +84,8 @@ fn literal_length(text: &[u8]) -> Option<usize>
 
 // The quoted symbol whose first bar stands before the text.
 fn quoted_front(text: &[u8]) -> Front
-    ensures { result ≡ quoted_front text.now }
+    ensures within { FitsIn (length text.now + 1) result }
+    ensures value { result ≡ quoted_front text.now }
 {
     let length = length_until(text, b'|');
     if length == text.len() {

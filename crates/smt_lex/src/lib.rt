@@ -5,6 +5,7 @@
 
 mod builders;
 mod classes;
+mod entries;
 mod faults;
 mod forests;
 mod fronts;
