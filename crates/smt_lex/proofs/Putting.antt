@@ -1,6 +1,6 @@
 -- What the steps that add an entry do.
 use Rattle.std.proofs.Common.{◌≡◌, ℕ, suc, ◌+◌, ◌<◌, ◌≤◌, List, [], ◌∷◌, ◌++◌, length, get_or, map, set, refl, ap, sym, ◌∙◌, subst, inl, inr, arith, true, false, eqb}
-use Rattle.std.proofs.lemmas.List.{map_push, length_push, get_or_push, get_or_append_left, get_or-set_other, get_or-set_same, length-set}
+use Rattle.std.proofs.lemmas.List.{map_push, length_push, get_or_push, get_or_append_left, get_or-set_other, get_or-set_same, length-set, get_or_default}
 use Rattle.std.proofs.Math.Seq.{map-set_same}
 use Rattle.std.proofs.lemmas.Bool.Decides.{eqb_tells}
 use Rattle.smt_lex.specs.declared.items.Item.{Item}
@@ -95,16 +95,19 @@ puts_left start end es fs lists left some nests listed is =
       spans = spans_push start end es e (record { some = some; within = omega arith; bars = λ quoted. absurd (cc) }) refl;
     }))
 
-pub puts_right : (start end : ℕ) (es fs : List Entry) (lists left : List ℕ) (o : ℕ) (closed : Entry) → start < end → Nests es lists → lists ≡ left ++ o ∷ []
-    → closed ≡ record (entry_at es o) { after = length es + 1 }
-    → fs ≡ set (es ++ record { start = start; end = end; after = length es + 1; item = Right } ∷ []) o closed → Puts Right start end es fs lists left
-puts_right start end es fs lists left o closed some nests popped closes is =
+pub puts_right : (start end : ℕ) (es fs : List Entry) (lists left : List ℕ) (o : ℕ) (read closed : Entry) (gs : List Entry) → start < end → Nests es lists → lists ≡ left ++ o ∷ []
+    → gs ≡ es ++ record { start = start; end = end; after = length es + 1; item = Right } ∷ [] → read ≡ get_or gs o read → closed ≡ record read { after = length es + 1 }
+    → fs ≡ set gs o closed → Puts Right start end es fs lists left
+puts_right start end es fs lists left o read closed gs some nests popped pushed reads made is =
     let e : Entry = record { start = start; end = end; after = length es + 1; item = Right } in
     let nests : Nests es (left ++ o ∷ []) = subst (Nests es) popped nests in
     let below = closed_below es e left o refl (omega arith) nests in
     let opens = closed_left es e left o refl (omega arith) nests in
     let there : entry_at (es ++ e ∷ []) o ≡ entry_at es o = get_or_append_left es (e ∷ []) no_entry o below in
-    subst (λ fs. Puts Right start end es fs lists left) (sym is) (record {
+    let reads : read ≡ entry_at es o =
+        reads ∙ ap (λ gs. get_or gs o read) pushed ∙ get_or_append_left es (e ∷ []) read o below ∙ get_or_default es o read no_entry below in
+    let closes : closed ≡ record (entry_at es o) { after = length es + 1 } = made ∙ ap (λ (e : Entry). record e { after = length es + 1 }) reads in
+    subst (λ fs. Puts Right start end es fs lists left) (sym (is ∙ ap (λ gs. set gs o closed) pushed)) (record {
       tokens = λ bytes. map-set_same (token_of bytes) (es ++ e ∷ []) o closed no_entry (ap (token_of bytes) closes ∙ sym (ap (token_of bytes) there)) ∙ tokens_push es e bytes;
       depth = let n = ap length popped in omega (arith, n, length_push left o);
       nests = nests_right es e left o refl (omega arith) nests closed (ap (λ (e : Entry). e.item) closes ∙ opens) (ap (λ (e : Entry). e.after) closes ∙ omega arith);

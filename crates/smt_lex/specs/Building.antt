@@ -10,7 +10,7 @@ use Rattle.smt_lex.specs.declared.entries.Entry.{Entry}
 use Rattle.smt_lex.specs.declared.entries.Watch.{Watch}
 use Rattle.smt_lex.specs.declared.entries.Watch.TheVariants.{Never, Elsewhere, Opened, Named, Met}
 use Rattle.smt_lex.specs.Lex.{Token, Fault, Lexed, ended, next}
-use Rattle.smt_lex.specs.Forms.{is_left, is_right, is_exit_word, depth_after, balanced, first_tokens, to_exit}
+use Rattle.smt_lex.specs.Forms.{is_left, is_right, is_exit_word, depth_after, balanced, first_tokens, begins_with_right, begins_with_name, to_exit}
 use Rattle.smt_lex.specs.Forest.{closing, form_length}
 
 -- the bytes begin with so much, and it isn't empty
@@ -47,15 +47,6 @@ watch_after Elsewhere depth item text = if is_left item && depth == 0 then Opene
 watch_after Opened depth item text = if is_exit_word item text then Named else Elsewhere
 watch_after Named depth item text = if is_right item then Met else Elsewhere
 watch_after Met depth item text = Met
-
--- the tokens go on with `exit)`, or with `)`
-abbrev pub begins_with_name : Lexed → Bool
-begins_with_name (next b (next c ts)) = is_exit_word b.item b.text && is_right c.item
-begins_with_name _ = false
-
-abbrev pub begins_with_right : Lexed → Bool
-begins_with_right (next c ts) = is_right c.item
-begins_with_right _ = false
 
 -- the part of the tokens to come that is examined, where depth lists are open
 abbrev pub left_of : Watch → ℕ → Lexed → Lexed

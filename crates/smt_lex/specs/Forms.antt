@@ -62,9 +62,17 @@ first_tokens zero ts = ended 0
 first_tokens (suc n) (next t ts) = next t (first_tokens n ts)
 first_tokens (suc n) ts = ts
 
--- the tokens begin with `(exit)`
+-- the tokens begin with `)`, with `exit)`, with `(exit)`
+abbrev pub begins_with_right : Lexed → Bool
+begins_with_right (next t ts) = is_right t.item
+begins_with_right _ = false
+
+abbrev pub begins_with_name : Lexed → Bool
+begins_with_name (next t ts) = is_exit_word t.item t.text && begins_with_right ts
+begins_with_name _ = false
+
 abbrev pub begins_with_exit : Lexed → Bool
-begins_with_exit (next a (next b (next c ts))) = is_left a.item && is_exit_word b.item b.text && is_right c.item
+begins_with_exit (next t ts) = is_left t.item && begins_with_name ts
 begins_with_exit _ = false
 
 -- the tokens up to and including the first form `(exit)` that stands in no other, where depth lists are open

@@ -1,8 +1,8 @@
 // The tokens of a text, as far as it was examined.
 
-ghost use Rattle.std.specs.Prelude.{◌≡◌, ◌≢◌, ◌<◌, ◌≤◌, ◌+◌, ◌^◌, [], length, IfOk, OnOk, IfErr, vec_len};
+ghost use Rattle.std.specs.Prelude.{◌≡◌, ◌≢◌, ◌&&◌, ◌==◌, ◌<◌, ◌≤◌, ◌+◌, ◌^◌, [], length, IfOk, OnOk, IfErr, vec_len};
 ghost use Rattle.smt_lex.specs.Lex.{Lexed, next, lex_at, line_at};
-ghost use Rattle.smt_lex.specs.Forms.{tokens_of};
+ghost use Rattle.smt_lex.specs.Forms.{is_right, tokens_of};
 ghost use Rattle.smt_lex.specs.Forest.{Refuses};
 ghost use Rattle.smt_lex.specs.Building.{IsBuilt, Nests, Spans, Puts, IsAtom, token, outcome, tokens_in};
 
@@ -47,6 +47,13 @@ impl Builder {
         }
     }
 
+    // Whether the token is a `)` without its `(`.
+    fn closes_none(&self, item: Item) -> bool
+        ensures { result ≡ (is_right item && length self.now.lists.items == 0) }
+    {
+        is_right(item) && self.lists.is_empty()
+    }
+
     // Adds a token.
     fn add(&mut self, bytes: &[u8], item: Item, start: usize, end: usize) -> Result<(), LexFault>
         requires small { length bytes.now < 2 ^ 32 }
@@ -62,7 +69,7 @@ impl Builder {
         ensures fault { (behind : Lexed) → IfErr result (Refuses bytes.now
             (outcome bytes.now self.old.watch self.old.entries.items self.old.lists.items (next (token bytes.now item start end) behind))) }
     {
-        if is_right(item) && self.lists.is_empty() {
+        if self.closes_none(item) {
             return Err(unbalanced(bytes, start));
         }
         let watch = self.watch.after(self.lists.len(), item, &bytes[start..end]);
