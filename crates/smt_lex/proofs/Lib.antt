@@ -1,4 +1,5 @@
 mod Beginnings
+mod Lexing
 mod Literals
 mod Nesting
 mod Outcomes
