@@ -40,6 +40,10 @@ no_entry = record { start = 0; end = 0; after = 0; item = Right }
 abbrev pub entry_at : List Entry → ℕ → Entry
 entry_at es i = slice_index_or es i no_entry
 
+abbrev pub first_watch : Until → Watch
+first_watch End = Never
+first_watch Exit = Elsewhere
+
 -- how much of a form `(exit)` that stands in no other the last tokens are, after one more
 abbrev pub watch_after : Watch → ℕ → Item → List ℕ → Watch
 watch_after Never depth item text = Never
