@@ -5,3 +5,4 @@ mod Nesting
 mod Outcomes
 mod Putting
 mod Rows
+pub mod Stepping

@@ -75,12 +75,12 @@ and_false false = refl
 
 watches_elsewhere : (depth : ℕ) (t : Token) (ts : Lexed) → Watches Elsewhere depth t ts
 watches_elsewhere depth t ts = elim (tell (is_left t.item)) [
-    inr other ↦ elsewhere_on depth t ts (rw other refl) (rw other (and_false (eqb depth 0)))
+  | inr other ↦ elsewhere_on depth t ts (rw other refl) (rw other (and_false (eqb depth 0)))
   | inl left ↦ elim (eqb_tells depth 0) [
-      inl is ↦ elsewhere_opens depth t ts left is.0 is.1
+    | inl is ↦ elsewhere_opens depth t ts left is.0 is.1
     | inr inside ↦ elsewhere_on depth t ts (rw (left, inside.0) refl) (rw inside.0 refl)
-    ]
   ]
+]
 
 -- behind the `(`
 opened_exit : (t : Token) (ts : Lexed) → is_exit_word t.item t.text ≡ true → Watches Opened 1 t ts
@@ -130,8 +130,8 @@ outcome_next bytes w es fs lists left t ts met top closes added depth =
     ap (λ us. prefixed us (balanced (length left) (left_of (watch_after w (length lists) t.item t.text) (length left) ts))) added
     ∙ ap (λ d. prefixed (tokens_in bytes es ++ t ∷ []) (balanced d (left_of (watch_after w (length lists) t.item t.text) d ts))) depth
     ∙ sym (ap (λ ts. prefixed (tokens_in bytes es) (balanced (length lists) ts)) here.left
-        ∙ ap (prefixed (tokens_in bytes es)) (balanced_next (length lists) t (left_of (watch_after w (length lists) t.item t.text) (depth_after t.item (length lists)) ts) closes)
-        ∙ prefixed_next (tokens_in bytes es) t _)
+    ∙ ap (prefixed (tokens_in bytes es)) (balanced_next (length lists) t (left_of (watch_after w (length lists) t.item t.text) (depth_after t.item (length lists)) ts) closes)
+    ∙ prefixed_next (tokens_in bytes es) t _)
 
 -- a `)` too many
 pub outcome_over : (bytes : List ℕ) (w : Watch) (es : List Entry) (lists : List ℕ) (t : Token) (ts : Lexed)
@@ -233,14 +233,14 @@ module _ (until : Until) (bytes : List ℕ) (place : ℕ) (es : List Entry) (lis
 
   pub finished : Stops bytes place w → lists ≡ [] → tokens_of until bytes ≡ Ok (tokens_in bytes es)
   finished stops none = elim stops [
-      inl end ↦ sym going.same ∙ ap (outcome bytes w es lists) (at_end end) ∙ outcome_ended bytes w es lists (length bytes) (ap length none)
+    | inl end ↦ sym going.same ∙ ap (outcome bytes w es lists) (at_end end) ∙ outcome_ended bytes w es lists (length bytes) (ap length none)
     | inr met ↦ sym going.same ∙ ap (λ w. outcome bytes w es lists (lex_at bytes place)) met ∙ outcome_met bytes es lists (lex_at bytes place) (ap length none)
-    ]
+  ]
 
   pub unfinished : Stops bytes place w → 0 < length lists → tokens_of until bytes ≡ Err (unbalanced (length bytes))
   unfinished stops some =
       let met : w ≢ Met = λ is. let none : length lists ≡ 0 = subst (λ w. AtTop w (length lists)) is going.built.top in omega (arith, none, some) in
       elim stops [
-        inl end ↦ sym going.same ∙ ap (outcome bytes w es lists) (at_end end) ∙ outcome_open bytes w es lists (length bytes) met some
-      | inr is ↦ absurd (met is)
+        | inl end ↦ sym going.same ∙ ap (outcome bytes w es lists) (at_end end) ∙ outcome_open bytes w es lists (length bytes) met some
+        | inr is ↦ absurd (met is)
       ]

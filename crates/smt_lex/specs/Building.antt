@@ -1,5 +1,5 @@
 -- The tokens of a text as they are collected from left to right.
-use Rattle.std.specs.Prelude.{◌≡◌, ℕ, zero, suc, ◌+◌, ◌-◌, ◌<◌, ◌≤◌, ◌⊎◌, Bool, true, false, ◌&&◌, List, [], ◌∷◌, ◌++◌, length, take, drop, map, Result, Ok, Err, ◌==◌, if◌then◌else◌, slice_index_or, slice_range}
+use Rattle.std.specs.Prelude.{◌≡◌, ℕ, zero, suc, ◌+◌, ◌-◌, ◌<◌, ◌≤◌, ◌^◌, ◌⊎◌, Bool, true, false, ◌&&◌, List, [], ◌∷◌, ◌++◌, length, take, drop, map, Result, Ok, Err, ◌==◌, if◌then◌else◌, slice_index_or, slice_range}
 use Rattle.smt_lex.specs.declared.items.Item.{Item}
 use Rattle.smt_lex.specs.declared.items.Item.TheVariants.{Left, Right, Quoted}
 use Rattle.smt_lex.specs.declared.items.Until.{Until}
@@ -11,7 +11,7 @@ use Rattle.smt_lex.specs.declared.entries.Watch.{Watch}
 use Rattle.smt_lex.specs.declared.entries.Watch.TheVariants.{Never, Elsewhere, Opened, Named, Met}
 use Rattle.smt_lex.specs.Lex.{Token, Fault, Lexed, ended, next}
 use Rattle.smt_lex.specs.Forms.{is_left, is_right, is_exit_word, depth_after, balanced, first_tokens, begins_with_right, begins_with_name, to_exit}
-use Rattle.smt_lex.specs.Forest.{closing, form_length}
+use Rattle.smt_lex.specs.Forest.{closing, form_length, IsBalanced, Source}
 
 -- the bytes begin with so much, and it isn't empty
 abbrev pub FitsIn : ℕ → Front → Type 0
@@ -122,3 +122,13 @@ pub record IsBuilt (place : ℕ) (es : List Entry) (lists : List ℕ) (watch : W
   pub spans : Spans place es
   pub nests : Nests es lists
   pub top : AtTop watch (length lists)
+
+-- what a forest keeps
+pub record IsForest (bytes : List ℕ) (es : List Entry) : Type 0 where
+  pub small : length bytes < 2 ^ 32
+  pub spans : Spans (length bytes) es
+  pub ends : Nests es []
+  pub balanced : IsBalanced (tokens_in bytes es)
+
+abbrev pub source : List ℕ → List Entry → Source
+source bytes es = record { bytes = bytes; tokens = tokens_in bytes es }

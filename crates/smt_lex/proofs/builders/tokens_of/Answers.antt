@@ -17,24 +17,24 @@ loop-place-init c =
 pub returns-clause-tokens : goal.returns-clause-tokens
 returns-clause-tokens c =
     let stops : Stops c.args.bytes.now c.loop-place.place c.loop-place.builder.watch =
-        (elim c.loop-place-test.branch [
-            then-loop-place-test+else-not-matches w ↦ elim w.match-matches.branch [ in-Met w' ↦ inr w'.in-Met.is | in_default w' ↦ absurd (cc (w'.matches-is, w.if-not-matches.false)) ]
-          | else-loop-place-test w ↦ inl w.loop-place-test.false
-        ]) in
+    (elim c.loop-place-test.branch [
+      | then-loop-place-test+else-not-matches w ↦ elim w.match-matches.branch [ in-Met w' ↦ inr w'.in-Met.is | in_default w' ↦ absurd (cc (w'.matches-is, w.if-not-matches.false)) ]
+      | else-loop-place-test w ↦ inl w.loop-place-test.false
+    ]) in
     IfOk-weaker c.finish.result _ (λ entries. tokens_of c.args.until c.args.bytes.now ≡ Ok (tokens_in c.args.bytes.now entries.items))
-        (λ entries said. finished c.args.until c.args.bytes.now c.loop-place.place c.loop-place.builder.entries.items c.loop-place.builder.lists.items c.loop-place.builder.watch c.loop-place.invariant stops said.1
-            ∙ ap (λ es. Ok (tokens_in c.args.bytes.now es)) (sym said.0))
-        c.finish.ensures.ok
+    (λ entries said. finished c.args.until c.args.bytes.now c.loop-place.place c.loop-place.builder.entries.items c.loop-place.builder.lists.items c.loop-place.builder.watch c.loop-place.invariant stops said.1
+    ∙ ap (λ es. Ok (tokens_in c.args.bytes.now es)) (sym said.0))
+    c.finish.ensures.ok
 
 pub returns-clause-fault : goal.returns-clause-fault
 returns-clause-fault c =
     let stops : Stops c.args.bytes.now c.loop-place.place c.loop-place.builder.watch =
-        (elim c.loop-place-test.branch [
-            then-loop-place-test+else-not-matches w ↦ elim w.match-matches.branch [ in-Met w' ↦ inr w'.in-Met.is | in_default w' ↦ absurd (cc (w'.matches-is, w.if-not-matches.false)) ]
-          | else-loop-place-test w ↦ inl w.loop-place-test.false
-        ]) in
+    (elim c.loop-place-test.branch [
+      | then-loop-place-test+else-not-matches w ↦ elim w.match-matches.branch [ in-Met w' ↦ inr w'.in-Met.is | in_default w' ↦ absurd (cc (w'.matches-is, w.if-not-matches.false)) ]
+      | else-loop-place-test w ↦ inl w.loop-place-test.false
+    ]) in
     let bytes = c.args.bytes.now in
     IfErr-weaker c.finish.result (λ fault. (0 < c.loop-place.builder.lists.len) × (fault ≡ Unbalanced (length bytes) (line_at bytes (length bytes)))) (Refuses bytes (tokens_of c.args.until bytes))
-        (λ fault said. subst (Refuses bytes (tokens_of c.args.until bytes)) (sym said.1)
-            (unfinished c.args.until bytes c.loop-place.place c.loop-place.builder.entries.items c.loop-place.builder.lists.items c.loop-place.builder.watch c.loop-place.invariant stops (omega (arith, said.0, c.loop-place.builder.lists.ok.0)), refl))
-        c.finish.ensures.fault
+    (λ fault said. subst (Refuses bytes (tokens_of c.args.until bytes)) (sym said.1)
+    (unfinished c.args.until bytes c.loop-place.place c.loop-place.builder.entries.items c.loop-place.builder.lists.items c.loop-place.builder.watch c.loop-place.invariant stops (omega (arith, said.0, c.loop-place.builder.lists.ok.0)), refl))
+    c.finish.ensures.fault
