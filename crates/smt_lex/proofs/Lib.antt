@@ -1,4 +1,5 @@
 mod Beginnings
+mod Keeping
 mod Lexing
 mod Literals
 mod Nesting
