@@ -4,6 +4,7 @@ mod Lexing
 mod Literals
 mod Nesting
 mod Outcomes
+mod Printing
 mod Putting
 mod Rows
 pub mod Stepping
