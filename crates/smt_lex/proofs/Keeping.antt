@@ -33,11 +33,11 @@ balanced_closes (suc depth) (ended n) us h = absurd (cc)
 balanced_closes zero (faulty fault) us h = absurd (cc)
 balanced_closes (suc depth) (faulty fault) us h = absurd (cc)
 balanced_closes depth (next t ts) us h = elim (tell (is_right t.item && eqb depth 0)) [
-    inl over ↦ absurd (let e = rw over at h in cc)
+  | inl over ↦ absurd (let e = rw over at h in cc)
   | inr goes ↦
       let behind = with_token_ok t (balanced (depth_after t.item depth) ts) us (rw goes at h) in
       ap (λ us. closes depth (items us)) behind.2 ∙ closes_next t behind.0 depth goes (balanced_closes (depth_after t.item depth) ts behind.0 behind.1)
-  ]
+]
 
 pub tokens_balanced : (until : Until) (bytes : List ℕ) (ts : List Token) → tokens_of until bytes ≡ Ok ts → IsBalanced ts
 tokens_balanced End bytes ts h = balanced_closes 0 (lex bytes) ts h
@@ -56,9 +56,9 @@ module _ (bytes : List ℕ) (es : List Entry) (forest : IsForest bytes es) where
 
   pub after_is : (i : ℕ) → i < length es → (entry_at es i).after ≡ after_at (tokens_in bytes es) i
   after_is i within = elim (forest.ends.ends i within) [
-      inl listed ↦ absurd (let none = listed.1 in omega (arith, none))
+    | inl listed ↦ absurd (let none = listed.1 in omega (arith, none))
     | inr ends ↦ sym (ends []) ∙ ap (λ xs. i + form_length (drop i xs)) (append-nil (entry_items es) ∙ sym (items_in bytes es))
-    ]
+  ]
 
   text_length : (i : ℕ) → i < length es → length (slice_range bytes (entry_at es i).start (entry_at es i).end) ≡ (entry_at es i).end - (entry_at es i).start
   text_length i within =

@@ -52,8 +52,15 @@ run_byte b symbol = rw symbol refl
 
 front_run : (b : ℕ) (bs : List ℕ) → is_symbol_byte b ≡ true → front (b ∷ bs) ≡ run_front (b ∷ bs)
 front_run b bs symbol =
-    rw (other_byte is_symbol_byte b left_parenthesis symbol refl, other_byte is_symbol_byte b right_parenthesis symbol refl, other_byte is_symbol_byte b semicolon symbol refl,
-        other_byte is_symbol_byte b quote symbol refl, other_byte is_symbol_byte b bar symbol refl, not_blank b symbol, run_byte b symbol) refl
+    rw (
+      other_byte is_symbol_byte b left_parenthesis symbol refl,
+      other_byte is_symbol_byte b right_parenthesis symbol refl,
+      other_byte is_symbol_byte b semicolon symbol refl,
+      other_byte is_symbol_byte b quote symbol refl,
+      other_byte is_symbol_byte b bar symbol refl,
+      not_blank b symbol,
+      run_byte b symbol,
+    ) refl
 
 run_is : (xs : List ℕ) (n : ℕ) (item : Item) → length_while is_run_byte xs ≡ n → run_item (take n xs) ≡ Some item → run_front xs ≡ Lexeme item n
 run_is xs n item long is = ap (λ n. run_by (run_item (take n xs)) n) long ∙ ap (λ o. run_by o n) is
@@ -63,23 +70,23 @@ pub front_word : (word rest : List ℕ) → is_word word ≡ true → starts_as 
 front_word [] rest is stops = absurd (cc)
 front_word (b ∷ bs) rest is stops =
     let all : list_all is_symbol_byte (b ∷ bs) ≡ true =
-        and_left (list_all is_symbol_byte (b ∷ bs)) (not (eqb (length (b ∷ bs)) 0)) (and_right (not (is_ascii_digit b)) (is_some_of is_symbol_byte (b ∷ bs)) is) in
+    and_left (list_all is_symbol_byte (b ∷ bs)) (not (eqb (length (b ∷ bs)) 0)) (and_right (not (is_ascii_digit b)) (is_some_of is_symbol_byte (b ∷ bs)) is) in
     front_run b (bs ++ rest) (and_left (is_symbol_byte b) (list_all is_symbol_byte bs) all)
     ∙ run_is ((b ∷ bs) ++ rest) (length (b ∷ bs)) Word
-        (length_while-append is_run_byte (b ∷ bs) rest (list_all-weaker is_symbol_byte is_run_byte run_byte (b ∷ bs) all) stops)
-        (ap run_item (take_at (b ∷ bs) rest (length (b ∷ bs)) refl) ∙ rw is refl)
+    (length_while-append is_run_byte (b ∷ bs) rest (list_all-weaker is_symbol_byte is_run_byte run_byte (b ∷ bs) all) stops)
+    (ap run_item (take_at (b ∷ bs) rest (length (b ∷ bs)) refl) ∙ rw is refl)
 
 -- a name between bars is one token
 pub front_quoted : (name rest : List ℕ) → IsName name → front (bar ∷ (name ++ bar ∷ rest)) ≡ Lexeme Quoted (length name + 2)
 front_quoted name rest is =
     let no_bar : list_all (λ b. not (eqb b bar)) name ≡ true =
-        list_all-weaker (λ b. not (eqb b bar) && not (eqb b backslash)) (λ b. not (eqb b bar)) (λ b h. and_left (not (eqb b bar)) (not (eqb b backslash)) h) name is in
+    list_all-weaker (λ b. not (eqb b bar) && not (eqb b backslash)) (λ b. not (eqb b bar)) (λ b h. and_left (not (eqb b bar)) (not (eqb b backslash)) h) name is in
     let no_backslash : list_all (λ b. not (eqb b backslash)) name ≡ true =
-        list_all-weaker (λ b. not (eqb b bar) && not (eqb b backslash)) (λ b. not (eqb b backslash)) (λ b h. and_right (not (eqb b bar)) (not (eqb b backslash)) h) name is in
+    list_all-weaker (λ b. not (eqb b bar) && not (eqb b backslash)) (λ b. not (eqb b backslash)) (λ b h. and_right (not (eqb b bar)) (not (eqb b backslash)) h) name is in
     let inside : length_while (λ b. not (eqb b bar)) (name ++ bar ∷ rest) ≡ length name = length_while-append (λ b. not (eqb b bar)) name (bar ∷ rest) no_bar refl in
     let clean : length_while (λ b. not (eqb b backslash)) (take (length name) (name ++ bar ∷ rest)) ≡ length name =
-        ap (length_while (λ b. not (eqb b backslash))) (take_at name (bar ∷ rest) (length name) refl ∙ sym (append-nil name))
-        ∙ length_while-append (λ b. not (eqb b backslash)) name [] no_backslash refl in
+    ap (length_while (λ b. not (eqb b backslash))) (take_at name (bar ∷ rest) (length name) refl ∙ sym (append-nil name))
+    ∙ length_while-append (λ b. not (eqb b backslash)) name [] no_backslash refl in
     let closed : eqb (length name) (length (name ++ bar ∷ rest)) ≡ false = ne_eqb _ _ (λ same. omega (arith, same, length-append name (bar ∷ rest))) in
     let all_clean : ltb (length name) (length name) ≡ false = le-ltb (length name) (length name) (omega arith) in
     rw inside (rw clean (rw (closed, all_clean) refl))
@@ -111,14 +118,16 @@ quoted_symbol : (name : Name) → IsName name → IsOneSymbol (bar ∷ (name ++ 
 quoted_symbol name is =
     let text = bar ∷ (name ++ bar ∷ []) in
     let long : length name + 2 ≡ length text = omega (arith, length-append name (bar ∷ [])) in
-    let inside : length text - 2 ≡ length name = omega (arith, length-append name (bar ∷ [])) in
-    (token text Quoted 0 (length text), one_token text Quoted (omega arith) (front_quoted name [] is ∙ ap (Lexeme Quoted) long),
-     ap (symbol_by Quoted) (whole text) ∙ ap Some (ap (λ n. take n (name ++ bar ∷ [])) inside ∙ take_at name (bar ∷ []) (length name) refl))
+    let inside : length text - 2 ≡ length name = omega (arith, length-append name (bar ∷ [])) in (
+      token text Quoted 0 (length text),
+      one_token text Quoted (omega arith) (front_quoted name [] is ∙ ap (Lexeme Quoted) long),
+      ap (symbol_by Quoted) (whole text) ∙ ap Some (ap (λ n. take n (name ++ bar ∷ [])) inside ∙ take_at name (bar ∷ []) (length name) refl),
+    )
 
 -- the printed symbol is one token, the symbol
 pub one_symbol : (name : Name) → IsName name → IsOneSymbol (printed_symbol name) name
 one_symbol name is = elim (tell (is_simple name)) [
-    inl simple ↦
+  | inl simple ↦
       let word : is_word name ≡ true = and_left (is_word name) (not (is_reserved name)) simple in
       let free : not (is_reserved name) ≡ true = and_right (is_word name) (not (is_reserved name)) simple in
       let text : name ≡ printed_symbol name = sym (rw simple refl) in
@@ -126,4 +135,4 @@ one_symbol name is = elim (tell (is_simple name)) [
   | inr quoted ↦
       let text : bar ∷ name ++ bar ∷ [] ≡ printed_symbol name = sym (rw quoted refl) in
       subst (λ text. IsOneSymbol text name) text (quoted_symbol name is)
-  ]
+]

@@ -77,11 +77,11 @@ closes_on x depth more xs on h = subst (λ d. closes d xs ≡ true) (deeper x de
 closing_within : (depth more : ℕ) (xs : List Item) → closes (suc (depth + more)) xs ≡ true → closing depth xs ≤ length xs
 closing_within depth more [] h = absurd (cc (h, eqb-suc-zero (depth + more)))
 closing_within depth more (x ∷ xs) h = elim (tell (is_right x && eqb depth 0)) [
-    inl here ↦ omega (arith, closing_here x depth xs here)
+  | inl here ↦ omega (arith, closing_here x depth xs here)
   | inr on ↦
       let further = closing_within (depth_after x depth) more xs (closes_on x depth more xs on h) in
       omega (arith, closing_on x depth xs on, further)
-  ]
+]
 
 -- what is left around so many lists
 abbrev pub outer : ℕ → Forms × List Forms → Forms × List Forms
@@ -112,14 +112,14 @@ rest_step t ts behind depth more h = by_kind (kind t.item)
         further (rw is refl) ∙ ap (λ item. outer (suc (depth_after item depth)) (rest ts)) is ∙ sym (outer_left depth t (rest ts))
         ∙ sym (ap (λ item. outer (suc depth) (before item t (rest ts))) is)
     by_kind (closes_one is) = elim (eqb_tells depth 0) [
-        inl here ↦
+      | inl here ↦
           ap (λ n. rest (drop n (t ∷ ts))) (closing_here t.item depth (items ts) (rw (is, here.0) refl))
           ∙ sym (ap (λ d. outer (suc d) (before t.item t (rest ts))) here.1 ∙ ap (λ item. outer 1 (before item t (rest ts))) is)
       | inr other ↦
           let less : suc (depth - 1) ≡ depth = omega (arith, other.1) in
           further (rw (is, other.0) refl) ∙ ap (λ item. outer (suc (depth_after item depth)) (rest ts)) is ∙ ap (λ d. outer d (rest ts)) less
           ∙ sym (ap (λ item. outer (suc depth) (before item t (rest ts))) is)
-      ]
+    ]
     by_kind (single is) =
         further (rw (is.right) refl) ∙ ap (λ d. outer (suc d) (rest ts)) (is.depth depth)
         ∙ outer_apart depth (rest ts).0 (atom t ⨾ (rest ts).0) (rest ts).1
@@ -150,10 +150,10 @@ around_step t ts behind depth h = by_kind (kind t.item)
     by_kind (closes_one is) =
         let inside = rw is at (and_left (not (is_right t.item && eqb depth 0)) (closes (depth_after t.item depth) (items ts)) h) in
         elim (eqb_tells depth 0) [
-          inl none_is ↦ absurd (cc (inside, none_is.0))
-        | inr other ↦
-            let less : suc (depth - 1) ≡ depth = omega (arith, other.1) in
-            ap (λ item. length (before item t (rest ts)).1) is ∙ ap suc (further ∙ ap (λ item. depth_after item depth) is) ∙ less
+          | inl none_is ↦ absurd (cc (inside, none_is.0))
+          | inr other ↦
+              let less : suc (depth - 1) ≡ depth = omega (arith, other.1) in
+              ap (λ item. length (before item t (rest ts)).1) is ∙ ap suc (further ∙ ap (λ item. depth_after item depth) is) ∙ less
         ]
     by_kind (single is) = ap (λ r. length r.1) (is.before t (rest ts)) ∙ further ∙ is.depth depth
 

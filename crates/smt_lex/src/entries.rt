@@ -51,6 +51,8 @@ fn is_exit_word(item: Item, text: &[u8]) -> bool
     }
 }
 
+const _: () = prove!(size_of::<Entry>() <= 16);
+
 impl Watch {
     ghost use Rattle.smt_lex.specs.Building.{watch_after, first_watch};
 
