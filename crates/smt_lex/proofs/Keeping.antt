@@ -1,23 +1,16 @@
 -- What a forest keeps, and what it shows.
-use Rattle.std.proofs.Common.{◌≡◌, ℕ, zero, suc, ◌+◌, ◌-◌, ◌<◌, ◌≤◌, ◌^◌, ◌⊎◌, inl, inr, Bool, true, false, eqb, not, List, [], ◌∷◌, ◌++◌, length, get_or, take, drop, map, Result, Ok, Err, refl, ap, sym, ◌∙◌, subst, arith, append-nil}
+use Rattle.std.proofs.Common.{◌≡◌, ℕ, zero, suc, ◌+◌, ◌-◌, ◌<◌, ◌≤◌, ◌^◌, inl, inr, true, false, eqb, List, [], ◌∷◌, length, get_or, drop, Result, Ok, Err, refl, ap, sym, ◌∙◌, subst, arith, append-nil}
 use Rattle.std.specs.Prelude.{◌&&◌, slice_range}
 use Rattle.std.proofs.lemmas.List.{length-map, length-take-le, length-drop, get_or-map, get_or_default}
-use Rattle.smt_lex.specs.declared.items.Item.{Item}
-use Rattle.smt_lex.specs.declared.items.Item.TheVariants.{Right, Quoted}
+use Rattle.smt_lex.proofs.Choices.{tell}
 use Rattle.smt_lex.specs.declared.items.Until.{Until}
 use Rattle.smt_lex.specs.declared.items.Until.TheVariants.{End, Exit}
 use Rattle.smt_lex.specs.declared.entries.Entry.{Entry}
-use Rattle.smt_lex.specs.declared.faults.LexFault.{LexFault}
-use Rattle.smt_lex.specs.declared.faults.LexFault.TheVariants.{BadByte, BadToken, OpenText, Unbalanced, Memory}
 use Rattle.smt_lex.specs.Lex.{Token, Fault, Lexed, ended, faulty, next, lex}
 use Rattle.smt_lex.specs.Forms.{is_right, depth_after, with_token, balanced, to_exit, tokens_of}
 use Rattle.smt_lex.specs.Forest.{no_token, token_at, end_of, items, form_length, after_at, closes, IsBalanced, IsScanned}
 use Rattle.smt_lex.proofs.Stepping.{after_bounds}
-use Rattle.smt_lex.specs.Building.{Nests, Spans, EndsAt, IsForest, entry_at, no_entry, entry_items, token_of, tokens_in, source}
-
-tell : (b : Bool) → (b ≡ true) ⊎ (b ≡ false)
-tell true = inl refl
-tell false = inr refl
+use Rattle.smt_lex.specs.Building.{Nests, Spans, IsForest, entry_at, no_entry, entry_items, token_of, tokens_in, source}
 
 with_token_ok : (t : Token) (r : Result (List Token) Fault) (us : List Token) → with_token t r ≡ Ok us → (vs : List Token) × (r ≡ Ok vs) × (us ≡ t ∷ vs)
 with_token_ok t (Ok vs) us h = (vs, refl, cc)

@@ -1,11 +1,11 @@
 -- The tokens of a text, taken off one after the other.
-use Rattle.std.proofs.Common.{◌≡◌, ℕ, zero, suc, ◌+◌, ◌-◌, ◌<◌, ◌≤◌, List, [], ◌∷◌, length, get_or, take, drop, refl, ap, sym, ◌∙◌, arith}
+use Rattle.std.proofs.Common.{◌≡◌, ℕ, zero, suc, ◌+◌, ◌-◌, ◌<◌, ◌≤◌, List, [], ◌∷◌, length, get_or, take, drop, ap, sym, ◌∙◌, arith}
 use Rattle.std.proofs.lemmas.List.{drop_more, drop_all, drop-drop, length-drop}
 use Rattle.smt_lex.specs.declared.items.Item.{Item}
 use Rattle.smt_lex.specs.declared.items.Item.TheVariants.{Left, Right, Numeral, Decimal, Hex, Bin, Text, Word, Quoted, Keyword}
 use Rattle.smt_lex.specs.declared.fronts.Front.{Front}
 use Rattle.smt_lex.specs.declared.fronts.Front.TheVariants.{Gap, Lexeme, BadByte, BadToken, OpenText}
-use Rattle.smt_lex.specs.Lex.{Lexed, ended, faulty, next, bad_byte, bad_token, open_text, front, front_length, lexed, lex_from, lex_at}
+use Rattle.smt_lex.specs.Lex.{ended, faulty, next, bad_byte, bad_token, open_text, front, front_length, lexed, lex_from, lex_at}
 use Rattle.smt_lex.specs.Building.{FitsIn, token}
 
 -- the bytes that belong to what was taken off

@@ -1,4 +1,4 @@
-mod Beginnings
+mod Choices
 mod Keeping
 mod Lexing
 mod Literals

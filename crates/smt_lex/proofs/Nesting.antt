@@ -1,5 +1,5 @@
 -- What one more entry does to the open lists, and to where forms end.
-use Rattle.std.proofs.Common.{◌≡◌, ◌≢◌, ℕ, zero, suc, ◌+◌, ◌-◌, ◌<◌, ◌≤◌, ◌⊎◌, inl, inr, ⊎_elim, Bool, true, false, List, [], ◌∷◌, ◌++◌, length, get_or, drop, map, set, eqb, refl, ap, sym, ◌∙◌, subst, arith, append_assoc, add-one}
+use Rattle.std.proofs.Common.{◌≡◌, ℕ, suc, ◌+◌, ◌-◌, ◌<◌, ◌⊎◌, inl, inr, false, List, [], ◌∷◌, ◌++◌, length, get_or, drop, set, refl, ap, sym, ◌∙◌, subst, arith, append_assoc, add-one}
 use Rattle.std.proofs.lemmas.List.{map_push, length-map, length_push, get_or_push, get_or_append_left, get_or-set_other, get_or-set_same, length-set, drop-append-le, drop_all, drop_more, drop-drop, get_or-map, length-append}
 use Rattle.std.proofs.Math.Seq.{map-set_same}
 use Rattle.std.proofs.Math.Dec.{eqb-suc-zero}
@@ -7,7 +7,7 @@ use Rattle.std.proofs.lemmas.Bool.Decides.{eqb_tells}
 use Rattle.smt_lex.specs.declared.items.Item.{Item}
 use Rattle.smt_lex.specs.declared.items.Item.TheVariants.{Left, Right}
 use Rattle.smt_lex.specs.declared.entries.Entry.{Entry}
-use Rattle.smt_lex.specs.Forms.{is_left, is_right, depth_after}
+use Rattle.smt_lex.specs.Forms.{is_left}
 use Rattle.smt_lex.specs.Forest.{closing, form_length}
 use Rattle.smt_lex.specs.Building.{IsAtom, Nests, IsOpen, EndsAt, ClosesBehind, entry_at, no_entry, entry_items}
 

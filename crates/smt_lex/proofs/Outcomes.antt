@@ -1,7 +1,8 @@
 -- What comes of a text, met in a loop at one token after the other.
-use Rattle.std.proofs.Common.{◌≡◌, ◌≢◌, ℕ, zero, suc, ◌+◌, ◌-◌, ◌<◌, ◌≤◌, ◌⊎◌, Bool, true, false, cond, eqb, List, [], ◌∷◌, ◌++◌, length, Result, Ok, Err, refl, ap, sym, ◌∙◌, subst, inl, inr, arith, append_assoc, append-nil}
+use Rattle.std.proofs.Common.{◌≡◌, ◌≢◌, ℕ, zero, suc, ◌-◌, ◌<◌, ◌≤◌, ◌⊎◌, Bool, true, false, cond, eqb, List, [], ◌∷◌, ◌++◌, length, Result, Ok, Err, refl, ap, sym, ◌∙◌, subst, inl, inr, arith, append_assoc, append-nil}
 use Rattle.std.specs.Prelude.{◌&&◌}
 use Rattle.std.proofs.lemmas.Bool.Decides.{eqb_tells}
+use Rattle.smt_lex.proofs.Choices.{tell}
 use Rattle.smt_lex.specs.declared.items.Item.{Item}
 use Rattle.smt_lex.specs.declared.items.Item.TheVariants.{Left, Right, Word, Numeral, Decimal, Hex, Bin, Text, Quoted, Keyword}
 use Rattle.smt_lex.specs.declared.items.Until.{Until}
@@ -9,8 +10,8 @@ use Rattle.smt_lex.specs.declared.items.Until.TheVariants.{End, Exit}
 use Rattle.smt_lex.specs.declared.entries.Entry.{Entry}
 use Rattle.smt_lex.specs.declared.entries.Watch.{Watch}
 use Rattle.smt_lex.specs.declared.entries.Watch.TheVariants.{Never, Elsewhere, Opened, Named, Met}
-use Rattle.smt_lex.specs.Lex.{Token, Fault, bad_byte, bad_token, open_text, unbalanced, Lexed, ended, faulty, next, lex, lex_at}
-use Rattle.smt_lex.specs.Forms.{is_left, is_right, is_exit_word, depth_after, with_token, balanced, first_tokens, begins_with_right, begins_with_name, begins_with_exit, to_exit, tokens_of}
+use Rattle.smt_lex.specs.Lex.{Token, Fault, unbalanced, Lexed, ended, faulty, next, lex, lex_at}
+use Rattle.smt_lex.specs.Forms.{is_left, is_right, is_exit_word, depth_after, with_token, balanced, first_tokens, begins_with_right, begins_with_name, to_exit, tokens_of}
 use Rattle.smt_lex.proofs.Lexing.{lex_end}
 use Rattle.smt_lex.specs.Building.{AtTop, IsBuilt, first_watch, left_of, watch_after, prefixed, outcome, tokens_in}
 
@@ -64,10 +65,6 @@ elsewhere_opens depth t ts left outermost is = record {
   left = rw (left, outermost) (elim (begins_with_name ts) as (λ name. cond name (next t (first_tokens 2 ts)) (next t (to_exit (depth_after t.item depth) ts)) ≡ next t (cond name (first_tokens 2 ts) (to_exit (depth_after t.item depth) ts))) [ true ↦ refl | false ↦ refl ]);
   top = rw (left, outermost) (left_depth t.item depth left ∙ ap suc is);
 }
-
-tell : (b : Bool) → (b ≡ true) ⊎ (b ≡ false)
-tell true = inl refl
-tell false = inr refl
 
 and_false : (b : Bool) → (b && false) ≡ false
 and_false true = refl

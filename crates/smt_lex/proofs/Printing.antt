@@ -1,32 +1,20 @@
 -- A printed symbol is one token.
-use Rattle.std.proofs.Common.{◌≡◌, ℕ, zero, suc, ◌+◌, ◌-◌, ◌<◌, ◌≤◌, ◌⊎◌, inl, inr, Bool, true, false, cond, eqb, ltb, not, Option, Some, None, List, [], ◌∷◌, ◌++◌, length, take, drop, refl, ap, sym, ◌∙◌, subst, arith, append-nil, length-append}
-use Rattle.std.specs.Prelude.{◌&&◌, ◌||◌}
+use Rattle.std.proofs.Common.{◌≡◌, ℕ, suc, ◌+◌, ◌-◌, ◌<◌, inl, inr, Bool, true, false, eqb, ltb, not, Some, List, [], ◌∷◌, ◌++◌, length, take, refl, ap, sym, ◌∙◌, subst, arith, append-nil, length-append}
+use Rattle.std.specs.Prelude.{◌&&◌}
 use Rattle.std.specs.List.{list_all}
 use Rattle.std.specs.Char.{is_ascii_digit}
 use Rattle.std.proofs.lemmas.List.{take_at, take_all}
 use Rattle.std.proofs.lemmas.Bool.{ne_eqb, le-ltb}
 use Rattle.std.proofs.lemmas.Bool.Decides.{eqb_tells}
+use Rattle.smt_lex.proofs.Choices.{tell, and_left, and_right}
 use Rattle.smt_lex.specs.declared.items.Item.{Item}
 use Rattle.smt_lex.specs.declared.items.Item.TheVariants.{Word, Quoted}
-use Rattle.smt_lex.specs.declared.fronts.Front.{Front}
 use Rattle.smt_lex.specs.declared.fronts.Front.TheVariants.{Lexeme}
 use Rattle.smt_lex.specs.Lexicon.{left_parenthesis, right_parenthesis, semicolon, quote, bar, backslash, is_blank, is_symbol_byte, is_run_byte, is_word, is_some_of, starts_as, length_while, run_item}
 use Rattle.smt_lex.specs.Names.{Name, is_reserved, is_simple, IsName, printed_symbol}
-use Rattle.smt_lex.specs.Lex.{Token, Lexed, ended, next, front, run_front, quoted_front, run_by, lex, lex_at, symbol_by, IsOneSymbol}
+use Rattle.smt_lex.specs.Lex.{ended, next, front, run_front, run_by, lex, lex_at, symbol_by, IsOneSymbol}
 use Rattle.smt_lex.specs.Building.{token}
 use Rattle.smt_lex.proofs.Lexing.{lex_lexeme, lex_end}
-
-tell : (b : Bool) → (b ≡ true) ⊎ (b ≡ false)
-tell true = inl refl
-tell false = inr refl
-
-and_left : (a b : Bool) → (a && b) ≡ true → a ≡ true
-and_left true b h = refl
-and_left false b h = h
-
-and_right : (a b : Bool) → (a && b) ≡ true → b ≡ true
-and_right true b h = h
-and_right false b h = absurd (cc)
 
 -- where all bytes pass and the next one fails, so many pass
 pub length_while-append : (test : ℕ → Bool) (bs rest : List ℕ) → list_all test bs ≡ true → starts_as test rest ≡ false → length_while test (bs ++ rest) ≡ length bs

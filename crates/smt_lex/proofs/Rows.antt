@@ -1,9 +1,9 @@
 -- Worked rows: texts with their tokens, forms and faults, and names.
-use Rattle.std.proofs.Common.{◌≡◌, ℕ, List, [], ◌∷◌, ◌++◌, Result, Ok, Err, Option, Some, None, Bool, true, false, refl}
+use Rattle.std.proofs.Common.{◌≡◌, ℕ, List, [], ◌∷◌, ◌++◌, Ok, Err, Some, None, true, false, refl}
 use Rattle.std.specs.Prelude.{codes}
-use Rattle.smt_lex.specs.Names.{Name, is_reserved, is_theory_name, is_theory_sort, is_reserved_for_declaring, is_reserved_for_let, is_reserved_for_sorts, is_syntax_word, is_command_word, printed_symbol}
-use Rattle.smt_lex.specs.Lex.{Token, Fault, bad_byte, bad_token, open_text, unbalanced, line_at, name_of, symbol_of}
-use Rattle.smt_lex.specs.Forms.{Form, Forms, atom, node, none, ◌⨾◌, forms, forms_to_exit}
+use Rattle.smt_lex.specs.Names.{is_reserved, is_theory_name, is_theory_sort, is_reserved_for_declaring, is_reserved_for_let, is_reserved_for_sorts, is_syntax_word, is_command_word, printed_symbol}
+use Rattle.smt_lex.specs.Lex.{Token, bad_byte, bad_token, open_text, unbalanced, line_at, name_of, symbol_of}
+use Rattle.smt_lex.specs.Forms.{Form, atom, node, none, ◌⨾◌, forms, forms_to_exit}
 use Rattle.smt_lex.specs.Forest.{after_at}
 use Rattle.smt_lex.specs.declared.items.Item.{Item}
 use Rattle.smt_lex.specs.declared.items.Item.TheVariants.{Left, Right, Numeral, Decimal, Hex, Bin, Text, Word, Quoted, Keyword}

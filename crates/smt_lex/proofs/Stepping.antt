@@ -1,14 +1,15 @@
 -- Going over the forms of a text by the numbers of their first tokens.
-use Rattle.std.proofs.Common.{◌≡◌, ◌≢◌, ℕ, zero, suc, ◌+◌, ◌-◌, ◌<◌, ◌≤◌, ◌⊎◌, inl, inr, Bool, true, false, cond, eqb, not, List, [], ◌∷◌, length, get_or, drop, map, refl, ap, sym, ◌∙◌, subst, arith, add-one}
+use Rattle.std.proofs.Common.{◌≡◌, ℕ, zero, suc, ◌+◌, ◌-◌, ◌<◌, ◌≤◌, inl, inr, true, false, eqb, not, List, [], ◌∷◌, length, get_or, drop, refl, ap, sym, ◌∙◌, subst, arith}
 use Rattle.std.specs.Prelude.{◌&&◌}
 use Rattle.std.proofs.lemmas.List.{length-map, length-drop, drop_more, drop-map, drop-drop, get_or-map}
 use Rattle.std.proofs.lemmas.Bool.Decides.{eqb_tells}
 use Rattle.std.proofs.Math.Dec.{eqb-suc-zero}
+use Rattle.smt_lex.proofs.Choices.{tell, and_left, and_right}
 use Rattle.smt_lex.specs.declared.items.Item.{Item}
 use Rattle.smt_lex.specs.declared.items.Item.TheVariants.{Left, Right, Numeral, Decimal, Hex, Bin, Text, Word, Quoted, Keyword}
 use Rattle.smt_lex.specs.Lex.{Token}
-use Rattle.smt_lex.specs.Forms.{Form, Forms, atom, node, none, ◌⨾◌, is_left, is_right, depth_after, before, rest}
-use Rattle.smt_lex.specs.Forest.{no_token, token_at, items, closing, form_length, after_at, closes, IsBalanced, rest_at, first_form, form_at}
+use Rattle.smt_lex.specs.Forms.{Forms, atom, node, none, ◌⨾◌, is_left, is_right, depth_after, before, rest}
+use Rattle.smt_lex.specs.Forest.{no_token, token_at, items, closing, form_length, after_at, closes, IsBalanced, rest_at}
 
 -- a token that is no parenthesis
 pub record IsSingle (item : Item) : Type 0 where
@@ -35,14 +36,6 @@ kind Word = single (record { left = refl; right = refl; depth = λ _. refl; befo
 kind Quoted = single (record { left = refl; right = refl; depth = λ _. refl; before = λ _ _. refl })
 kind Keyword = single (record { left = refl; right = refl; depth = λ _. refl; before = λ _ _. refl })
 
-and_right : (a b : Bool) → (a && b) ≡ true → b ≡ true
-and_right true b h = h
-and_right false b h = absurd (cc)
-
-and_left : (a b : Bool) → (a && b) ≡ true → a ≡ true
-and_left true b h = refl
-and_left false b h = h
-
 -- what is balanced behind some tokens
 closes_drop : (i depth : ℕ) (xs : List Item) → closes depth xs ≡ true → (e : ℕ) × (closes e (drop i xs) ≡ true)
 closes_drop zero depth xs h = (depth, h)
@@ -59,10 +52,6 @@ deeper item depth more inside = by_kind (kind item)
         let some : eqb depth 0 ≡ false = rw is at inside in
         elim (eqb_tells depth 0) [ inl zero_is ↦ absurd (cc (some, zero_is.0)) | inr other ↦ rw is (omega (arith, other.1)) ]
     by_kind (single is) = is.depth (suc (depth + more)) ∙ ap (λ d. suc (d + more)) (sym (is.depth depth))
-
-tell : (b : Bool) → (b ≡ true) ⊎ (b ≡ false)
-tell true = inl refl
-tell false = inr refl
 
 closing_here : (x : Item) (depth : ℕ) (xs : List Item) → (is_right x && eqb depth 0) ≡ true → closing depth (x ∷ xs) ≡ 1
 closing_here x depth xs here = rw here refl

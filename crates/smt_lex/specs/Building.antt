@@ -1,15 +1,15 @@
 -- The tokens of a text as they are collected from left to right.
-use Rattle.std.specs.Prelude.{◌≡◌, ℕ, zero, suc, ◌+◌, ◌-◌, ◌<◌, ◌≤◌, ◌^◌, ◌⊎◌, Bool, true, false, ◌&&◌, List, [], ◌∷◌, ◌++◌, length, take, drop, map, Result, Ok, Err, ◌==◌, if◌then◌else◌, slice_index_or, slice_range}
+use Rattle.std.specs.Prelude.{◌≡◌, ℕ, suc, ◌+◌, ◌-◌, ◌<◌, ◌≤◌, ◌^◌, ◌⊎◌, false, ◌&&◌, List, [], ◌∷◌, ◌++◌, length, drop, map, Result, Ok, Err, ◌==◌, if◌then◌else◌, slice_index_or, slice_range}
 use Rattle.smt_lex.specs.declared.items.Item.{Item}
 use Rattle.smt_lex.specs.declared.items.Item.TheVariants.{Left, Right, Quoted}
 use Rattle.smt_lex.specs.declared.items.Until.{Until}
 use Rattle.smt_lex.specs.declared.items.Until.TheVariants.{End, Exit}
 use Rattle.smt_lex.specs.declared.fronts.Front.{Front}
-use Rattle.smt_lex.specs.declared.fronts.Front.TheVariants.{Gap, Lexeme, BadByte, BadToken, OpenText}
+use Rattle.smt_lex.specs.declared.fronts.Front.TheVariants.{Gap, Lexeme, BadByte}
 use Rattle.smt_lex.specs.declared.entries.Entry.{Entry}
 use Rattle.smt_lex.specs.declared.entries.Watch.{Watch}
 use Rattle.smt_lex.specs.declared.entries.Watch.TheVariants.{Never, Elsewhere, Opened, Named, Met}
-use Rattle.smt_lex.specs.Lex.{Token, Fault, Lexed, ended, next}
+use Rattle.smt_lex.specs.Lex.{Token, Fault, Lexed, ended}
 use Rattle.smt_lex.specs.Forms.{is_left, is_right, is_exit_word, depth_after, balanced, first_tokens, begins_with_right, begins_with_name, to_exit}
 use Rattle.smt_lex.specs.Forest.{closing, form_length, IsBalanced, Source}
 

@@ -1,7 +1,7 @@
 -- A text as a flat list of its tokens, and the forms in it by the numbers of their first tokens.
-use Rattle.std.specs.Prelude.{◌≡◌, ℕ, zero, suc, ◌+◌, ◌-◌, ◌<◌, ◌≤◌, ◌^◌, Bool, true, false, ◌&&◌, not, List, [], ◌∷◌, length, drop, map, Option, Some, None, Result, Ok, Err, ◌==◌, if◌then◌else◌, slice_range, slice_index_or}
+use Rattle.std.specs.Prelude.{◌≡◌, ℕ, suc, ◌+◌, ◌<◌, ◌≤◌, ◌^◌, Bool, true, ◌&&◌, not, List, [], ◌∷◌, length, drop, map, Option, Some, None, Result, Err, ◌==◌, if◌then◌else◌, slice_range, slice_index_or}
 use Rattle.smt_lex.specs.declared.items.Item.{Item}
-use Rattle.smt_lex.specs.declared.items.Item.TheVariants.{Left, Right}
+use Rattle.smt_lex.specs.declared.items.Item.TheVariants.{Right}
 use Rattle.smt_lex.specs.declared.faults.LexFault.{LexFault}
 use Rattle.smt_lex.specs.declared.faults.LexFault.TheVariants.{BadByte, BadToken, OpenText, Unbalanced, Memory}
 use Rattle.smt_lex.specs.Lex.{Token, Fault, bad_byte, bad_token, open_text, unbalanced, line_at}

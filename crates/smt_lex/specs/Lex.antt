@@ -1,5 +1,5 @@
 -- The tokens of a text (SMT-LIB 2.6, section 3.1), with their places: bytes counted from 0.
-use Rattle.std.specs.Prelude.{◌≡◌, ℕ, zero, suc, ◌+◌, ◌-◌, Bool, true, false, ◌&&◌, not, List, [], ◌∷◌, length, take, drop, count_by, Option, Some, None, ◌==◌, nat_lt, if◌then◌else◌}
+use Rattle.std.specs.Prelude.{◌≡◌, ℕ, zero, suc, ◌+◌, ◌-◌, Bool, false, ◌&&◌, not, List, [], ◌∷◌, length, take, drop, count_by, Option, Some, None, ◌==◌, nat_lt, if◌then◌else◌}
 use Rattle.smt_lex.specs.Lexicon.{line_feed, quote, left_parenthesis, right_parenthesis, semicolon, backslash, bar, is_blank, is_line_end, is_run_byte, length_while, run_item}
 use Rattle.smt_lex.specs.Names.{Name, is_reserved}
 use Rattle.smt_lex.specs.declared.items.Item.{Item}

@@ -1,9 +1,9 @@
 use Rattle.std.proofs.Common.{◌+◌, ◌<◌, ◌≤◌, length, length-drop, sym, ◌∙◌, ap, refl, subst, arith}
 use Rattle.std.proofs.lemmas.List.{take_rest}
 use Rattle.std.proofs.lemmas.Result.{err_from_is_err_and}
-use Rattle.smt_lex.specs.Lex.{front, lex_at, next}
+use Rattle.smt_lex.specs.Lex.{front, lex_at}
 use Rattle.smt_lex.specs.Forest.{Refuses}
-use Rattle.smt_lex.specs.Building.{outcome, token, watch_after}
+use Rattle.smt_lex.specs.Building.{outcome}
 use Rattle.smt_lex.proofs.Outcomes.{outcome_faulty}
 use Rattle.smt_lex.proofs.Lexing.{fits_lexeme, lex_gap, lex_lexeme, lex_bad_byte, lex_bad_token, lex_open_text}
 use Rattle.smt_lex.proofs.builders.Builder.step.Goals as goal
