@@ -1,5 +1,5 @@
 -- Texts that are put together from tokens are read as these tokens.
-use Rattle.std.proofs.Common.{◌≡◌, ℕ, zero, suc, ◌+◌, ◌-◌, ◌<◌, ◌≤◌, Bool, true, false, Option, Some, None, List, [], ◌∷◌, ◌++◌, length, take, drop, refl, ap, sym, ◌∙◌, arith, append_assoc, length-append}
+use Rattle.std.proofs.Common.{◌≡◌, ℕ, suc, ◌+◌, ◌-◌, ◌<◌, ◌≤◌, Bool, true, false, Some, List, [], ◌∷◌, ◌++◌, length, take, refl, ap, ◌∙◌, arith, append_assoc, length-append}
 use Rattle.std.specs.Prelude.{◌||◌, ◌==◌}
 use Rattle.std.specs.List.{list_all}
 use Rattle.std.proofs.lemmas.List.{take_at, drop_at}
@@ -64,9 +64,9 @@ lex_lexeme_before item (b ∷ bs) rest place is stops =
     ∙ ap (λ n. next (record { item = item; start = place; text = take (length text) (text ++ rest) }) (lex_from (suc place) n (bs ++ rest))) one
     ∙ ap (λ xs. next (record { item = item; start = place; text = xs }) (lex_from (suc place) (length bs) (bs ++ rest))) (take_at text rest (length text) refl)
     ∙ ap (next (record { item = item; start = place; text = text }))
-        (lex_skip (length bs) (suc place) (bs ++ rest) inside
-        ∙ ap (λ xs. lex_from (suc place + length bs) 0 xs) (drop_at bs rest (length bs) refl)
-        ∙ ap (λ p. lex_from p 0 rest) there)
+    (lex_skip (length bs) (suc place) (bs ++ rest) inside
+    ∙ ap (λ xs. lex_from (suc place + length bs) 0 xs) (drop_at bs rest (length bs) refl)
+    ∙ ap (λ p. lex_from p 0 rest) there)
 
 -- a space and a line's end before other bytes
 pub lex_space_before : (rest : List ℕ) (place : ℕ) → lex_from place 0 (space ∷ rest) ≡ lex_from (suc place) 0 rest

@@ -7,5 +7,6 @@ mod Nesting
 mod Outcomes
 pub mod Printing
 mod Putting
+pub mod Rereading
 mod Rows
 pub mod Stepping

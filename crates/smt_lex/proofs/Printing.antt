@@ -38,10 +38,17 @@ not_blank b runs = rw (other_byte is_run_byte b 9 runs refl, other_byte is_run_b
 run_byte : (b : ℕ) → is_symbol_byte b ≡ true → is_run_byte b ≡ true
 run_byte b symbol = rw symbol refl
 
-front_run : (b : ℕ) (bs : List ℕ) → is_run_byte b ≡ true → front (b ∷ bs) ≡ run_front (b ∷ bs)
+pub front_run : (b : ℕ) (bs : List ℕ) → is_run_byte b ≡ true → front (b ∷ bs) ≡ run_front (b ∷ bs)
 front_run b bs runs =
-    rw (other_byte is_run_byte b left_parenthesis runs refl, other_byte is_run_byte b right_parenthesis runs refl, other_byte is_run_byte b semicolon runs refl,
-        other_byte is_run_byte b quote runs refl, other_byte is_run_byte b bar runs refl, not_blank b runs, runs) refl
+    rw (
+      other_byte is_run_byte b left_parenthesis runs refl,
+      other_byte is_run_byte b right_parenthesis runs refl,
+      other_byte is_run_byte b semicolon runs refl,
+      other_byte is_run_byte b quote runs refl,
+      other_byte is_run_byte b bar runs refl,
+      not_blank b runs,
+      runs,
+    ) refl
 
 run_is : (xs : List ℕ) (n : ℕ) (item : Item) → length_while is_run_byte xs ≡ n → run_item (take n xs) ≡ Some item → run_front xs ≡ Lexeme item n
 run_is xs n item long is = ap (λ n. run_by (run_item (take n xs)) n) long ∙ ap (λ o. run_by o n) is
@@ -52,7 +59,7 @@ front_of_run [] rest item some all stops is = absurd (omega arith)
 front_of_run (b ∷ bs) rest item some all stops is =
     front_run b (bs ++ rest) (and_left (is_run_byte b) (list_all is_run_byte bs) all)
     ∙ run_is ((b ∷ bs) ++ rest) (length (b ∷ bs)) item (length_while-append is_run_byte (b ∷ bs) rest all stops)
-        (ap run_item (take_at (b ∷ bs) rest (length (b ∷ bs)) refl) ∙ is)
+    (ap run_item (take_at (b ∷ bs) rest (length (b ∷ bs)) refl) ∙ is)
 
 some_bytes : (word : List ℕ) → is_word word ≡ true → 0 < length word
 some_bytes [] word = absurd (cc)
