@@ -1,15 +1,15 @@
 -- Formulas that passes build, and what they say in each model.
-use Rattle.std.proofs.Common.{◌≡◌, ℕ, zero, suc, ◌+◌, ◌<◌, ◌≤◌, Bool, true, false, not, cond, ◌&&◌, ◌||◌, List, [], ◌∷◌, map, length, replicate, Option, Some, None, Ok, refl, ap, sym, ◌∙◌, subst, arith}
-use Rattle.std.specs.Prelude.{⊤, unwrap_or}
-use Rattle.smt_terms.specs.declared.op.Op.TheVariants.{Truth, Not, And, Or, Xor}
-use Rattle.smt_terms.specs.Sorts.{Sort, bool, Variable}
-use Rattle.smt_terms.specs.Term.{Head, op, Term, apply, quantified, Terms, none, ◌⨾◌, list, terms, over}
+use Rattle.std.proofs.Common.{◌≡◌, ℕ, zero, suc, ◌≤◌, Bool, true, false, not, ◌&&◌, ◌||◌, List, [], ◌∷◌, map, length, replicate, Some, refl, ap, sym, ◌∙◌, subst, arith}
+use Rattle.std.specs.Prelude.{⊤}
+use Rattle.smt_terms.specs.declared.op.Op.TheVariants.{Not, And, Or}
+use Rattle.smt_terms.specs.Sorts.{Sort, bool}
+use Rattle.smt_terms.specs.Term.{op, Term, apply, Terms, none, ◌⨾◌, list, terms}
 use Rattle.smt_terms.specs.Rank.{rank, shape, width, most_bits, sort_over, with_sort, sort_of, sorts_of}
-use Rattle.smt_terms.specs.Values.{Value, truth, is_true}
+use Rattle.smt_terms.specs.Values.{is_true}
 use Rattle.smt_terms.specs.Operators.{op_value}
 use Rattle.smt_terms.specs.Models.{Model}
 use Rattle.smt_terms.specs.Val.{Env, val, vals}
-use Rattle.smt_terms.specs.Connectives.{operator_kind, truth_term, negated, all_of, any_of, both, either, opposite, nth}
+use Rattle.smt_terms.specs.Connectives.{operator_kind, truth_term, negated, all_of, any_of, both, either, opposite}
 use Rattle.smt_terms.proofs.Ranked.{takes-rank}
 use Rattle.smt_terms.proofs.Sorted.{sorted, sort_of-apply}
 use Rattle.smt_terms.proofs.Connected.{Connected, connected, connective-value, all_bits, any_bit}
@@ -42,7 +42,7 @@ pub means-negated : (r : Term) (f : Sense) → Means r f → Means (negated r) (
 unfolding rank op_value
 means-negated r f a = record {
   sort = ap (λ s. sort_over (op Not) (with_sort s (Some []))) a.sort;
-  value = λ m e. ap not (a.value m e)
+  value = λ m e. ap not (a.value m e);
 }
 
 and_right : (a : Bool) → (a && true) ≡ a
@@ -57,14 +57,14 @@ pub means-both : (r s : Term) (f g : Sense) → Means r f → Means s g → Mean
 unfolding rank op_value
 means-both r s f g a b = record {
   sort = λ i. sort_over (op And) (with_sort (a.sort i) (with_sort (b.sort i) (Some [])));
-  value = λ m e. (λ i. a.value m e i && (b.value m e i && true)) ∙ ap (λ c. f m e && c) (and_right (g m e))
+  value = λ m e. (λ i. a.value m e i && (b.value m e i && true)) ∙ ap (λ c. f m e && c) (and_right (g m e));
 }
 
 pub means-either : (r s : Term) (f g : Sense) → Means r f → Means s g → Means (either r s) (λ m e. f m e || g m e)
 unfolding rank op_value
 means-either r s f g a b = record {
   sort = λ i. sort_over (op Or) (with_sort (a.sort i) (with_sort (b.sort i) (Some [])));
-  value = λ m e. (λ i. a.value m e i || (b.value m e i || false)) ∙ ap (λ c. f m e || c) (or_right (g m e))
+  value = λ m e. (λ i. a.value m e i || (b.value m e i || false)) ∙ ap (λ c. f m e || c) (or_right (g m e));
 }
 
 -- ---- many operands
@@ -129,6 +129,7 @@ bool-operand t s has =
   where
     one : (n : ℕ) → n ≡ 1 → replicate n bool ≡ bool ∷ []
     one n e = ap (λ k. replicate k bool) e
+
     first : (us : List Sort) (s : Sort) (ss : List Sort) → us ≡ s ∷ ss → us ≡ bool ∷ [] → s ≡ bool
     first us s ss e f = ap head_sort (sym e ∙ f)
       where
@@ -143,6 +144,6 @@ pub means-opposite : (r : Term) (f : Sense) → Means r f → Means (opposite r)
 unfolding op_value
 means-opposite (apply (op Not) (t ⨾ none)) f a = record {
   sort = bool-operand t bool a.sort;
-  value = λ m e. sym (not_not (is_true (val m t e))) ∙ ap not (a.value m e)
+  value = λ m e. sym (not_not (is_true (val m t e))) ∙ ap not (a.value m e);
 }
 means-opposite r f a = opposite-added r f a refl

@@ -1,6 +1,7 @@
 pub mod Agree
 pub mod Among
 pub mod Binders
+pub mod BitLaws
 pub mod BitLengths
 pub mod Built
 pub mod Connected
