@@ -1,1 +1,3 @@
+pub mod Gives
 mod Rows
+pub mod VectorsGive
