@@ -1,3 +1,5 @@
 pub mod Gives
+pub mod LogicGives
 mod Rows
+pub mod UnaryGive
 pub mod VectorsGive

@@ -23,10 +23,10 @@ use Rattle.simplify.specs.Folding.{is_bits, is_ones}
 use Rattle.simplify.specs.Vectors as vectors
 use Rattle.simplify.proofs.Gives.{Operand, Gives, by_if, gives_bits, bits_operand, vector_sort, width_value, bits_value, zero_value, ones_value}
 
-abbrev node : Op → Term → Term → Term
+abbrev pub node : Op → Term → Term → Term
 node o s t = apply (op o) (s ⨾ t ⨾ none)
 
-width_of-vector : (w : ℕ) (t : Term) → Operand (bit_vector w) t → vectors.width_of t ≡ w
+pub width_of-vector : (w : ℕ) (t : Term) → Operand (bit_vector w) t → vectors.width_of t ≡ w
 width_of-vector w t o = ap (λ r. width (unwrap_or r bool)) o.has
 
 zero_small : (w : ℕ) → 0 < 2 ^ w
