@@ -1,5 +1,8 @@
 pub mod Gives
+pub mod JunctionGives
+pub mod Lists
 pub mod LogicGives
+pub mod NumbersGive
 mod Rows
 pub mod UnaryGive
 pub mod VectorsGive

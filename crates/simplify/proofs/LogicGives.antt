@@ -156,7 +156,7 @@ bool_sort b u s h p =
     let sort : u ≡ bool = cc in
     sort
 
-truth_is : (b : Bool) (m : Model) (e : Env) → is_true (val m (truth_term b) e) ≡ b
+pub truth_is : (b : Bool) (m : Model) (e : Env) → is_true (val m (truth_term b) e) ≡ b
 unfolding op_value
 truth_is b m e = refl
 
