@@ -110,10 +110,10 @@ neutral-total n f reads (t ∷ ts) = elim (true_or_false (is_truth n t)) [
 
 -- ---- a clash
 
-record Found (test : Term → Bool) (ts : List Term) : Type 0 where
-  term : Term
-  there : has_term ts term ≡ true
-  passes : test term ≡ true
+pub record Found (test : Term → Bool) (ts : List Term) : Type 0 where
+  pub term : Term
+  pub there : has_term ts term ≡ true
+  pub passes : test term ≡ true
 
 found-more : (test : Term → Bool) (t : Term) (ts : List Term) → Found test ts → Found test (t ∷ ts)
 found-more test t ts f = record { term = f.term; there = subst (λ b. (term_eq f.term t || b) ≡ true) (sym f.there) (last (term_eq f.term t)); passes = f.passes }
@@ -122,7 +122,7 @@ found-more test t ts f = record { term = f.term; there = subst (λ b. (term_eq f
     last true = refl
     last false = refl
 
-found : (test : Term → Bool) (ts : List Term) → list_any test ts ≡ true → Found test ts
+pub found : (test : Term → Bool) (ts : List Term) → list_any test ts ≡ true → Found test ts
 found test [] h = absurd cc
 found test (t ∷ ts) h = elim (either_true (test t) (list_any test ts) h) [
     | inl here ↦ record { term = t; there = ap (λ b. b || has_term ts t) ((Decides-term_eq t t).1 refl); passes = here }

@@ -4,5 +4,6 @@ pub mod Lists
 pub mod LogicGives
 pub mod NumbersGive
 mod Rows
+pub mod SumsGive
 pub mod UnaryGive
 pub mod VectorsGive
