@@ -1,14 +1,13 @@
 -- What a law of the simplifier gives: a term that may stand for the node whose operands it was shown.
-use Rattle.std.proofs.Common.{◌≡◌, ℕ, zero, suc, ◌^◌, ◌<◌, ◌≤◌, Bool, true, false, cond, ◌&&◌, ◌==◌, ℤ, nat_abs, List, [], ◌∷◌, length, Option, Some, None, refl, ap, sym, ◌∙◌, subst, arith}
-use Rattle.std.specs.Prelude.{IfSome, unwrap_or, nat_le, if◌then◌else◌}
+use Rattle.std.proofs.Common.{◌≡◌, ℕ, ◌^◌, ◌<◌, ◌≤◌, Bool, true, false, ◌&&◌, ◌==◌, ℤ, nat_abs, [], ◌∷◌, length, Option, Some, refl, ap, ◌∙◌, arith}
+use Rattle.std.specs.Prelude.{IfSome, nat_le, if◌then◌else◌}
 use Rattle.std.specs.Cmp.{booleans_Decides}
 use Rattle.std.proofs.lemmas.Bool.{leb-true}
 use Rattle.std.proofs.lemmas.Bool.Decides.{Decides-eqb, Decides-int_eq}
-use Rattle.smt_terms.specs.declared.op.Op.{Op}
 use Rattle.smt_terms.specs.declared.op.Op.TheVariants.{Truth, Whole, Bits}
 use Rattle.smt_terms.specs.Sorts.{Sort, bool, int, bit_vector}
-use Rattle.smt_terms.specs.Term.{Head, op, symbol, const_array, Term, apply, quantified, Terms, none, ◌⨾◌}
-use Rattle.smt_terms.specs.BitVectors.{BitVector, bv2nat, nat2bv, bits_eq, zeros, ones}
+use Rattle.smt_terms.specs.Term.{op, symbol, const_array, Term, apply, quantified, none, ◌⨾◌}
+use Rattle.smt_terms.specs.BitVectors.{BitVector, bv2nat, bits_eq, zeros, ones}
 use Rattle.smt_terms.specs.Connectives.{truth_term}
 use Rattle.smt_terms.specs.Constants.{whole_term, bits_term, literal_value, constant_value}
 use Rattle.smt_terms.specs.Laws.{IsEnv}
@@ -16,7 +15,7 @@ use Rattle.smt_terms.specs.Models.{Model, IsModel}
 use Rattle.smt_terms.specs.Operators.{op_value}
 use Rattle.smt_terms.specs.Rank.{shape, width, most_bits, sort_of, sorts_of, is_sort, is_minus_of, is_regular, are_regular}
 use Rattle.smt_terms.specs.Val.{Env, val}
-use Rattle.smt_terms.specs.Values.{Value, truth, whole, bits, is_true, number, bits_of, same}
+use Rattle.smt_terms.specs.Values.{is_true, number, bits_of, same}
 use Rattle.smt_terms.proofs.BitLaws.{zero_bits}
 use Rattle.smt_terms.proofs.Equal.{Decides-term_eq}
 use Rattle.smt_terms.proofs.Operands.{fewer_sorts}

@@ -1,28 +1,16 @@
 -- Lists of operands of one sort.
-use Rattle.std.proofs.Common.{◌≡◌, ℕ, zero, suc, ◌≤◌, Bool, true, false, not, cond, ◌&&◌, ◌||◌, ◌⊎◌, inl, inr, List, [], ◌∷◌, replicate, Option, Some, None, refl, ap, sym, ◌∙◌, subst, arith}
-use Rattle.std.specs.Prelude.{IfSome, filter}
-use Rattle.std.specs.List.{list_any, list_all}
+use Rattle.std.proofs.Common.{◌≡◌, ℕ, zero, suc, ◌≤◌, Bool, true, cond, ◌&&◌, inl, inr, List, [], ◌∷◌, replicate, Some, refl, ap, sym, subst}
+use Rattle.std.specs.Prelude.{filter}
 use Rattle.smt_terms.specs.declared.op.Op.{Op}
-use Rattle.smt_terms.specs.declared.op.Op.TheVariants.{And, Or}
-use Rattle.smt_terms.specs.Sorts.{Sort, bool}
-use Rattle.smt_terms.specs.Term.{op, Term, apply, Terms, none, ◌⨾◌, list, terms, over}
-use Rattle.smt_terms.specs.Connectives.{truth_term, negated}
-use Rattle.smt_terms.specs.Equal.{term_eq}
-use Rattle.smt_terms.specs.Laws.{IsEnv}
-use Rattle.smt_terms.specs.Models.{Model, IsModel}
-use Rattle.smt_terms.specs.Operators.{op_value}
-use Rattle.smt_terms.specs.Rank.{shape, width, most_bits, sort_of, sorts_of, is_regular, are_regular}
+use Rattle.smt_terms.specs.Sorts.{Sort}
+use Rattle.smt_terms.specs.Term.{Term, Terms, none, ◌⨾◌, list, terms}
+use Rattle.smt_terms.specs.Rank.{shape, width, most_bits, sorts_of, is_regular, are_regular}
 use Rattle.smt_terms.specs.Takes.{Takes}
-use Rattle.smt_terms.specs.Val.{Env, val, vals}
-use Rattle.smt_terms.specs.Values.{Value, is_true}
-use Rattle.smt_terms.proofs.Equal.{Decides-term_eq}
 use Rattle.smt_terms.proofs.Operands.{more_sorts, fewer_sorts, sort_over_more, regular_over_more}
 use Rattle.smt_terms.proofs.Sorted.{sorted}
-use Rattle.smt_terms.proofs.Tests.{both_true, and_true, either_true, true_or_false}
-use Rattle.simplify.specs.Folding.{is_truth, has_term, once, over_left}
-use Rattle.simplify.specs.Logic as logic
-use Rattle.simplify.proofs.Gives.{Operand, Gives, gives_truth, truth_operand, truth_read}
-use Rattle.simplify.proofs.LogicGives.{truth_is}
+use Rattle.smt_terms.proofs.Tests.{both_true, and_true, true_or_false}
+use Rattle.simplify.specs.Folding.{over_left}
+use Rattle.simplify.proofs.Gives.{Operand}
 
 -- ---- operands of one sort
 
@@ -44,9 +32,9 @@ each s (suc n) (u ⨾ us) has fine =
 pub filter-each : (s : Sort) (test : Term → Bool) (ts : List Term) → Each s ts → Each s (filter test ts)
 filter-each s test [] e = tt
 filter-each s test (t ∷ ts) e = elim (true_or_false (test t)) [
-    | inl passes ↦ subst (λ b. Each s (cond b (t ∷ filter test ts) (filter test ts))) (sym passes) (e.0, filter-each s test ts e.1)
-    | inr fails ↦ subst (λ b. Each s (cond b (t ∷ filter test ts) (filter test ts))) (sym fails) (filter-each s test ts e.1)
-  ]
+  | inl passes ↦ subst (λ b. Each s (cond b (t ∷ filter test ts) (filter test ts))) (sym passes) (e.0, filter-each s test ts e.1)
+  | inr fails ↦ subst (λ b. Each s (cond b (t ∷ filter test ts) (filter test ts))) (sym fails) (filter-each s test ts e.1)
+]
 
 pub list-terms : (ts : List Term) → list (terms ts) ≡ ts
 list-terms [] = refl
@@ -75,6 +63,6 @@ left_operand s o neutral p takes narrow (t ∷ u ∷ ts) e =
     let rest = lists s ts e.1.1 in
     record {
       has = sort_over_more o t u (terms ts) (s ∷ s ∷ replicate rest.count s) s
-        (more_sorts t (u ⨾ terms ts) s (s ∷ replicate rest.count s) e.0.has (more_sorts u (terms ts) s (replicate rest.count s) e.1.0.has rest.sorts)) (takes rest.count) narrow;
+          (more_sorts t (u ⨾ terms ts) s (s ∷ replicate rest.count s) e.0.has (more_sorts u (terms ts) s (replicate rest.count s) e.1.0.has rest.sorts)) (takes rest.count) narrow;
       rules = regular_over_more o t u (terms ts) (and_true (is_regular t) (is_regular u && are_regular (terms ts)) e.0.rules (and_true (is_regular u) (are_regular (terms ts)) e.1.0.rules rest.rules));
     }

@@ -1,17 +1,15 @@
 -- The laws of the operators of Core on two and three operands give terms of the same value.
-use Rattle.std.proofs.Common.{◌≡◌, ℕ, ◌≤◌, Bool, true, false, not, cond, ◌&&◌, ◌||◌, List, [], ◌∷◌, Option, Some, None, refl, ap, sym, ◌∙◌, subst, arith}
+use Rattle.std.proofs.Common.{◌≡◌, ◌≤◌, Bool, true, false, not, cond, ◌&&◌, ◌||◌, [], ◌∷◌, Some, refl, ap, sym, ◌∙◌, subst, arith}
 use Rattle.std.specs.Prelude.{IfSome}
 use Rattle.std.specs.Bool.{beq}
-use Rattle.smt_terms.specs.declared.op.Op.{Op}
 use Rattle.smt_terms.specs.declared.op.Op.TheVariants.{Not, Xor, Implies, Equal, Ite}
 use Rattle.smt_terms.specs.Sorts.{Sort, bool}
 use Rattle.smt_terms.specs.Term.{op, Term, apply, none, ◌⨾◌}
 use Rattle.smt_terms.specs.Connectives.{truth_term, negated, opposite}
 use Rattle.smt_terms.specs.Equal.{term_eq}
-use Rattle.smt_terms.specs.Laws.{IsEnv}
-use Rattle.smt_terms.specs.Models.{Model, IsModel}
+use Rattle.smt_terms.specs.Models.{Model}
 use Rattle.smt_terms.specs.Operators.{op_value}
-use Rattle.smt_terms.specs.Rank.{shape, width, most_bits, sort_of, sorts_of, is_minus, is_regular, are_regular}
+use Rattle.smt_terms.specs.Rank.{shape, width, most_bits, sort_of, is_minus, is_regular}
 use Rattle.smt_terms.specs.Val.{Env, val}
 use Rattle.smt_terms.specs.Values.{Value, is_true, same}
 use Rattle.smt_terms.proofs.Equal.{Decides-term_eq}
@@ -20,7 +18,7 @@ use Rattle.smt_terms.proofs.Operands.{equal_value, more_sorts}
 use Rattle.smt_terms.proofs.Ranked.{rank-takes, takes-rank}
 use Rattle.smt_terms.proofs.Sorted.{applied, sort_of-apply}
 use Rattle.smt_terms.proofs.SortsOfTerms.{regular, regular_over}
-use Rattle.smt_terms.proofs.Respects.{equal_same, truths_alike}
+use Rattle.smt_terms.proofs.Respects.{equal_same}
 use Rattle.smt_terms.proofs.Same.{same-itself}
 use Rattle.smt_terms.proofs.Tests.{both_true, and_true}
 use Rattle.simplify.specs.Folding.{is_truth}
@@ -122,30 +120,30 @@ module _ (s t : Term) (p : Operand bool s) (q : Operand bool t) where
   unfolding op_value
   exclusive_gives =
       by_if (λ r. Gives bool (node Xor s t) r) (term_eq s t) (truth_term false) _ (λ h. gives_truth (node Xor s t) (truth_term false) (truth_operand false) (λ m e model env.
-        ap (λ b. not (beq (B m e s) b)) (equal_truths h m e) ∙ ap not (alike_itself (B m e s))))
+      ap (λ b. not (beq (B m e s) b)) (equal_truths h m e) ∙ ap not (alike_itself (B m e s))))
       (by_if (λ r. Gives bool (node Xor s t) r) (is_truth true s) (opposite t) _ (λ h. gives_truth (node Xor s t) (opposite t) (opposes t q).result (λ m e model env.
-        ap (λ b. not (beq b (B m e t))) (truth_read true s h m e) ∙ ap not (true_alike (B m e t)) ∙ sym ((opposes t q).values m e)))
+      ap (λ b. not (beq b (B m e t))) (truth_read true s h m e) ∙ ap not (true_alike (B m e t)) ∙ sym ((opposes t q).values m e)))
       (by_if (λ r. Gives bool (node Xor s t) r) (is_truth true t) (opposite s) _ (λ h. gives_truth (node Xor s t) (opposite s) (opposes s p).result (λ m e model env.
-        ap (λ b. not (beq (B m e s) b)) (truth_read true t h m e) ∙ ap not (alike_true (B m e s)) ∙ sym ((opposes s p).values m e)))
+      ap (λ b. not (beq (B m e s) b)) (truth_read true t h m e) ∙ ap not (alike_true (B m e s)) ∙ sym ((opposes s p).values m e)))
       (by_if (λ r. Gives bool (node Xor s t) r) (is_truth false s) t _ (λ h. gives_truth (node Xor s t) t q (λ m e model env.
-        ap (λ b. not (beq b (B m e t))) (truth_read false s h m e) ∙ ap not (false_alike (B m e t)) ∙ twice_not (B m e t)))
+      ap (λ b. not (beq b (B m e t))) (truth_read false s h m e) ∙ ap not (false_alike (B m e t)) ∙ twice_not (B m e t)))
       (by_if (λ r. Gives bool (node Xor s t) r) (is_truth false t) s _ (λ h. gives_truth (node Xor s t) s p (λ m e model env.
-        ap (λ b. not (beq (B m e s) b)) (truth_read false t h m e) ∙ ap not (alike_false (B m e s)) ∙ twice_not (B m e s)))
+      ap (λ b. not (beq (B m e s) b)) (truth_read false t h m e) ∙ ap not (alike_false (B m e s)) ∙ twice_not (B m e s)))
       tt))))
 
   pub implication_gives : IfSome (logic.implication s t) (λ r. Gives bool (node Implies s t) r)
   unfolding op_value
   implication_gives =
       by_if (λ r. Gives bool (node Implies s t) r) (is_truth false s) (truth_term true) _ (λ h. gives_truth (node Implies s t) (truth_term true) (truth_operand true) (λ m e model env.
-        ap (λ b. not b || B m e t) (truth_read false s h m e)))
+      ap (λ b. not b || B m e t) (truth_read false s h m e)))
       (by_if (λ r. Gives bool (node Implies s t) r) (is_truth true t) (truth_term true) _ (λ h. gives_truth (node Implies s t) (truth_term true) (truth_operand true) (λ m e model env.
-        ap (λ b. not (B m e s) || b) (truth_read true t h m e) ∙ or_true (not (B m e s))))
+      ap (λ b. not (B m e s) || b) (truth_read true t h m e) ∙ or_true (not (B m e s))))
       (by_if (λ r. Gives bool (node Implies s t) r) (term_eq s t) (truth_term true) _ (λ h. gives_truth (node Implies s t) (truth_term true) (truth_operand true) (λ m e model env.
-        ap (λ b. not (B m e s) || b) (equal_truths h m e) ∙ either_way (B m e s)))
+      ap (λ b. not (B m e s) || b) (equal_truths h m e) ∙ either_way (B m e s)))
       (by_if (λ r. Gives bool (node Implies s t) r) (is_truth true s) t _ (λ h. gives_truth (node Implies s t) t q (λ m e model env.
-        ap (λ b. not b || B m e t) (truth_read true s h m e)))
+      ap (λ b. not b || B m e t) (truth_read true s h m e)))
       (by_if (λ r. Gives bool (node Implies s t) r) (is_truth false t) (opposite s) _ (λ h. gives_truth (node Implies s t) (opposite s) (opposes s p).result (λ m e model env.
-        ap (λ b. not (B m e s) || b) (truth_read false t h m e) ∙ or_false (not (B m e s)) ∙ sym ((opposes s p).values m e)))
+      ap (λ b. not (B m e s) || b) (truth_read false t h m e) ∙ or_false (not (B m e s)) ∙ sym ((opposes s p).values m e)))
       tt))))
 
 -- ---- an equation, and a choice
@@ -170,19 +168,19 @@ module _ (u : Sort) (s t : Term) (p : Operand u s) (q : Operand u t) where
   pub equation_gives : IfSome (logic.equation s t) (λ r. Gives bool (node Equal s t) r)
   equation_gives =
       by_if (λ r. Gives bool (node Equal s t) r) (term_eq s t) (truth_term true) _ (λ h. gives_truth (node Equal s t) (truth_term true) (truth_operand true) (λ m e model env.
-        ap is_true (equal_value m e s t u p.has q.has) ∙ ap (λ w. same u m.sizes (val m s e) (val m w e)) (sym ((Decides-term_eq s t).0 h)) ∙ same-itself u m.sizes (val m s e) ∙ sym (truth_is true m e)))
+      ap is_true (equal_value m e s t u p.has q.has) ∙ ap (λ w. same u m.sizes (val m s e) (val m w e)) (sym ((Decides-term_eq s t).0 h)) ∙ same-itself u m.sizes (val m s e) ∙ sym (truth_is true m e)))
       (by_if (λ r. Gives bool (node Equal s t) r) (is_truth true s) t _ (λ h.
-        let sort = bool_sort true u s h p in gives_truth (node Equal s t) t (at_bool u t sort q) (λ m e model env.
-        equation_value sort m e ∙ ap (λ b. beq b (is_true (val m t e))) (truth_read true s h m e) ∙ true_alike (is_true (val m t e))))
+      let sort = bool_sort true u s h p in gives_truth (node Equal s t) t (at_bool u t sort q) (λ m e model env.
+      equation_value sort m e ∙ ap (λ b. beq b (is_true (val m t e))) (truth_read true s h m e) ∙ true_alike (is_true (val m t e))))
       (by_if (λ r. Gives bool (node Equal s t) r) (is_truth true t) s _ (λ h.
-        let sort = bool_sort true u t h q in gives_truth (node Equal s t) s (at_bool u s sort p) (λ m e model env.
-        equation_value sort m e ∙ ap (λ b. beq (is_true (val m s e)) b) (truth_read true t h m e) ∙ alike_true (is_true (val m s e))))
+      let sort = bool_sort true u t h q in gives_truth (node Equal s t) s (at_bool u s sort p) (λ m e model env.
+      equation_value sort m e ∙ ap (λ b. beq (is_true (val m s e)) b) (truth_read true t h m e) ∙ alike_true (is_true (val m s e))))
       (by_if (λ r. Gives bool (node Equal s t) r) (is_truth false s) (opposite t) _ (λ h.
-        let sort = bool_sort false u s h p in let o = opposes t (at_bool u t sort q) in gives_truth (node Equal s t) (opposite t) o.result (λ m e model env.
-        equation_value sort m e ∙ ap (λ b. beq b (is_true (val m t e))) (truth_read false s h m e) ∙ false_alike (is_true (val m t e)) ∙ sym (o.values m e)))
+      let sort = bool_sort false u s h p in let o = opposes t (at_bool u t sort q) in gives_truth (node Equal s t) (opposite t) o.result (λ m e model env.
+      equation_value sort m e ∙ ap (λ b. beq b (is_true (val m t e))) (truth_read false s h m e) ∙ false_alike (is_true (val m t e)) ∙ sym (o.values m e)))
       (by_if (λ r. Gives bool (node Equal s t) r) (is_truth false t) (opposite s) _ (λ h.
-        let sort = bool_sort false u t h q in let o = opposes s (at_bool u s sort p) in gives_truth (node Equal s t) (opposite s) o.result (λ m e model env.
-        equation_value sort m e ∙ ap (λ b. beq (is_true (val m s e)) b) (truth_read false t h m e) ∙ alike_false (is_true (val m s e)) ∙ sym (o.values m e)))
+      let sort = bool_sort false u t h q in let o = opposes s (at_bool u s sort p) in gives_truth (node Equal s t) (opposite s) o.result (λ m e model env.
+      equation_value sort m e ∙ ap (λ b. beq (is_true (val m s e)) b) (truth_read false t h m e) ∙ alike_false (is_true (val m s e)) ∙ sym (o.values m e)))
       tt))))
 
   abbrev chosen : Term → Term
@@ -191,18 +189,27 @@ module _ (u : Sort) (s t : Term) (p : Operand u s) (q : Operand u t) where
   pub choice_gives : (c : Term) → Operand bool c → IfSome (logic.choice c s t) (λ r. Gives u (chosen c) r)
   unfolding op_value
   choice_gives c o =
-      by_if (λ r. Gives u (chosen c) r) (is_truth true c) s _ (λ h. record { result = p; values = λ m e model env.
-        equal_same u m.sizes (ap (λ b. cond b (val m s e) (val m t e)) (truth_read true c h m e)) })
-      (by_if (λ r. Gives u (chosen c) r) (is_truth false c) t _ (λ h. record { result = q; values = λ m e model env.
-        equal_same u m.sizes (ap (λ b. cond b (val m s e) (val m t e)) (truth_read false c h m e)) })
-      (by_if (λ r. Gives u (chosen c) r) (term_eq s t) s _ (λ h. record { result = p; values = λ m e model env.
-        equal_same u m.sizes (ap (λ w. cond (is_true (val m c e)) (val m s e) (val m w e)) (sym ((Decides-term_eq s t).0 h)) ∙ cond_itself (is_true (val m c e)) (val m s e)) })
+      by_if (λ r. Gives u (chosen c) r) (is_truth true c) s _ (λ h. record {
+        result = p;
+        values = λ m e model env.
+            equal_same u m.sizes (ap (λ b. cond b (val m s e) (val m t e)) (truth_read true c h m e));
+      })
+      (by_if (λ r. Gives u (chosen c) r) (is_truth false c) t _ (λ h. record {
+        result = q;
+        values = λ m e model env.
+            equal_same u m.sizes (ap (λ b. cond b (val m s e) (val m t e)) (truth_read false c h m e));
+      })
+      (by_if (λ r. Gives u (chosen c) r) (term_eq s t) s _ (λ h. record {
+        result = p;
+        values = λ m e model env.
+            equal_same u m.sizes (ap (λ w. cond (is_true (val m c e)) (val m s e) (val m w e)) (sym ((Decides-term_eq s t).0 h)) ∙ cond_itself (is_true (val m c e)) (val m s e));
+      })
       (by_if (λ r. Gives u (chosen c) r) (is_truth true s && is_truth false t) c _ (λ h.
-        let parts = both_true (is_truth true s) (is_truth false t) h in
-        subst (λ w. Gives w (chosen c) c) (sym (bool_sort true u s parts.0 p)) (gives_truth (chosen c) c o (λ m e model env.
-          as_it_is (is_true (val m c e)) (val m s e) (val m t e) (truth_read true s parts.0 m e) (truth_read false t parts.1 m e))))
+      let parts = both_true (is_truth true s) (is_truth false t) h in
+      subst (λ w. Gives w (chosen c) c) (sym (bool_sort true u s parts.0 p)) (gives_truth (chosen c) c o (λ m e model env.
+      as_it_is (is_true (val m c e)) (val m s e) (val m t e) (truth_read true s parts.0 m e) (truth_read false t parts.1 m e))))
       (by_if (λ r. Gives u (chosen c) r) (is_truth false s && is_truth true t) (opposite c) _ (λ h.
-        let parts = both_true (is_truth false s) (is_truth true t) h in
-        subst (λ w. Gives w (chosen c) (opposite c)) (sym (bool_sort false u s parts.0 p)) (gives_truth (chosen c) (opposite c) (opposes c o).result (λ m e model env.
-          the_other (is_true (val m c e)) (val m s e) (val m t e) (truth_read false s parts.0 m e) (truth_read true t parts.1 m e) ∙ sym ((opposes c o).values m e))))
+      let parts = both_true (is_truth false s) (is_truth true t) h in
+      subst (λ w. Gives w (chosen c) (opposite c)) (sym (bool_sort false u s parts.0 p)) (gives_truth (chosen c) (opposite c) (opposes c o).result (λ m e model env.
+      the_other (is_true (val m c e)) (val m s e) (val m t e) (truth_read false s parts.0 m e) (truth_read true t parts.1 m e) ∙ sym ((opposes c o).values m e))))
       tt))))

@@ -1,21 +1,15 @@
 -- The laws of the operators on whole numbers give terms of the same value.
-use Rattle.std.proofs.Common.{◌≡◌, ℕ, zero, suc, ◌-◌, ◌/◌, ◌%◌, ◌^◌, ◌<◌, ◌≤◌, Bool, true, false, not, cond, ◌&&◌, ◌||◌, ◌⊎◌, inl, inr, ℤ, pos, negsuc, ◌+ℤ◌, ◌-ℤ◌, ◌*ℤ◌, neg_ℤ, nat_abs, List, [], ◌∷◌, ◌++◌, replicate, Option, Some, None, refl, ap, sym, ◌∙◌, subst, arith}
-use Rattle.std.specs.Prelude.{IfSome, filter, unsigned_abs}
+use Rattle.std.proofs.Common.{◌≡◌, ◌-◌, ◌%◌, ◌^◌, ◌<◌, ◌||◌, inl, inr, ℤ, pos, negsuc, ◌-ℤ◌, nat_abs, ap, sym, ◌∙◌, arith}
+use Rattle.std.specs.Prelude.{IfSome}
 use Rattle.std.specs.Int.{int_div_euclid, int_rem_euclid}
-use Rattle.std.specs.List.{list_any}
-use Rattle.std.specs.Ordering.{int_eq}
-use Rattle.std.proofs.Math.IntN.{+ℤ_assoc, +ℤ_comm, +ℤ_idl, +ℤ_idr, +ℤ_invr, *ℤ_comm, *ℤ-one, *ℤ-zero, zero-*ℤ}
+use Rattle.std.proofs.Math.IntN.{+ℤ_idr, +ℤ_invr}
 use Rattle.std.proofs.Math.Nat.{div-one, mod-one}
-use Rattle.std.proofs.lemmas.Bool.{ltb-true}
-use Rattle.std.proofs.lemmas.Bool.Decides.{Decides-int_eq}
-use Rattle.smt_terms.specs.declared.op.Op.{Op}
-use Rattle.smt_terms.specs.declared.op.Op.TheVariants.{Whole, Truth, Bits, Add, Mul, Sub, Div, Mod}
-use Rattle.smt_terms.specs.Sorts.{Sort, int}
-use Rattle.smt_terms.specs.Term.{op, symbol, const_array, Term, apply, quantified, Terms, none, ◌⨾◌}
+use Rattle.smt_terms.specs.declared.op.Op.TheVariants.{Sub, Div, Mod}
+use Rattle.smt_terms.specs.Sorts.{int}
+use Rattle.smt_terms.specs.Term.{Term}
 use Rattle.smt_terms.specs.Constants.{whole_term}
 use Rattle.smt_terms.specs.Equal.{term_eq}
-use Rattle.smt_terms.specs.Laws.{IsEnv}
-use Rattle.smt_terms.specs.Models.{Model, IsModel, background}
+use Rattle.smt_terms.specs.Models.{Model, background}
 use Rattle.smt_terms.specs.Operators.{op_value, quotient, modulus}
 use Rattle.smt_terms.specs.Val.{Env, val}
 use Rattle.smt_terms.specs.Values.{number}
@@ -55,24 +49,24 @@ module _ (s t : Term) (p : Operand int s) (q : Operand int t) where
   unfolding op_value
   subtraction_gives =
       by_if (λ r. Gives int (node Sub s t) r) (is_whole (pos 0) t) s _ (λ h. gives_number (node Sub s t) s p (λ m e model env.
-        ap (λ z. N m e s -ℤ z) (whole_read (pos 0) t h m e) ∙ minus-none (N m e s)))
+      ap (λ z. N m e s -ℤ z) (whole_read (pos 0) t h m e) ∙ minus-none (N m e s)))
       (by_if (λ r. Gives int (node Sub s t) r) (term_eq s t) (whole_term (pos 0)) _ (λ h. gives_number (node Sub s t) (whole_term (pos 0)) zero_operand (λ m e model env.
-        ap (λ u. N m e s -ℤ N m e u) (sym ((Decides-term_eq s t).0 h)) ∙ minus-itself (N m e s)))
+      ap (λ u. N m e s -ℤ N m e u) (sym ((Decides-term_eq s t).0 h)) ∙ minus-itself (N m e s)))
       tt)
 
   pub division_gives : IfSome (numbers.division s t) (λ r. Gives int (node Div s t) r)
   unfolding op_value
   division_gives =
       by_if (λ r. Gives int (node Div s t) r) (is_whole (pos 1) t) s _ (λ h. gives_number (node Div s t) s p (λ m e model env.
-        ap (λ z. quotient (background m) (N m e s) z) (whole_read (pos 1) t h m e) ∙ div-by-one (N m e s)))
+      ap (λ z. quotient (background m) (N m e s) z) (whole_read (pos 1) t h m e) ∙ div-by-one (N m e s)))
       tt
 
   pub remainder_gives : IfSome (numbers.remainder s t) (λ r. Gives int (node Mod s t) r)
   unfolding op_value
   remainder_gives =
       by_if (λ r. Gives int (node Mod s t) r) (is_whole (pos 1) t || is_whole (negsuc 0) t) (whole_term (pos 0)) _ (λ h. gives_number (node Mod s t) (whole_term (pos 0)) zero_operand (λ m e model env.
-        elim (either_true (is_whole (pos 1) t) (is_whole (negsuc 0) t) h) [
-          | inl one ↦ ap (λ z. modulus (background m) (N m e s) z) (whole_read (pos 1) t one m e) ∙ mod-by-one (N m e s)
-          | inr other ↦ ap (λ z. modulus (background m) (N m e s) z) (whole_read (negsuc 0) t other m e) ∙ mod-by-minus-one (N m e s)
-        ]))
+      elim (either_true (is_whole (pos 1) t) (is_whole (negsuc 0) t) h) [
+        | inl one ↦ ap (λ z. modulus (background m) (N m e s) z) (whole_read (pos 1) t one m e) ∙ mod-by-one (N m e s)
+        | inr other ↦ ap (λ z. modulus (background m) (N m e s) z) (whole_read (negsuc 0) t other m e) ∙ mod-by-minus-one (N m e s)
+      ]))
       tt

@@ -1,5 +1,5 @@
 -- The laws of `+` and `*` over all their operands, and of `distinct`, give terms of the same value.
-use Rattle.std.proofs.Common.{◌≡◌, ℕ, zero, suc, ◌^◌, ◌<◌, ◌≤◌, Bool, true, false, not, cond, ◌&&◌, ◌||◌, ◌⊎◌, inl, inr, ℤ, pos, ◌+ℤ◌, ◌*ℤ◌, nat_abs, List, [], ◌∷◌, ◌++◌, replicate, Option, Some, None, refl, ap, sym, ◌∙◌, subst, arith}
+use Rattle.std.proofs.Common.{◌≡◌, ℕ, zero, suc, ◌^◌, ◌<◌, ◌≤◌, Bool, true, false, not, cond, inl, inr, ℤ, pos, ◌+ℤ◌, ◌*ℤ◌, nat_abs, List, [], ◌∷◌, ◌++◌, replicate, Option, Some, None, refl, ap, sym, ◌∙◌, subst, arith}
 use Rattle.std.specs.Prelude.{IfSome, filter, is_some, neg_ℤ, negsuc, ◌*◌}
 use Rattle.std.specs.List.{list_any}
 use Rattle.std.specs.Ordering.{int_eq}
@@ -8,23 +8,21 @@ use Rattle.std.proofs.Math.Nat.{mul_assoc, mul-zero, zero-mul}
 use Rattle.std.proofs.lemmas.Bool.{ltb-true}
 use Rattle.std.proofs.lemmas.Bool.Decides.{Decides-int_eq}
 use Rattle.smt_terms.specs.declared.op.Op.{Op}
-use Rattle.smt_terms.specs.declared.op.Op.TheVariants.{Whole, Truth, Bits, Add, Mul}
-use Rattle.smt_terms.specs.Sorts.{Sort, bool, int, bit_vector}
-use Rattle.smt_terms.specs.Term.{op, symbol, const_array, Term, apply, quantified, Terms, none, ◌⨾◌, list, terms}
+use Rattle.smt_terms.specs.declared.op.Op.TheVariants.{Add, Mul}
+use Rattle.smt_terms.specs.Sorts.{bool, int, bit_vector}
+use Rattle.smt_terms.specs.Term.{op, Term, apply, Terms, none, ◌⨾◌, list, terms}
 use Rattle.smt_terms.specs.Constants.{whole_term, literal_value, constant_value, is_constant}
-use Rattle.smt_terms.specs.Laws.{IsEnv}
-use Rattle.smt_terms.specs.Models.{Model, IsModel}
+use Rattle.smt_terms.specs.Models.{Model}
 use Rattle.smt_terms.specs.Operators.{op_value, sum_of, product_of}
-use Rattle.smt_terms.specs.Rank.{shape, width, most_bits, sort_of}
+use Rattle.smt_terms.specs.Rank.{shape, width, most_bits}
 use Rattle.smt_terms.specs.Takes.{Takes}
 use Rattle.smt_terms.specs.Val.{Env, val, vals, within_range}
-use Rattle.smt_terms.specs.Values.{Value, whole, number}
+use Rattle.smt_terms.specs.Values.{Value, number}
 use Rattle.smt_terms.proofs.ConstantTerms.{IsConstant, a_truth, a_whole, a_vector, constants, truth_sort, vector_sort}
 use Rattle.smt_terms.proofs.Tests.{true_or_false, either_true}
 use Rattle.simplify.specs.Folding.{is_whole, over_left}
 use Rattle.simplify.specs.Numbers as numbers
 use Rattle.simplify.proofs.Gives.{Operand, Gives, by_if, gives_number, whole_operand, whole_read}
-use Rattle.simplify.proofs.JunctionGives.{Found, found}
 use Rattle.simplify.proofs.Lists.{Each, filter-each, list-terms, left_operand}
 
 -- ---- a commutative operation with a neutral number
@@ -134,17 +132,17 @@ module _ (f : ℤ → ℤ → ℤ) (n : ℤ) (law : Monoid f n) (m : Model) (e :
   apart : (ts : List Term) → Each int ts → folded_over f n N ts ≡ f (folded_over f n N (filter (λ t. not (is_constant t)) ts)) (numbers.together f n ts)
   apart [] p = sym (law.left n)
   apart (t ∷ ts) p = elim (true_or_false (is_constant t)) [
-      | inl constant ↦
-          ap (f (N t)) (apart ts p.1)
-          ∙ exchange (N t) (folded_over f n N (filter (λ t. not (is_constant t)) ts)) (numbers.together f n ts)
-          ∙ ap (λ k. f (folded_over f n N (filter (λ t. not (is_constant t)) ts)) (f k (numbers.together f n ts))) (sym (constant_number n t m e p.0 constant))
-          ∙ sym (ap (λ b. f (folded_over f n N (cond (not b) (t ∷ filter (λ t. not (is_constant t)) ts) (filter (λ t. not (is_constant t)) ts))) (f (numbers.number_or n (constant_value t)) (numbers.together f n ts))) constant)
-      | inr other ↦
-          ap (f (N t)) (apart ts p.1)
-          ∙ sym (law.assoc (N t) (folded_over f n N (filter (λ t. not (is_constant t)) ts)) (numbers.together f n ts))
-          ∙ ap (f (f (N t) (folded_over f n N (filter (λ t. not (is_constant t)) ts)))) (sym (law.left (numbers.together f n ts)) ∙ ap (λ k. f k (numbers.together f n ts)) (sym (no_number n (constant_value t) other)))
-          ∙ sym (ap (λ b. f (folded_over f n N (cond (not b) (t ∷ filter (λ t. not (is_constant t)) ts) (filter (λ t. not (is_constant t)) ts))) (f (numbers.number_or n (constant_value t)) (numbers.together f n ts))) other)
-    ]
+    | inl constant ↦
+        ap (f (N t)) (apart ts p.1)
+        ∙ exchange (N t) (folded_over f n N (filter (λ t. not (is_constant t)) ts)) (numbers.together f n ts)
+        ∙ ap (λ k. f (folded_over f n N (filter (λ t. not (is_constant t)) ts)) (f k (numbers.together f n ts))) (sym (constant_number n t m e p.0 constant))
+        ∙ sym (ap (λ b. f (folded_over f n N (cond (not b) (t ∷ filter (λ t. not (is_constant t)) ts) (filter (λ t. not (is_constant t)) ts))) (f (numbers.number_or n (constant_value t)) (numbers.together f n ts))) constant)
+    | inr other ↦
+        ap (f (N t)) (apart ts p.1)
+        ∙ sym (law.assoc (N t) (folded_over f n N (filter (λ t. not (is_constant t)) ts)) (numbers.together f n ts))
+        ∙ ap (f (f (N t) (folded_over f n N (filter (λ t. not (is_constant t)) ts)))) (sym (law.left (numbers.together f n ts)) ∙ ap (λ k. f k (numbers.together f n ts)) (sym (no_number n (constant_value t) other)))
+        ∙ sym (ap (λ b. f (folded_over f n N (cond (not b) (t ∷ filter (λ t. not (is_constant t)) ts) (filter (λ t. not (is_constant t)) ts))) (f (numbers.number_or n (constant_value t)) (numbers.together f n ts))) other)
+  ]
 
   both_lists : (ts us : List Term) → folded_over f n N (ts ++ us) ≡ f (folded_over f n N ts) (folded_over f n N us)
   both_lists [] us = sym (law.left (folded_over f n N us))
@@ -156,9 +154,9 @@ module _ (f : ℤ → ℤ → ℤ) (n : ℤ) (law : Monoid f n) (m : Model) (e :
 
   unless : (k : ℤ) → folded_over f n N (numbers.unless_neutral n k) ≡ k
   unless k = elim (true_or_false (int_eq k n)) [
-      | inl neutral ↦ ap (λ b. folded_over f n N (cond b [] (whole_term k ∷ []))) neutral ∙ sym ((Decides-int_eq k n).0 neutral)
-      | inr other ↦ ap (λ b. folded_over f n N (cond b [] (whole_term k ∷ []))) other ∙ law.right (N (whole_term k)) ∙ constant_reads k
-    ]
+    | inl neutral ↦ ap (λ b. folded_over f n N (cond b [] (whole_term k ∷ []))) neutral ∙ sym ((Decides-int_eq k n).0 neutral)
+    | inr other ↦ ap (λ b. folded_over f n N (cond b [] (whole_term k ∷ []))) other ∙ law.right (N (whole_term k)) ∙ constant_reads k
+  ]
 
   -- the others and the constants' number
   gathered-value : (ts : List Term) → Each int ts → folded_over f n N (filter (λ t. not (is_constant t)) ts ++ numbers.unless_neutral n (numbers.together f n ts)) ≡ folded_over f n N ts
@@ -197,9 +195,9 @@ append-each (t ∷ ts) us p q = (p.0, append-each ts us p.1 q)
 
 unless-each : (n k : ℤ) → within_range k ≡ true → Each int (numbers.unless_neutral n k)
 unless-each n k small = elim (true_or_false (int_eq k n)) [
-    | inl neutral ↦ subst (λ b. Each int (cond b [] (whole_term k ∷ []))) (sym neutral) tt
-    | inr other ↦ subst (λ b. Each int (cond b [] (whole_term k ∷ []))) (sym other) (whole_operand k (ltb-true (nat_abs k) (2 ^ 127) small), tt)
-  ]
+  | inl neutral ↦ subst (λ b. Each int (cond b [] (whole_term k ∷ []))) (sym neutral) tt
+  | inr other ↦ subst (λ b. Each int (cond b [] (whole_term k ∷ []))) (sym other) (whole_operand k (ltb-true (nat_abs k) (2 ^ 127) small), tt)
+]
 
 module _ (o : Op) (f : ℤ → ℤ → ℤ) (n : ℤ) (j : Sums o f n) where
   left_value : (m : Model) (e : Env) (ts : List Term) → number (val m (over_left o (whole_term n) ts) e) ≡ folded_over f n (λ t. number (val m t e)) ts
@@ -213,10 +211,10 @@ module _ (o : Op) (f : ℤ → ℤ → ℤ) (n : ℤ) (j : Sums o f n) where
       let kept = filter (λ t. not (is_constant t)) (list us) ++ numbers.unless_neutral n k in
       by_if (λ r. Gives int (apply (op o) us) r) (within_range k) (over_left o (whole_term n) kept) None
       (λ small.
-        let narrow : width int ≤ most_bits = omega arith in
-        let each = append-each (filter (λ t. not (is_constant t)) (list us)) (numbers.unless_neutral n k) (filter-each int (λ t. not (is_constant t)) (list us) p) (unless-each n k small) in
-        gives_number (apply (op o) us) (over_left o (whole_term n) kept) (left_operand int o (whole_term n) j.neutral j.takes narrow kept each) (λ m e model env.
-          j.values m e us ∙ sym (gathered-value f n j.law m e (list us) p) ∙ sym (left_value m e kept)))
+      let narrow : width int ≤ most_bits = omega arith in
+      let each = append-each (filter (λ t. not (is_constant t)) (list us)) (numbers.unless_neutral n k) (filter-each int (λ t. not (is_constant t)) (list us) p) (unless-each n k small) in
+      gives_number (apply (op o) us) (over_left o (whole_term n) kept) (left_operand int o (whole_term n) j.neutral j.takes narrow kept each) (λ m e model env.
+      j.values m e us ∙ sym (gathered-value f n j.law m e (list us) p) ∙ sym (left_value m e kept)))
       tt
 
 pub addition_gives : (us : Terms) → Each int (list us) → IfSome (numbers.addition (list us)) (λ r. Gives int (apply (op Add) us) r)
@@ -226,15 +224,15 @@ addition_gives us p = gathered_gives Add ◌+ℤ◌ (pos 0) additions us p
 zero_factor : (m : Model) (e : Env) (ts : List Term) → list_any (is_whole (pos 0)) ts ≡ true → folded_over ◌*ℤ◌ (pos 1) (λ t. number (val m t e)) ts ≡ pos 0
 zero_factor m e [] h = absurd cc
 zero_factor m e (t ∷ ts) h = elim (either_true (is_whole (pos 0) t) (list_any (is_whole (pos 0)) ts) h) [
-    | inl here ↦ ap (λ k. k *ℤ folded_over ◌*ℤ◌ (pos 1) (λ t. number (val m t e)) ts) (whole_read (pos 0) t here m e) ∙ zero-*ℤ (folded_over ◌*ℤ◌ (pos 1) (λ t. number (val m t e)) ts)
-    | inr behind ↦ ap (λ k. number (val m t e) *ℤ k) (zero_factor m e ts behind) ∙ *ℤ-zero (number (val m t e))
-  ]
+  | inl here ↦ ap (λ k. k *ℤ folded_over ◌*ℤ◌ (pos 1) (λ t. number (val m t e)) ts) (whole_read (pos 0) t here m e) ∙ zero-*ℤ (folded_over ◌*ℤ◌ (pos 1) (λ t. number (val m t e)) ts)
+  | inr behind ↦ ap (λ k. number (val m t e) *ℤ k) (zero_factor m e ts behind) ∙ *ℤ-zero (number (val m t e))
+]
 
 pub multiplication_gives : (us : Terms) → Each int (list us) → IfSome (numbers.multiplication (list us)) (λ r. Gives int (apply (op Mul) us) r)
 multiplication_gives us p =
     by_if (λ r. Gives int (apply (op Mul) us) r) (list_any (is_whole (pos 0)) (list us)) (whole_term (pos 0)) _
     (λ h. gives_number (apply (op Mul) us) (whole_term (pos 0)) additions.neutral (λ m e model env.
-      product-value m e ∙ zero_factor m e (list us) h ∙ sym (constant_reads ◌*ℤ◌ (pos 1) products m e (pos 0))))
+    product-value m e ∙ zero_factor m e (list us) h ∙ sym (constant_reads ◌*ℤ◌ (pos 1) products m e (pos 0))))
     (gathered_gives Mul ◌*ℤ◌ (pos 1) multiplications us p)
   where
     product-value : (m : Model) (e : Env) → number (val m (apply (op Mul) us) e) ≡ folded_over ◌*ℤ◌ (pos 1) (λ t. number (val m t e)) (list us)

@@ -1,29 +1,28 @@
 -- The laws of the operators of one operand, and of comparisons of an operand with itself, give terms of the same value.
-use Rattle.std.proofs.Common.{◌≡◌, ℕ, zero, suc, ◌+◌, ◌-◌, ◌<◌, ◌≤◌, Bool, true, false, not, ◌&&◌, ◌==◌, ℤ, pos, negsuc, neg_ℤ, List, [], ◌∷◌, length, Option, Some, None, refl, ap, sym, ◌∙◌, subst, arith}
-use Rattle.std.specs.Prelude.{IfSome, unwrap_or, nat_lt, nat_le, int_lt, int_le}
+use Rattle.std.proofs.Common.{◌≡◌, ℕ, suc, ◌+◌, ◌-◌, Bool, true, false, not, ◌&&◌, ◌==◌, ℤ, pos, negsuc, List, [], ◌∷◌, Some, None, refl, ap, sym, ◌∙◌, subst, arith}
+use Rattle.std.specs.Prelude.{IfSome, nat_lt, nat_le, int_lt, int_le}
 use Rattle.std.proofs.Math.IntN.{neg_ℤ-neg_ℤ}
 use Rattle.std.proofs.lemmas.Bool.Decides.{Decides-eqb, nat_tests}
 use Rattle.smt_terms.specs.declared.op.Op.{Op}
 use Rattle.smt_terms.specs.declared.op.Op.TheVariants.{Not, Neg, Le, Lt, Extract, BvNot, BvNeg, BvUlt, BvUle, BvSlt, BvSle, ZeroExt, SignExt, RotL, RotR}
 use Rattle.smt_terms.specs.Sorts.{Sort, bool, int, bit_vector}
-use Rattle.smt_terms.specs.Term.{op, symbol, const_array, Term, apply, quantified, Terms, none, ◌⨾◌}
-use Rattle.smt_terms.specs.BitVectors.{BitVector, bv2int, bvnot, bvneg, bvult, bvule, bvslt, bvsle, extract, zero_extend, sign_extend, rotate_left, rotate_right}
+use Rattle.smt_terms.specs.Term.{op, Term, apply, none, ◌⨾◌}
+use Rattle.smt_terms.specs.BitVectors.{BitVector, bv2int, bvult, bvule, bvslt, bvsle, extract, zero_extend, sign_extend, rotate_left, rotate_right}
 use Rattle.smt_terms.specs.Connectives.{truth_term}
 use Rattle.smt_terms.specs.Equal.{op_eq, term_eq}
-use Rattle.smt_terms.specs.Laws.{IsEnv}
-use Rattle.smt_terms.specs.Models.{Model, IsModel}
+use Rattle.smt_terms.specs.Models.{Model}
 use Rattle.smt_terms.specs.Operators.{op_value}
-use Rattle.smt_terms.specs.Rank.{shape, width, sort_of, sorts_of, is_regular, are_regular}
+use Rattle.smt_terms.specs.Rank.{shape, sorts_of, are_regular}
 use Rattle.smt_terms.specs.Takes.{Takes}
 use Rattle.smt_terms.specs.Val.{Env, val}
-use Rattle.smt_terms.specs.Values.{Value, is_true, number, bits_of}
+use Rattle.smt_terms.specs.Values.{is_true, number, bits_of}
 use Rattle.smt_terms.proofs.BitLaws.{bvnot-twice, bvneg-twice, extract-all, zero_extend-none, sign_extend-none, rotate_left-none, rotate_right-none}
 use Rattle.smt_terms.proofs.Equal.{Decides-op_eq, Decides-term_eq}
 use Rattle.smt_terms.proofs.Ranked.{rank-takes}
 use Rattle.smt_terms.proofs.Sorted.{applied}
 use Rattle.smt_terms.proofs.SortsOfTerms.{regular}
 use Rattle.smt_terms.proofs.Tests.{both_true}
-use Rattle.simplify.specs.Folding.{where_same, twice}
+use Rattle.simplify.specs.Folding.{twice}
 use Rattle.simplify.specs.Numbers as numbers
 use Rattle.simplify.specs.Vectors as vectors
 use Rattle.simplify.proofs.Gives.{Operand, Gives, one_operand, by_if, gives_truth, gives_number, gives_bits, truth_operand, width_value}
@@ -58,7 +57,7 @@ twice_gives : (o : Op) (s : Sort) (t : Term) → Undone o s → Operand s t → 
 twice_gives o s (apply (op p) (u ⨾ none)) undone t =
     by_if (λ r. Gives s (apply (op o) (apply (op p) (u ⨾ none) ⨾ none)) r) (op_eq o p) u None
     (λ h. let one : o ≡ p = (Decides-op_eq o p).0 h in
-      subst (λ q. Gives s (apply (op o) (apply (op q) (u ⨾ none) ⨾ none)) u) one (undone u (subst (λ q. Operand s (apply (op q) (u ⨾ none))) (sym one) t)))
+    subst (λ q. Gives s (apply (op o) (apply (op q) (u ⨾ none) ⨾ none)) u) one (undone u (subst (λ q. Operand s (apply (op q) (u ⨾ none))) (sym one) t)))
     tt
 twice_gives o s _ undone t = tt
 
@@ -108,14 +107,14 @@ unfolding op_value
 extraction_gives high low w t s p e =
     by_if (λ r. Gives s (apply (op (Extract high low)) (t ⨾ none)) r) ((low == 0) && (vectors.width_of t == suc high)) t None
     (λ h.
-      let parts = both_true (low == 0) (vectors.width_of t == suc high) h in
-      let none_low : low ≡ 0 = (Decides-eqb low 0).0 parts.0 in
-      let whole : w ≡ suc high = sym (width_of-vector w t p) ∙ (Decides-eqb (vectors.width_of t) (suc high)).0 parts.1 in
-      let size : high - low + 1 ≡ w = omega arith in
-      let sort : s ≡ bit_vector w = e ∙ ap bit_vector size in
-      subst (λ r. Gives r (apply (op (Extract high low)) (t ⨾ none)) t) (sym sort)
-      (gives_bits w (apply (op (Extract high low)) (t ⨾ none)) t p (λ m f model env.
-        ap (λ l. extract high l (bits_of (val m t f))) none_low ∙ extract-all high (bits_of (val m t f)) (width_value w t p m f model env ∙ whole))))
+    let parts = both_true (low == 0) (vectors.width_of t == suc high) h in
+    let none_low : low ≡ 0 = (Decides-eqb low 0).0 parts.0 in
+    let whole : w ≡ suc high = sym (width_of-vector w t p) ∙ (Decides-eqb (vectors.width_of t) (suc high)).0 parts.1 in
+    let size : high - low + 1 ≡ w = omega arith in
+    let sort : s ≡ bit_vector w = e ∙ ap bit_vector size in
+    subst (λ r. Gives r (apply (op (Extract high low)) (t ⨾ none)) t) (sym sort)
+    (gives_bits w (apply (op (Extract high low)) (t ⨾ none)) t p (λ m f model env.
+    ap (λ l. extract high l (bits_of (val m t f))) none_low ∙ extract-all high (bits_of (val m t f)) (width_value w t p m f model env ∙ whole))))
     tt
 
 module _ (i w : ℕ) (t : Term) (s : Sort) (p : Operand (bit_vector w) t) where
@@ -123,8 +122,8 @@ module _ (i w : ℕ) (t : Term) (s : Sort) (p : Operand (bit_vector w) t) where
   moved_gives o f still values sort =
       by_if (λ r. Gives s (apply (op o) (t ⨾ none)) r) (i == 0) t None
       (λ h. let zero_move : i ≡ 0 = (Decides-eqb i 0).0 h in
-        subst (λ r. Gives r (apply (op o) (t ⨾ none)) t) (sym (sort zero_move))
-        (gives_bits w (apply (op o) (t ⨾ none)) t p (λ m e model env. values m e ∙ ap (λ k. f k (bits_of (val m t e))) zero_move ∙ still (bits_of (val m t e)))))
+      subst (λ r. Gives r (apply (op o) (t ⨾ none)) t) (sym (sort zero_move))
+      (gives_bits w (apply (op o) (t ⨾ none)) t p (λ m e model env. values m e ∙ ap (λ k. f k (bits_of (val m t e))) zero_move ∙ still (bits_of (val m t e)))))
       tt
 
   longer : s ≡ bit_vector (w + i) → i ≡ 0 → s ≡ bit_vector w

@@ -1,24 +1,22 @@
 -- The laws of the operators on bit vectors give terms of the same value.
-use Rattle.std.proofs.Common.{◌≡◌, ℕ, zero, suc, ◌-◌, ◌^◌, ◌<◌, ◌≤◌, Bool, true, false, ◌&&◌, ◌==◌, List, [], ◌∷◌, length, Option, Some, None, pow_pos, refl, ap, sym, ◌∙◌, subst, arith}
-use Rattle.std.specs.Prelude.{IfSome, unwrap_or, nat_lt, nat_le, int_lt, int_le}
-use Rattle.std.proofs.lemmas.Bool.Decides.{Decides-eqb}
+use Rattle.std.proofs.Common.{◌≡◌, ℕ, ◌-◌, ◌^◌, ◌<◌, true, [], ◌∷◌, length, pow_pos, refl, ap, sym, ◌∙◌, subst, arith}
+use Rattle.std.specs.Prelude.{IfSome, unwrap_or}
 use Rattle.smt_terms.specs.declared.op.Op.{Op}
-use Rattle.smt_terms.specs.declared.op.Op.TheVariants.{Extract, BvNot, BvNeg, BvAnd, BvOr, BvXor, BvAdd, BvMul, BvSub, BvUdiv, BvUrem, BvShl, BvLshr, BvAshr, BvComp, BvUlt, BvUle, BvSlt, BvSle, ZeroExt, SignExt, RotL, RotR}
-use Rattle.smt_terms.specs.Sorts.{Sort, bool, bit_vector}
+use Rattle.smt_terms.specs.declared.op.Op.TheVariants.{BvAnd, BvOr, BvXor, BvAdd, BvMul, BvSub, BvUdiv, BvUrem, BvShl, BvLshr, BvAshr, BvComp}
+use Rattle.smt_terms.specs.Sorts.{bool, bit_vector}
 use Rattle.smt_terms.specs.Term.{op, Term, apply, none, ◌⨾◌}
-use Rattle.smt_terms.specs.BitVectors.{BitVector, bv2nat, nat2bv, zeros, ones, bvand, bvor, bvxor, bvadd, bvsub, bvmul, bvudiv, bvurem, bvshl, bvlshr, bvashr, bits_eq, extract, zero_extend, sign_extend, rotate_left, rotate_right}
+use Rattle.smt_terms.specs.BitVectors.{BitVector, nat2bv, zeros, ones, bvand, bvor, bvxor, bvsub}
 use Rattle.smt_terms.specs.Constants.{bits_term}
 use Rattle.smt_terms.specs.Equal.{term_eq}
 use Rattle.smt_terms.specs.Laws.{IsEnv}
 use Rattle.smt_terms.specs.Models.{Model, IsModel}
 use Rattle.smt_terms.specs.Operators.{op_value}
-use Rattle.smt_terms.specs.Rank.{width, sort_of, is_sort}
+use Rattle.smt_terms.specs.Rank.{width}
 use Rattle.smt_terms.specs.Val.{Env, val}
-use Rattle.smt_terms.specs.Values.{Value, bits, bits_of}
-use Rattle.smt_terms.proofs.BitLaws.{nat2bv-zero, nat2bv-ones, and-zeros, zeros-and, and-ones, ones-and, and-itself, or-zeros, zeros-or, or-ones, ones-or, or-itself, xor-itself, xor-zeros, zeros-xor, add-none, none-add, sub-none, sub-itself, mul-none, none-mul, mul-one_bits, one-mul_bits, udiv-none, udiv-one, urem-none, urem-one, shl-none, lshr-none, ashr-none, extract-all, zero_extend-none, sign_extend-none, rotate_left-none, rotate_right-none}
+use Rattle.smt_terms.specs.Values.{bits_of}
+use Rattle.smt_terms.proofs.BitLaws.{nat2bv-zero, nat2bv-ones, and-zeros, zeros-and, and-ones, ones-and, and-itself, or-zeros, zeros-or, or-ones, ones-or, or-itself, xor-itself, xor-zeros, zeros-xor, add-none, none-add, sub-none, sub-itself, mul-none, none-mul, mul-one_bits, one-mul_bits, udiv-none, udiv-one, urem-none, urem-one, shl-none, lshr-none, ashr-none}
 use Rattle.smt_terms.proofs.Equal.{Decides-term_eq}
 use Rattle.smt_terms.proofs.Same.{Decides-bits_eq}
-use Rattle.smt_terms.proofs.Tests.{both_true}
 use Rattle.simplify.specs.Folding.{is_bits, is_ones}
 use Rattle.simplify.specs.Vectors as vectors
 use Rattle.simplify.proofs.Gives.{Operand, Gives, by_if, gives_bits, bits_operand, vector_sort, width_value, bits_value, zero_value, ones_value}
@@ -64,90 +62,90 @@ module _ (w : ℕ) (s t : Term) (p : Operand (bit_vector w) s) (q : Operand (bit
   unfolding op_value
   bit_and_gives =
       by_if (λ r. Gives (bit_vector w) (node BvAnd s t) r) (is_bits 0 s) s _ (λ h. gives_bits w (node BvAnd s t) s p (λ m e model env.
-        let z = zero_value w s p m e model env h in (λ i. bvand (z i) (B m e t)) ∙ and-zeros w (B m e t) (width_value w t q m e model env) ∙ sym z))
+      let z = zero_value w s p m e model env h in (λ i. bvand (z i) (B m e t)) ∙ and-zeros w (B m e t) (width_value w t q m e model env) ∙ sym z))
       (by_if (λ r. Gives (bit_vector w) (node BvAnd s t) r) (is_bits 0 t) t _ (λ h. gives_bits w (node BvAnd s t) t q (λ m e model env.
-        let z = zero_value w t q m e model env h in (λ i. bvand (B m e s) (z i)) ∙ zeros-and w (B m e s) (width_value w s p m e model env) ∙ sym z))
+      let z = zero_value w t q m e model env h in (λ i. bvand (B m e s) (z i)) ∙ zeros-and w (B m e s) (width_value w s p m e model env) ∙ sym z))
       (by_if (λ r. Gives (bit_vector w) (node BvAnd s t) r) (is_ones s) t _ (λ h. gives_bits w (node BvAnd s t) t q (λ m e model env.
-        let z = ones_value w s p m e model env h in (λ i. bvand (z i) (B m e t)) ∙ and-ones w (B m e t) (width_value w t q m e model env)))
+      let z = ones_value w s p m e model env h in (λ i. bvand (z i) (B m e t)) ∙ and-ones w (B m e t) (width_value w t q m e model env)))
       (by_if (λ r. Gives (bit_vector w) (node BvAnd s t) r) (is_ones t) s _ (λ h. gives_bits w (node BvAnd s t) s p (λ m e model env.
-        let z = ones_value w t q m e model env h in (λ i. bvand (B m e s) (z i)) ∙ ones-and w (B m e s) (width_value w s p m e model env)))
+      let z = ones_value w t q m e model env h in (λ i. bvand (B m e s) (z i)) ∙ ones-and w (B m e s) (width_value w s p m e model env)))
       (by_if (λ r. Gives (bit_vector w) (node BvAnd s t) r) (term_eq s t) s _ (λ h. gives_bits w (node BvAnd s t) s p (λ m e model env.
-        (λ i. bvand (B m e s) (equal_bits h m e i)) ∙ and-itself (B m e s)))
+      (λ i. bvand (B m e s) (equal_bits h m e i)) ∙ and-itself (B m e s)))
       tt))))
 
   pub bit_or_gives : IfSome (vectors.bit_or s t) (λ r. Gives (bit_vector w) (node BvOr s t) r)
   unfolding op_value
   bit_or_gives =
       by_if (λ r. Gives (bit_vector w) (node BvOr s t) r) (is_ones s) s _ (λ h. gives_bits w (node BvOr s t) s p (λ m e model env.
-        let z = ones_value w s p m e model env h in (λ i. bvor (z i) (B m e t)) ∙ or-ones w (B m e t) (width_value w t q m e model env) ∙ sym z))
+      let z = ones_value w s p m e model env h in (λ i. bvor (z i) (B m e t)) ∙ or-ones w (B m e t) (width_value w t q m e model env) ∙ sym z))
       (by_if (λ r. Gives (bit_vector w) (node BvOr s t) r) (is_ones t) t _ (λ h. gives_bits w (node BvOr s t) t q (λ m e model env.
-        let z = ones_value w t q m e model env h in (λ i. bvor (B m e s) (z i)) ∙ ones-or w (B m e s) (width_value w s p m e model env) ∙ sym z))
+      let z = ones_value w t q m e model env h in (λ i. bvor (B m e s) (z i)) ∙ ones-or w (B m e s) (width_value w s p m e model env) ∙ sym z))
       (by_if (λ r. Gives (bit_vector w) (node BvOr s t) r) (is_bits 0 s) t _ (λ h. gives_bits w (node BvOr s t) t q (λ m e model env.
-        let z = zero_value w s p m e model env h in (λ i. bvor (z i) (B m e t)) ∙ or-zeros w (B m e t) (width_value w t q m e model env)))
+      let z = zero_value w s p m e model env h in (λ i. bvor (z i) (B m e t)) ∙ or-zeros w (B m e t) (width_value w t q m e model env)))
       (by_if (λ r. Gives (bit_vector w) (node BvOr s t) r) (is_bits 0 t) s _ (λ h. gives_bits w (node BvOr s t) s p (λ m e model env.
-        let z = zero_value w t q m e model env h in (λ i. bvor (B m e s) (z i)) ∙ zeros-or w (B m e s) (width_value w s p m e model env)))
+      let z = zero_value w t q m e model env h in (λ i. bvor (B m e s) (z i)) ∙ zeros-or w (B m e s) (width_value w s p m e model env)))
       (by_if (λ r. Gives (bit_vector w) (node BvOr s t) r) (term_eq s t) s _ (λ h. gives_bits w (node BvOr s t) s p (λ m e model env.
-        (λ i. bvor (B m e s) (equal_bits h m e i)) ∙ or-itself (B m e s)))
+      (λ i. bvor (B m e s) (equal_bits h m e i)) ∙ or-itself (B m e s)))
       tt))))
 
   pub bit_exclusive_gives : IfSome (vectors.bit_exclusive s t) (λ r. Gives (bit_vector w) (node BvXor s t) r)
   unfolding op_value
   bit_exclusive_gives =
       by_if (λ r. Gives (bit_vector w) (node BvXor s t) r) (term_eq s t) (vectors.zero_like s) _ (λ h. gives_bits w (node BvXor s t) (vectors.zero_like s) (zero_operand w s p) (λ m e model env.
-        (λ i. bvxor (B m e s) (equal_bits h m e i)) ∙ xor-itself (B m e s) ∙ ap zeros (width_value w s p m e model env) ∙ sym (zero_like-value w s p m e)))
+      (λ i. bvxor (B m e s) (equal_bits h m e i)) ∙ xor-itself (B m e s) ∙ ap zeros (width_value w s p m e model env) ∙ sym (zero_like-value w s p m e)))
       (by_if (λ r. Gives (bit_vector w) (node BvXor s t) r) (is_bits 0 s) t _ (λ h. gives_bits w (node BvXor s t) t q (λ m e model env.
-        let z = zero_value w s p m e model env h in (λ i. bvxor (z i) (B m e t)) ∙ xor-zeros w (B m e t) (width_value w t q m e model env)))
+      let z = zero_value w s p m e model env h in (λ i. bvxor (z i) (B m e t)) ∙ xor-zeros w (B m e t) (width_value w t q m e model env)))
       (by_if (λ r. Gives (bit_vector w) (node BvXor s t) r) (is_bits 0 t) s _ (λ h. gives_bits w (node BvXor s t) s p (λ m e model env.
-        let z = zero_value w t q m e model env h in (λ i. bvxor (B m e s) (z i)) ∙ zeros-xor w (B m e s) (width_value w s p m e model env)))
+      let z = zero_value w t q m e model env h in (λ i. bvxor (B m e s) (z i)) ∙ zeros-xor w (B m e s) (width_value w s p m e model env)))
       tt))
 
   pub addition_gives : IfSome (vectors.addition s t) (λ r. Gives (bit_vector w) (node BvAdd s t) r)
   unfolding op_value
   addition_gives =
       by_if (λ r. Gives (bit_vector w) (node BvAdd s t) r) (is_bits 0 s) t _ (λ h. gives_bits w (node BvAdd s t) t q (λ m e model env.
-        none-add (B m e s) (B m e t) (equal_widths m e model env) (bits_value w s p m e model env 0 h)))
+      none-add (B m e s) (B m e t) (equal_widths m e model env) (bits_value w s p m e model env 0 h)))
       (by_if (λ r. Gives (bit_vector w) (node BvAdd s t) r) (is_bits 0 t) s _ (λ h. gives_bits w (node BvAdd s t) s p (λ m e model env.
-        add-none (B m e s) (B m e t) (bits_value w t q m e model env 0 h)))
+      add-none (B m e s) (B m e t) (bits_value w t q m e model env 0 h)))
       tt)
 
   pub subtraction_gives : IfSome (vectors.subtraction s t) (λ r. Gives (bit_vector w) (node BvSub s t) r)
   unfolding op_value
   subtraction_gives =
       by_if (λ r. Gives (bit_vector w) (node BvSub s t) r) (is_bits 0 t) s _ (λ h. gives_bits w (node BvSub s t) s p (λ m e model env.
-        sub-none (B m e s) (B m e t) (bits_value w t q m e model env 0 h)))
+      sub-none (B m e s) (B m e t) (bits_value w t q m e model env 0 h)))
       (by_if (λ r. Gives (bit_vector w) (node BvSub s t) r) (term_eq s t) (vectors.zero_like s) _ (λ h. gives_bits w (node BvSub s t) (vectors.zero_like s) (zero_operand w s p) (λ m e model env.
-        (λ i. bvsub (B m e s) (equal_bits h m e i)) ∙ sub-itself (B m e s) ∙ ap zeros (width_value w s p m e model env) ∙ sym (zero_like-value w s p m e)))
+      (λ i. bvsub (B m e s) (equal_bits h m e i)) ∙ sub-itself (B m e s) ∙ ap zeros (width_value w s p m e model env) ∙ sym (zero_like-value w s p m e)))
       tt)
 
   pub multiplication_gives : IfSome (vectors.multiplication s t) (λ r. Gives (bit_vector w) (node BvMul s t) r)
   unfolding op_value
   multiplication_gives =
       by_if (λ r. Gives (bit_vector w) (node BvMul s t) r) (is_bits 0 s) s _ (λ h. gives_bits w (node BvMul s t) s p (λ m e model env.
-        none-mul (B m e s) (B m e t) (bits_value w s p m e model env 0 h)))
+      none-mul (B m e s) (B m e t) (bits_value w s p m e model env 0 h)))
       (by_if (λ r. Gives (bit_vector w) (node BvMul s t) r) (is_bits 0 t) t _ (λ h. gives_bits w (node BvMul s t) t q (λ m e model env.
-        mul-none (B m e s) (B m e t) (equal_widths m e model env) (bits_value w t q m e model env 0 h)))
+      mul-none (B m e s) (B m e t) (equal_widths m e model env) (bits_value w t q m e model env 0 h)))
       (by_if (λ r. Gives (bit_vector w) (node BvMul s t) r) (is_bits 1 s) t _ (λ h. gives_bits w (node BvMul s t) t q (λ m e model env.
-        one-mul_bits (B m e s) (B m e t) (equal_widths m e model env) (bits_value w s p m e model env 1 h)))
+      one-mul_bits (B m e s) (B m e t) (equal_widths m e model env) (bits_value w s p m e model env 1 h)))
       (by_if (λ r. Gives (bit_vector w) (node BvMul s t) r) (is_bits 1 t) s _ (λ h. gives_bits w (node BvMul s t) s p (λ m e model env.
-        mul-one_bits (B m e s) (B m e t) (bits_value w t q m e model env 1 h)))
+      mul-one_bits (B m e s) (B m e t) (bits_value w t q m e model env 1 h)))
       tt)))
 
   pub division_gives : IfSome (vectors.division s t) (λ r. Gives (bit_vector w) (node BvUdiv s t) r)
   unfolding op_value
   division_gives =
       by_if (λ r. Gives (bit_vector w) (node BvUdiv s t) r) (is_bits 0 t) (vectors.ones_like t) _ (λ h. gives_bits w (node BvUdiv s t) (vectors.ones_like t) (ones_operand w t q) (λ m e model env.
-        udiv-none (B m e s) (B m e t) (bits_value w t q m e model env 0 h) ∙ ap ones (width_value w s p m e model env) ∙ sym (ones_like-value w t q m e)))
+      udiv-none (B m e s) (B m e t) (bits_value w t q m e model env 0 h) ∙ ap ones (width_value w s p m e model env) ∙ sym (ones_like-value w t q m e)))
       (by_if (λ r. Gives (bit_vector w) (node BvUdiv s t) r) (is_bits 1 t) s _ (λ h. gives_bits w (node BvUdiv s t) s p (λ m e model env.
-        udiv-one (B m e s) (B m e t) (bits_value w t q m e model env 1 h)))
+      udiv-one (B m e s) (B m e t) (bits_value w t q m e model env 1 h)))
       tt)
 
   pub remainder_gives : IfSome (vectors.remainder s t) (λ r. Gives (bit_vector w) (node BvUrem s t) r)
   unfolding op_value
   remainder_gives =
       by_if (λ r. Gives (bit_vector w) (node BvUrem s t) r) (is_bits 0 t) s _ (λ h. gives_bits w (node BvUrem s t) s p (λ m e model env.
-        urem-none (B m e s) (B m e t) (bits_value w t q m e model env 0 h)))
+      urem-none (B m e s) (B m e t) (bits_value w t q m e model env 0 h)))
       (by_if (λ r. Gives (bit_vector w) (node BvUrem s t) r) (is_bits 1 t) (vectors.zero_like t) _ (λ h. gives_bits w (node BvUrem s t) (vectors.zero_like t) (zero_operand w t q) (λ m e model env.
-        urem-one (B m e s) (B m e t) (bits_value w t q m e model env 1 h) ∙ ap zeros (width_value w s p m e model env) ∙ sym (zero_like-value w t q m e)))
+      urem-one (B m e s) (B m e t) (bits_value w t q m e model env 1 h) ∙ ap zeros (width_value w s p m e model env) ∙ sym (zero_like-value w t q m e)))
       tt)
 
   pub shift_left_gives : IfSome (vectors.shift s t) (λ r. Gives (bit_vector w) (node BvShl s t) r)
