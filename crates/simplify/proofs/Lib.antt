@@ -1,3 +1,4 @@
+pub mod ArraysGive
 pub mod Gives
 pub mod JunctionGives
 pub mod Lists

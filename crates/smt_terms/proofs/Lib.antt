@@ -28,6 +28,7 @@ pub mod SameOperands
 pub mod SameStores
 pub mod Sorted
 pub mod SortsOfTerms
+pub mod StoredTerms
 pub mod Substitution
 pub mod Tests
 pub mod Valid
