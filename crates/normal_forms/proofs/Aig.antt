@@ -11,43 +11,15 @@ use Rattle.smt_terms.specs.Val.{Env, runs, val, vals}
 use Rattle.smt_terms.specs.Connectives.{Kind, truth_value, negation, conjunction, disjunction, exclusive, implication, equivalence, difference, conditional, atom, kind_of, truth_term, all_of, both, opposite}
 use Rattle.smt_terms.proofs.Sorted.{sorted, quantified_sort, sort_of-quantified, length-sorts_of}
 use Rattle.smt_terms.proofs.Connected.{is_logical, Count, Connected, connected, connective-value, kind_value, all_bits, any_bit}
+use Rattle.smt_terms.proofs.BoolOperands.{IfBool, Each, each-bool, operand-number, map-same}
 use Rattle.smt_terms.proofs.Built.{Sense, sense, Means, means-same, means-itself, means-truth, means-both, means-opposite, MeanEach, means-all}
 use Rattle.normal_forms.specs.Aig.{same_sides, aig_distinct, inverted, aig, aig_each}
 
 abbrev Form : Term → Type 0
 Form t = Means (aig t) (sense t)
 
--- of the operands, each where it is Bool
-abbrev Waiting : Terms → Type 0
-Waiting none = ⊤
-Waiting (t ⨾ ts) = (sort_of t ≡ Some bool → Form t) × Waiting ts
-
 abbrev Known : Terms → Type 0
-Known none = ⊤
-Known (t ⨾ ts) = Form t × Known ts
-
-first_of : List Sort → Sort
-first_of [] = bool
-first_of (s ∷ ss) = s
-
-rest_of : List Sort → List Sort
-rest_of [] = []
-rest_of (s ∷ ss) = ss
-
-known : (ts : Terms) (n : ℕ) → sorts_of ts ≡ Some (replicate n bool) → Waiting ts → Known ts
-unfolding first_of rest_of
-known none n has waiting = tt
-known (t ⨾ ts) zero has waiting =
-    let a = sorted t ts [] has in
-    absurd (empty a.sort a.sorts a.all)
-  where
-    empty : (s : Sort) (ss : List Sort) → [] ≡ s ∷ ss → ⊥
-    empty s ss e = absurd cc
-known (t ⨾ ts) (suc n) has waiting =
-    let a = sorted t ts (bool ∷ replicate n bool) has in
-    let first : bool ≡ a.sort = ap first_of a.all in
-    let rest : replicate n bool ≡ a.sorts = ap rest_of a.all in
-    (waiting.0 (a.first ∙ ap Some (sym first)), known ts n (a.others ∙ ap Some (sym rest)) waiting.1)
+Known ts = Each Form ts
 
 each : (ts : Terms) → Known ts → MeanEach (λ b. b) ts (aig_each ts)
 each none known = tt
@@ -58,10 +30,6 @@ opposite-each none known = tt
 opposite-each (t ⨾ ts) known = (means-opposite (aig t) (sense t) known.0, opposite-each ts known.1)
 
 -- ---- laws of truth values
-
-map-same : (bs : List Bool) → map (λ b. b) bs ≡ bs
-map-same [] = refl
-map-same (b ∷ bs) = ap (λ cs. b ∷ cs) (map-same bs)
 
 not-none : (bs : List Bool) → not (all_bits (map not bs)) ≡ any_bit bs
 not-none [] = refl
@@ -176,16 +144,12 @@ line atom h = absurd cc
 
 -- ---- all formulas
 
-length-replicate : (n : ℕ) → length (replicate n bool) ≡ n
-length-replicate zero = refl
-length-replicate (suc n) = ap suc (length-replicate n)
-
-by_kind : (h : Head) (ts : Terms) → sort_of (apply h ts) ≡ Some bool → Waiting ts → (b : Bool) → is_logical (kind_of h ts) ≡ b → Form (apply h ts)
+by_kind : (h : Head) (ts : Terms) → sort_of (apply h ts) ≡ Some bool → IfBool Form ts → (b : Bool) → is_logical (kind_of h ts) ≡ b → Form (apply h ts)
 unfolding Said
 by_kind h ts has waiting true logical =
     let c : Connected h ts bool = connected h ts bool has logical in
-    let len : length (list ts) ≡ c.number = sym (length-sorts_of ts (replicate c.number bool) c.sorts) ∙ length-replicate c.number in
-    line (kind_of h ts) logical (apply h ts) ts c.number len c.count has (λ m e. connective-value h ts bool m e has logical) (known ts c.number c.sorts waiting)
+    let len : length (list ts) ≡ c.number = operand-number h ts bool c in
+    line (kind_of h ts) logical (apply h ts) ts c.number len c.count has (λ m e. connective-value h ts bool m e has logical) (each-bool Form ts c.number c.sorts waiting)
 by_kind h ts has waiting false other = atom_kind (kind_of h ts) other
   where
     atom_kind : (k : Kind) → is_logical k ≡ false → Means (inverted k (apply h ts) (aig_each ts)) (sense (apply h ts))
@@ -203,6 +167,6 @@ mutual
   aig-means (apply h ts) has = by_kind h ts has (waiting ts) (is_logical (kind_of h ts)) refl
   aig-means (quantified q xs body) has = quantified-form q xs body has (aig-means body (quantified_sort q xs body bool has).body)
 
-  waiting : (ts : Terms) → Waiting ts
+  waiting : (ts : Terms) → IfBool Form ts
   waiting none = tt
   waiting (t ⨾ ts) = (aig-means t, waiting ts)

@@ -13,6 +13,7 @@ use Rattle.smt_terms.specs.Connectives.{Kind, truth_value, negation, conjunction
 use Rattle.smt_terms.proofs.Tests.{both_true}
 use Rattle.smt_terms.proofs.Sorted.{sorted, quantified_sort, sort_of-quantified, length-sorts_of}
 use Rattle.smt_terms.proofs.Connected.{is_logical, Count, Connected, connected, connective-value, kind_value, bit, all_bits, any_bit, distinct_bits}
+use Rattle.smt_terms.proofs.BoolOperands.{IfBool, Each, each-bool, operand-number, map-same}
 use Rattle.smt_terms.proofs.Built.{Sense, sense, Means, means-same, means-itself, means-truth, means-negated, means-both, means-either, MeanEach, means-all, means-any}
 use Rattle.normal_forms.specs.Nnf.{differ, agree, positive_distinct, negative_distinct, positive, negative, dual, nnf, nnf_not, nnf_each, nnf_not_each}
 use Rattle.normal_forms.proofs.Duals.{runs-dual}
@@ -22,37 +23,11 @@ record Forms (t p n : Term) : Type 0 where
   yes : Means p (sense t)
   no : Means n (λ m e. not (sense t m e))
 
--- of the operands, each where it is Bool
-abbrev Waiting : Terms → Type 0
-Waiting none = ⊤
-Waiting (t ⨾ ts) = (sort_of t ≡ Some bool → Forms t (nnf t) (nnf_not t)) × Waiting ts
+abbrev FormsOf : Term → Type 0
+FormsOf t = Forms t (nnf t) (nnf_not t)
 
 abbrev Known : Terms → Type 0
-Known none = ⊤
-Known (t ⨾ ts) = Forms t (nnf t) (nnf_not t) × Known ts
-
-first_of : List Sort → Sort
-first_of [] = bool
-first_of (s ∷ ss) = s
-
-rest_of : List Sort → List Sort
-rest_of [] = []
-rest_of (s ∷ ss) = ss
-
-known : (ts : Terms) (n : ℕ) → sorts_of ts ≡ Some (replicate n bool) → Waiting ts → Known ts
-unfolding first_of rest_of
-known none n has waiting = tt
-known (t ⨾ ts) zero has waiting =
-    let a = sorted t ts [] has in
-    absurd (empty a.sort a.sorts a.all)
-  where
-    empty : (s : Sort) (ss : List Sort) → [] ≡ s ∷ ss → ⊥
-    empty s ss e = absurd cc
-known (t ⨾ ts) (suc n) has waiting =
-    let a = sorted t ts (bool ∷ replicate n bool) has in
-    let first : bool ≡ a.sort = ap first_of a.all in
-    let rest : replicate n bool ≡ a.sorts = ap rest_of a.all in
-    (waiting.0 (a.first ∙ ap Some (sym first)), known ts n (a.others ∙ ap Some (sym rest)) waiting.1)
+Known ts = Each FormsOf ts
 
 positive-each : (ts : Terms) → Known ts → MeanEach (λ b. b) ts (nnf_each ts)
 positive-each none known = tt
@@ -63,10 +38,6 @@ negative-each none known = tt
 negative-each (t ⨾ ts) known = (known.0.no, negative-each ts known.1)
 
 -- ---- laws of truth values
-
-map-same : (bs : List Bool) → map (λ b. b) bs ≡ bs
-map-same [] = refl
-map-same (b ∷ bs) = ap (λ cs. b ∷ cs) (map-same bs)
 
 not-all : (bs : List Bool) → any_bit (map not bs) ≡ not (all_bits bs)
 not-all [] = refl
@@ -239,19 +210,15 @@ line atom h = absurd cc
 
 -- ---- all formulas
 
-length-replicate : (n : ℕ) → length (replicate n bool) ≡ n
-length-replicate zero = refl
-length-replicate (suc n) = ap suc (length-replicate n)
-
 atom-lines : (x : Term) (ts : Terms) → sort_of x ≡ Some bool → Lines x atom ts
 atom-lines x ts has = record { yes = means-itself x has; no = means-negated x (sense x) (means-itself x has) }
 
-by_kind : (h : Head) (ts : Terms) → sort_of (apply h ts) ≡ Some bool → Waiting ts → (b : Bool) → is_logical (kind_of h ts) ≡ b → Lines (apply h ts) (kind_of h ts) ts
+by_kind : (h : Head) (ts : Terms) → sort_of (apply h ts) ≡ Some bool → IfBool FormsOf ts → (b : Bool) → is_logical (kind_of h ts) ≡ b → Lines (apply h ts) (kind_of h ts) ts
 unfolding Said
 by_kind h ts has waiting true logical =
     let c : Connected h ts bool = connected h ts bool has logical in
-    let len : length (list ts) ≡ c.number = sym (length-sorts_of ts (replicate c.number bool) c.sorts) ∙ length-replicate c.number in
-    line (kind_of h ts) logical (apply h ts) ts c.number len c.count has (λ m e. connective-value h ts bool m e has logical) (known ts c.number c.sorts waiting)
+    let len : length (list ts) ≡ c.number = operand-number h ts bool c in
+    line (kind_of h ts) logical (apply h ts) ts c.number len c.count has (λ m e. connective-value h ts bool m e has logical) (each-bool FormsOf ts c.number c.sorts waiting)
 by_kind h ts has waiting false other = atom_kind (kind_of h ts) other
   where
     atom_kind : (k : Kind) → is_logical k ≡ false → Lines (apply h ts) k ts
@@ -283,7 +250,7 @@ mutual
       record { yes = lines.yes; no = lines.no }
   forms (quantified q xs body) has = quantified-forms q xs body has (forms body (quantified_sort q xs body bool has).body)
 
-  waiting : (ts : Terms) → Waiting ts
+  waiting : (ts : Terms) → IfBool FormsOf ts
   waiting none = tt
   waiting (t ⨾ ts) = (forms t, waiting ts)
 

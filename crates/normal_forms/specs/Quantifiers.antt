@@ -2,10 +2,11 @@
 -- of a quantifier are taken from the last to the first, whether they occur or not; bit-vector variables stay.
 -- Shannon's expansion makes of `exists x` `(or b[true] b[false])` and of `forall x` `(and b[true] b[false])`.
 -- Self-substitution makes of `exists x` b with b[true] for x, and of `forall x` b with b[false] for x.
-use Rattle.std.specs.Prelude.{Bool, true, false, not, List, [], ◌∷◌, filter, Option, Some, None}
-use Rattle.smt_terms.specs.Sorts.{Sort, bool, Variable}
-use Rattle.smt_terms.specs.Term.{Quantifier, universal, existential, Term, apply, quantified, Terms, none, ◌⨾◌, constant_of}
-use Rattle.smt_terms.specs.Equal.{term_eq}
+use Rattle.std.specs.Prelude.{Bool, true, false, not, cond, List, [], ◌∷◌, map, filter, Option, Some, None}
+use Rattle.smt_terms.specs.Sorts.{Sort, bool, Symbol, Variable}
+use Rattle.smt_terms.specs.Term.{Quantifier, universal, existential, Head, op, symbol, const_array, Term, apply, quantified, Terms, none, ◌⨾◌, constant_of, constant}
+use Rattle.smt_terms.specs.Equal.{symbol_eq, term_eq}
+use Rattle.smt_terms.specs.Free.{is_among}
 use Rattle.smt_terms.specs.Fresh.{Supply}
 use Rattle.smt_terms.specs.Subst.{subst}
 use Rattle.smt_terms.specs.Connectives.{truth_term, both, either}
@@ -19,11 +20,29 @@ over_left q (x ∷ xs) b = quantified q (x ∷ xs) b
 abbrev pub not_bool : List Variable → List Variable
 not_bool xs = filter (λ x. not (is_bool x.sort)) xs
 
--- ---- Shannon's expansion
+-- ---- a truth value for a variable, wherever it is free; it has no free symbols, so that nothing is captured
 
--- `true` and `false` have no free symbols, so that no bound name is ever renamed and no name is drawn
-abbrev pub at_truth : Bool → Variable → Term → Term
-at_truth v x b = (subst ((constant_of x, truth_term v) ∷ []) b (record { taken = []; number = 0 })).0
+abbrev pub truth_at : Bool → Variable → Symbol → Term
+truth_at v x f = cond (symbol_eq (constant_of x) f) (truth_term v) (constant f)
+
+abbrev pub at_head : Bool → Variable → Head → Terms → Term
+at_head v x (symbol f) none = truth_at v x f
+at_head v x h ts = apply h ts
+
+abbrev pub unless_bound : Bool → Term → Term → Term
+unless_bound true t u = t
+unless_bound false t u = u
+
+abbrev mutual
+  pub at_truth : Bool → Variable → Term → Term
+  at_truth v x (apply h ts) = at_head v x h (at_truth_each v x ts)
+  at_truth v x (quantified q xs body) = unless_bound (is_among (map constant_of xs) (constant_of x)) (quantified q xs body) (quantified q xs (at_truth v x body))
+
+  pub at_truth_each : Bool → Variable → Terms → Terms
+  at_truth_each v x none = none
+  at_truth_each v x (t ⨾ ts) = at_truth v x t ⨾ at_truth_each v x ts
+
+-- ---- Shannon's expansion
 
 abbrev pub expanded : Quantifier → Variable → Term → Term
 expanded existential x b = either (at_truth true x b) (at_truth false x b)

@@ -10,16 +10,7 @@ use Rattle.smt_terms.specs.declared.op.Op.TheVariants.{Truth, Whole, Bits, Sym, 
 use Rattle.smt_terms.specs.Sorts.{Name, Sort, bool, int, bit_vector, array, free_sort, Symbol, Variable}
 use Rattle.smt_terms.specs.Term.{Quantifier, universal, existential, Head, op, symbol, const_array, Term, apply, quantified, Terms, none, ◌⨾◌}
 use Rattle.smt_terms.specs.Equal.{name_eq, sort_eq, symbol_eq, variable_eq, place, parameters, op_eq, head_eq, quantifier_eq, term_eq, terms_eq}
-
--- ---- a conjunction of tests
-
-both_true : (a b : Bool) → (a && b) ≡ true → (a ≡ true) × (b ≡ true)
-both_true true true h = (refl, refl)
-both_true true false h = absurd cc
-both_true false b h = absurd cc
-
-and_true : (a b : Bool) → a ≡ true → b ≡ true → (a && b) ≡ true
-and_true a b h k = cc
+use Rattle.smt_terms.proofs.Tests.{both_true, and_true}
 
 -- ---- names and sorts
 

@@ -3,6 +3,7 @@ pub mod Among
 pub mod Binders
 pub mod BitLaws
 pub mod BitLengths
+pub mod BoolOperands
 pub mod Built
 pub mod Connected
 pub mod ConstantTerms
@@ -14,6 +15,7 @@ pub mod FromBelow
 pub mod Keeping
 mod Lookups
 pub mod Made
+pub mod Nodes
 pub mod Numeral
 pub mod Operands
 mod Operators

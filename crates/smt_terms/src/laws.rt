@@ -4,6 +4,7 @@ ghost use Rattle.smt_terms.specs.Equal.{name_eq, sort_eq, symbol_eq, variable_eq
 ghost use Rattle.smt_terms.specs.Laws.{TellsEqual, RankIsRelation, SameIsReflexive, SameIsSymmetric, SameIsTransitive, SameAtEveryKey, BindersHaveRank, SortsAreWellFormed, ValueHasSort, FreeSymbolsDecide};
 ghost use Rattle.smt_terms.specs.FreshLaws.{NumbersNameApart, NextIsFree, NextIsLeast, NextIsLater, DrawnIsGone, GoneStaysGone};
 ghost use Rattle.smt_terms.specs.KeepsLaws.{HeadsKeep, QuantifiersKeep};
+ghost use Rattle.smt_terms.specs.NodeLaws.{HeadsHaveSorts, BindersHaveSorts};
 ghost use Rattle.smt_terms.specs.SubstLaws.{SubstKeepsMeaning, SubstGivesLater};
 
 /// Each test of equality says yes exactly at equal arguments.
@@ -25,6 +26,12 @@ pub fn rank_is_a_relation()
 /// A quantifier's node has a rank exactly where its operands are constants that it may bind and a truth value.
 pub fn binders_have_a_rank()
     ensures { BindersHaveRank }
+{}
+
+/// A term that is made of well-sorted operands which its head takes, or its quantifier may bind, is well sorted.
+pub fn made_terms_are_well_sorted()
+    ensures heads { HeadsHaveSorts }
+    ensures quantifiers { BindersHaveSorts }
 {}
 
 /// The sort of a well-sorted term is a sort of this profile: widths from 1 to 128, and no array sort as an index sort.

@@ -90,3 +90,8 @@ shannon_inside = refl
 selfsub_renamed : selfsub (there_is (x ∷ []) (both (equal (constant v) (constant w)) (for_all (v ∷ []) (either (constant x) (equal (constant v) (constant w)))))) (names 0) ≡ (both (equal (constant v) (constant w)) (for_all (fv0 ∷ []) (either (both (equal (constant v) (constant w)) (for_all (v ∷ []) (either (truth_term true) (equal (constant v) (constant w))))) (equal (constant fv0) (constant w)))), names 1)
 unfolding op_eq
 selfsub_renamed = refl
+
+-- where an inner quantifier binds the variable again, it stays
+shannon_shadowed : shannon (there_is (v ∷ []) (there_is (x ∷ []) (both (constant x) (for_all (v ∷ []) (constant x))))) ≡ there_is (v ∷ []) (either (both (truth_term true) (for_all (v ∷ []) (truth_term true))) (both (truth_term false) (for_all (v ∷ []) (truth_term false))))
+unfolding op_eq
+shannon_shadowed = refl
