@@ -5,6 +5,7 @@ pub mod Lists
 pub mod LogicGives
 pub mod NumbersGive
 mod Rows
+pub mod StoresGive
 pub mod SumsGive
 pub mod UnaryGive
 pub mod VectorsGive
