@@ -1,4 +1,5 @@
 pub mod ArraysGive
+pub mod FoldGives
 pub mod Gives
 pub mod JunctionGives
 pub mod Lists

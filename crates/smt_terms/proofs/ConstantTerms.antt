@@ -65,7 +65,7 @@ truth_sort b r has =
     let parts = applied (op (Truth b)) none r has in
     (rank-takes (op (Truth b)) parts.sorts r parts.rank).1
 
-whole_sort : (n : ℤ) (r : Sort) → sort_of (whole_term n) ≡ Some r → r ≡ int
+pub whole_sort : (n : ℤ) (r : Sort) → sort_of (whole_term n) ≡ Some r → r ≡ int
 unfolding shape
 whole_sort n r has =
     let parts = applied (op (Whole n)) none r has in
