@@ -2,3 +2,5 @@
 //! value.
 
 #![tactic(auto)]
+
+pub mod laws;

@@ -59,19 +59,19 @@ constants (apply (op o) none) h = absurd cc
 
 -- ---- their sorts
 
-truth_sort : (b : Bool) (r : Sort) → sort_of (truth_term b) ≡ Some r → r ≡ bool
+pub truth_sort : (b : Bool) (r : Sort) → sort_of (truth_term b) ≡ Some r → r ≡ bool
 unfolding shape
 truth_sort b r has =
     let parts = applied (op (Truth b)) none r has in
     (rank-takes (op (Truth b)) parts.sorts r parts.rank).1
 
-whole_sort : (n : ℤ) (r : Sort) → sort_of (whole_term n) ≡ Some r → r ≡ int
+pub whole_sort : (n : ℤ) (r : Sort) → sort_of (whole_term n) ≡ Some r → r ≡ int
 unfolding shape
 whole_sort n r has =
     let parts = applied (op (Whole n)) none r has in
     (rank-takes (op (Whole n)) parts.sorts r parts.rank).2
 
-vector_sort : (w n : ℕ) (r : Sort) → sort_of (bits_term w n) ≡ Some r → (n < 2 ^ w) × (r ≡ bit_vector w)
+pub vector_sort : (w n : ℕ) (r : Sort) → sort_of (bits_term w n) ≡ Some r → (n < 2 ^ w) × (r ≡ bit_vector w)
 unfolding shape
 vector_sort w n r has =
     let parts = applied (op (Bits w n)) none r has in

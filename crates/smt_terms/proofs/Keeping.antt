@@ -168,7 +168,7 @@ two_or_more p (apply (const_array s) ts) u us = refl
 two_or_more p (apply (op c) none) u us = refl
 two_or_more p (apply (op c) (t ⨾ ts)) u us = refl
 
-not_minus : (p : Op) (us : Terms) → is_minus p ≡ false → is_minus_of (op p) us ≡ false
+pub not_minus : (p : Op) (us : Terms) → is_minus p ≡ false → is_minus_of (op p) us ≡ false
 unfolding is_minus_of
 not_minus p none e = refl
 not_minus p (t ⨾ (u ⨾ us)) e = two_or_more p t u us

@@ -1,6 +1,7 @@
 pub mod Agree
 pub mod Among
 pub mod Binders
+pub mod BitLaws
 pub mod BitLengths
 pub mod BoolOperands
 pub mod Built
@@ -31,6 +32,7 @@ pub mod Sorted
 pub mod SortsOfTerms
 pub mod SubstFree
 pub mod SubstNames
+pub mod StoredTerms
 pub mod Substitution
 pub mod Tests
 pub mod Valid

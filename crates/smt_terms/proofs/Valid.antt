@@ -48,7 +48,7 @@ pub third_valid : (q r s : Sort) (ss : List Sort) (sizes : Sizes) (vs : List Val
 third_valid q r s ss sizes [] h = absurd cc
 third_valid q r s ss sizes (v ∷ vs) h = second_valid r s ss sizes vs (later_valid q (r ∷ s ∷ ss) sizes v vs h)
 
-length-bits_of : (w : ℕ) (sizes : Sizes) (v : Value) → is_value (bit_vector w) sizes v ≡ true → length (bits_of v) ≡ w
+pub length-bits_of : (w : ℕ) (sizes : Sizes) (v : Value) → is_value (bit_vector w) sizes v ≡ true → length (bits_of v) ≡ w
 length-bits_of w sizes (bits bs) h = (Decides-eqb (length bs) w).0 h
 length-bits_of w sizes _ h = absurd cc
 
