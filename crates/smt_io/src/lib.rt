@@ -4,13 +4,13 @@
 
 mod calls;
 mod fault_counts;
-pub mod host;
-pub mod inputs;
-pub mod mem_inputs;
-pub mod mem_sink;
-pub mod pieces;
-pub mod sink;
-pub mod transfer;
+mod host;
+mod inputs;
+mod mem_inputs;
+mod mem_sink;
+mod pieces;
+mod sink;
+mod transfer;
 
 pub use host::{HostInputs, HostSink};
 pub use inputs::{Inputs, ReadFault, StartFault};
