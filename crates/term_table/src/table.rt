@@ -94,12 +94,7 @@ impl Table {
     }
 
     /// The number of the symbol of this name and rank, which is made last where the table hasn't got it.
-    pub fn symbol(
-        &mut self,
-        name: &[u8],
-        args: &[SortId],
-        to: SortId,
-    ) -> Result<SymId, AllocError>
+    pub fn symbol(&mut self, name: &[u8], args: &[SortId], to: SortId) -> Result<SymId, AllocError>
         ensures within { IfOk result (λ s. s.0 < length self.new.symbols) }
         ensures nodes { self.new.nodes ≡ self.old.nodes }
         ensures grows { Adds self.old.symbols self.new.symbols (record { name = name.now; args = args.now; to = to }) }
