@@ -6,6 +6,7 @@ use crate::run::run;
 use crate::status::{Refusal, Status, Usage, Why};
 use smt_io::{MemInputs, MemSink};
 use std::alloc::{AllocError, Global};
+use std::fmt::Write;
 use std::process::Abort;
 use std::test::Fail;
 
@@ -204,4 +205,50 @@ fn other_words_are_refused(rt: HostRuntime) -> Result<(), Fail> {
         )?;
     }
     Ok(())
+}
+
+/// An assertion of so many nested lets, each over the one before twice, up to its last parenthesis.
+fn nested_lets(alloc: Global, lets: u32) -> Result<String, AllocError> {
+    let mut text = String::from_str(
+        alloc,
+        "(declare-fun p () Bool)\n(declare-fun a () Bool)\n(declare-fun b () Bool)\n(assert (let ((x1 (and (or p a) (or p b)))) ",
+    )?;
+    let mut last = 1;
+    for next in 2..=lets {
+        write!(
+            text,
+            "(let ((x{next} (and (or x{last} a) (or x{last} b)))) "
+        )?;
+        last = next;
+    }
+    write!(text, "x{last}")?;
+    for _ in 0..lets {
+        text.push(')')?;
+    }
+    Ok(text)
+}
+
+#[test]
+fn a_hundred_lets_want_their_last_parenthesis(rt: HostRuntime) -> Result<(), Fail> {
+    let text = nested_lets(rt.alloc(), 100)?;
+    let status = Status::Refused(Refusal {
+        code: 13,
+        command: 0,
+        line: 4,
+        byte: 4254,
+    });
+    let said = b"smtrw: script refused: 13 Unbalanced at command 0, line 4, byte 4254\n";
+    gives(&rt, rt.alloc(), &WORDS, text.as_bytes(), status, b"", said)?;
+    let mut whole = nested_lets(rt.alloc(), 100)?;
+    whole.push(')')?;
+    let said = b"smtrw: script refused: 43 NotYet at command 0, line 0, byte 0\n";
+    gives(
+        &rt,
+        rt.alloc(),
+        &WORDS,
+        whole.as_bytes(),
+        not_yet(),
+        b"",
+        said,
+    )
 }
