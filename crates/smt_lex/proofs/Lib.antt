@@ -1,0 +1,6 @@
+mod Beginnings
+mod Literals
+mod Nesting
+mod Outcomes
+mod Putting
+mod Rows
