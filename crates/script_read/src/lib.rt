@@ -1,0 +1,3 @@
+//! Reads scripts.
+
+#![tactic(auto)]
