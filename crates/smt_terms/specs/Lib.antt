@@ -19,3 +19,4 @@ pub mod Takes
 pub mod Term
 pub mod Val
 pub mod Values
+pub mod Written
