@@ -6,3 +6,6 @@ pub mod Variables
 pub mod Reading
 pub mod Heads
 pub mod Read
+pub mod Commands
+pub mod Outlines
+pub mod Script
