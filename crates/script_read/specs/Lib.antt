@@ -9,3 +9,6 @@ pub mod Read
 pub mod Commands
 pub mod Outlines
 pub mod Script
+pub mod Mean
+pub mod Scenes
+pub mod Satisfied

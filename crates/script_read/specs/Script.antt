@@ -170,10 +170,13 @@ abbrev pub place_or : Option (At ℕ) → ℕ → ℕ
 place_or None place = place
 place_or (Some n) place = n.place
 
+-- n levels are opened, unless they are too many
+abbrev pub pushed_unless : Bool → ℕ → ℕ → Standing → Step
+pushed_unless true place n s = at NumberLimit place
+pushed_unless false place n s = Ok (push n ∷ [], begun_with s (opened level_known n (live_of s)))
+
 abbrev pub pushes : ℕ → ℕ → Standing → Step
-pushes place n s =
-    unless (nat_lt most_levels n || nat_lt most_levels (open_levels s + n)) NumberLimit place
-      (Ok (push n ∷ [], begun_with s (opened level_known n (live_of s))))
+pushes place n s = pushed_unless (nat_lt most_levels n || nat_lt most_levels (open_levels s + n)) place n s
 
 abbrev pub pops : ℕ → ℕ → ℕ → Standing → Step
 pops command place n s =

@@ -1,0 +1,2 @@
+-- Worked rows, by topics.
+mod Try
