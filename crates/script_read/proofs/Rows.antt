@@ -1,2 +1,5 @@
 -- Worked rows, by topics.
-mod Try
+mod Cases
+mod CommandsRefused
+mod SortsRefused
+mod TermsRefused

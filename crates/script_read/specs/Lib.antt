@@ -12,3 +12,4 @@ pub mod Script
 pub mod Mean
 pub mod Scenes
 pub mod Satisfied
+pub mod Printable

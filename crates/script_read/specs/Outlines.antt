@@ -1,7 +1,8 @@
 -- The outer shapes of commands: SMT-LIB 2.6, section 3.9. Which parts a command has is settled here, and not what they mean.
 use Rattle.std.specs.Prelude.{ℕ, Bool, true, false, cond, if◌then◌else◌, List, [], ◌∷◌, codes, bytes_eq, Result, Ok, Err, Option, Some, None, option_map}
 use Rattle.smt_lex.specs.Names.{Name, is_command_word}
-use Rattle.smt_lex.specs.Forms.{Form, atom, node, Forms, none, ◌⨾◌}
+use Rattle.smt_lex.specs.Lex.{Fault}
+use Rattle.smt_lex.specs.Forms.{Form, atom, node, Forms, none, ◌⨾◌, forms}
 use Rattle.script_read.specs.declared.causes.Cause.TheVariants.{UnknownCommand, UnsupportedCommand, BadForm}
 use Rattle.script_read.specs.Refusals.{Refused, at, given}
 use Rattle.script_read.specs.Parts.{place_of, symbol_in, is_symbol, word_in, numeral_in, keyword_in, is_keyword, is_text}
@@ -146,3 +147,17 @@ abbrev pub outline : Form → Result Outline Refused
 outline (atom t) = at BadForm t.start
 outline (node place none) = at BadForm place
 outline (node place (f ⨾ fs)) = outline_by place (word_in f) fs
+
+-- ---- texts of commands that are passed on
+
+abbrev pub is_passing : Result Outline Refused → Bool
+is_passing (Ok passing) = true
+is_passing _ = false
+
+abbrev pub is_passing_alone : Result Forms Fault → Bool
+is_passing_alone (Ok (f ⨾ none)) = is_passing (outline f)
+is_passing_alone _ = false
+
+-- one command of those that are passed on
+abbrev pub is_passed_text : List ℕ → Bool
+is_passed_text text = is_passing_alone (forms text)
