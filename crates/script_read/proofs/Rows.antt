@@ -3,7 +3,9 @@ mod Cases
 mod CommandsRefused
 mod Given
 mod Meanings
+mod Printing
 mod Scripts
 mod SortsRefused
 mod States
 mod TermsRefused
+mod WrittenTerms
