@@ -1,3 +1,4 @@
 mod Bindings
 mod Outcomes
 mod Rows
+mod Shown

@@ -75,6 +75,11 @@ pub data Outline : Type 0 where
   resetting_assertions : Outline
   ending : Outline
 
+-- how many levels: one, where no number is written
+abbrev pub levels_written : Option (At ℕ) → ℕ
+levels_written None = 1
+levels_written (Some n) = n.it
+
 abbrev pub where_so : Bool → Outline → Option Outline
 where_so true o = Some o
 where_so false o = None

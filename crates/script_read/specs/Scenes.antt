@@ -13,7 +13,7 @@ use Rattle.script_read.specs.Scope.{Local, lets, quantified, parameter, Binding,
 use Rattle.script_read.specs.SortForms.{Sorts, sort_in, sorts_in}
 use Rattle.script_read.specs.Variables.{definition, variables_in}
 use Rattle.script_read.specs.Commands.{Command, passed, declare_sort, declare, assert, check, check_assuming, push, pop, reset, reset_assertions, globals, exit, live, literals}
-use Rattle.script_read.specs.Outlines.{At, Outline, passing, sort_declaration, sort_definition, declaration, assertion, assuming, pushing, popping, resetting, resetting_assertions, ending, outline, globals as globals_option, definition as definition_outline, check as checking}
+use Rattle.script_read.specs.Outlines.{At, Outline, passing, sort_declaration, sort_definition, declaration, assertion, assuming, pushing, popping, resetting, resetting_assertions, ending, outline, levels_written, globals as globals_option, definition as definition_outline, check as checking}
 use Rattle.script_read.specs.Mean.{accepted_or, quantified_variables, is_true_of, mean, meaning}
 
 -- ---- names of terms: each keeps what is bound locally where the annotation ends
@@ -103,10 +103,6 @@ declares s f = (declare f ∷ [], with_bindings s (function f ∷ s.bindings))
 abbrev pub asserts : Scene → Form → List Binding → List (Command Asserted) × Scene
 asserts s f bs = (assert (suc s.asserted) (record { form = f; bindings = bs }) ∷ [], record { bindings = bs; global = s.global; asserted = suc s.asserted })
 
-abbrev pub levels_meant : Option (At ℕ) → ℕ
-levels_meant None = 1
-levels_meant (Some n) = n.it
-
 abbrev pub is_true_symbol : Option Form → Bool
 is_true_symbol None = false
 is_true_symbol (Some f) = is_name (codes "true") (symbol_in f)
@@ -123,8 +119,8 @@ seen text s (definition_outline n parameters f body) =
 seen text s (assertion f) = asserts s f (naming f [] s.bindings)
 seen text s checking = (check ∷ [], s)
 seen text s (assuming fs) = (check_assuming (literals_meant s.bindings fs) ∷ [], s)
-seen text s (pushing n) = (push (levels_meant n) ∷ [], with_bindings s (opened level (levels_meant n) s.bindings))
-seen text s (popping n) = (pop (levels_meant n) ∷ [], with_bindings s (popped is_level s.global (levels_meant n) s.bindings))
+seen text s (pushing n) = (push (levels_written n) ∷ [], with_bindings s (opened level (levels_written n) s.bindings))
+seen text s (popping n) = (pop (levels_written n) ∷ [], with_bindings s (popped is_level s.global (levels_written n) s.bindings))
 seen text s resetting = (reset ∷ [], record { bindings = []; global = false; asserted = s.asserted })
 seen text s resetting_assertions = (reset_assertions ∷ [], with_bindings s (emptied is_level s.global s.bindings))
 seen text s ending = (exit ∷ [], s)

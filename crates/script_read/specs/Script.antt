@@ -21,7 +21,7 @@ use Rattle.script_read.specs.Reading.{ReadLocal, parameter_as, ReadBinding, sort
 use Rattle.script_read.specs.Heads.{parameters_from}
 use Rattle.script_read.specs.Read.{Context, has_sort, read}
 use Rattle.script_read.specs.Commands.{Command, passed, declare_sort, declare, assert, check, check_assuming, push, pop, reset, reset_assertions, globals, exit}
-use Rattle.script_read.specs.Outlines.{At, Outline, passing, sort_declaration, sort_definition, declaration, assertion, assuming, pushing, popping, resetting, resetting_assertions, ending, outline, globals as globals_option, definition as definition_outline, check as checking}
+use Rattle.script_read.specs.Outlines.{At, Outline, passing, sort_declaration, sort_definition, declaration, assertion, assuming, pushing, popping, resetting, resetting_assertions, ending, outline, levels_written, globals as globals_option, definition as definition_outline, check as checking}
 
 -- ---- what is known between two commands
 
@@ -161,11 +161,7 @@ most_levels = 1000000
 abbrev pub open_levels : Standing → ℕ
 open_levels s = count_by is_level_known (live_of s)
 
--- how many levels, and where that is written: one, where it isn't
-abbrev pub levels_of : Option (At ℕ) → ℕ
-levels_of None = 1
-levels_of (Some n) = n.it
-
+-- where the number of levels is written: at the command, where it isn't
 abbrev pub place_or : Option (At ℕ) → ℕ → ℕ
 place_or None place = place
 place_or (Some n) place = n.place
@@ -221,8 +217,8 @@ step place text s (definition_outline n parameters f body) = defines_symbol n pa
 step place text s (assertion f) = asserts f s
 step place text s checking = Ok (check ∷ [], begun_with s (live_of s))
 step place text s (assuming fs) = assumes fs s
-step place text s (pushing n) = pushes (place_or n place) (levels_of n) s
-step place text s (popping n) = pops place (place_or n place) (levels_of n) s
+step place text s (pushing n) = pushes (place_or n place) (levels_written n) s
+step place text s (popping n) = pops place (place_or n place) (levels_written n) s
 step place text s resetting = Ok (reset ∷ [], after_reset s)
 step place text s resetting_assertions = Ok (reset_assertions ∷ [], after_emptying s)
 step place text s ending = Ok (exit ∷ [], s)
