@@ -15,7 +15,7 @@ use Rattle.script_read.specs.Heads.{Callee, written, filling, declared, defined,
 use Rattle.script_read.specs.Laws.{LeadsTo}
 use Rattle.script_read.specs.Mean.{accepted_or, quantified_variables}
 use Rattle.script_read.specs.Read.{Context, with_local, is_empty, let_name, below_quantifier, renamed, draws_names, has_sort, quantified_over, read, read_list, read_bindings, read_all, is_given, term_name, term_names, term_name_in, mentions_local, annotated, with_quantified, constant_names, name_drawn_if, is_taken}
-use Rattle.script_read.specs.Reading.{ReadLocal, lets_as, as_local, ReadBinding, named_as, as_bindings, Sofar, Reading, continued, ◌>>=◌, gives, refused_if, beside, by_live, by_rule, binds, live_sorts}
+use Rattle.script_read.specs.Reading.{ReadLocal, lets_as, as_local, ReadBinding, named_as, as_bindings, Sofar, Reading, continued, ◌>>=◌, gives, refused_if, beside, by_live, binds, live_sorts}
 use Rattle.script_read.specs.Scenes.{names_among, with_names, quantified_locals, naming, naming_list, naming_parts, naming_all}
 use Rattle.script_read.specs.Scope.{lets, Binding, live_sort}
 use Rattle.script_read.specs.Variables.{quantifier, variables_in}
@@ -94,7 +94,7 @@ pub annotated_leads : (place : ℕ) (c : Context) (f : Form) (t : Term) (ns : Li
 annotated_leads place c f t [] s = refl
 annotated_leads place c f t (n ∷ ns) s =
     unless_refused (mentions_local c.locals t) BadForm place (binds (named_as (n ∷ ns) f t c.locals) t) s
-      (with_names (n ∷ ns) f (map as_local c.locals) (as_bindings s.live)) refl
+    (with_names (n ∷ ns) f (map as_local c.locals) (as_bindings s.live)) refl
 
 -- ---- what a form leads to, of bindings that are the same
 
@@ -107,7 +107,7 @@ at_last r s mid e = subst (λ bs. LeadsTo (beside s r) bs) e (decided_last r s)
 annotated_behind : (place : ℕ) (c : Context) (f : Form) (t : Term) (ns qs : List Name) (s : Sofar) (mid : List Binding) → ns ≡ qs → as_bindings s.live ≡ mid → LeadsTo (annotated place c f t ns s) (with_names qs f (map as_local c.locals) mid)
 annotated_behind place c f t ns qs s mid same e =
     subst (λ bs. LeadsTo (annotated place c f t ns s) (with_names qs f (map as_local c.locals) bs)) e
-      (subst (λ ms. LeadsTo (annotated place c f t ns s) (with_names ms f (map as_local c.locals) (as_bindings s.live))) same (annotated_leads place c f t ns s))
+    (subst (λ ms. LeadsTo (annotated place c f t ns s) (with_names ms f (map as_local c.locals) (as_bindings s.live))) same (annotated_leads place c f t ns s))
 
 applied_behind : (callee : Callee) (place : ℕ) (ts : List Term) (s : Sofar) (mid : List Binding) → as_bindings s.live ≡ mid → LeadsTo (applied callee place ts s) mid
 applied_behind callee place ts s mid e = subst (λ bs. LeadsTo (applied callee place ts s) bs) e (applied_leads callee place ts s)
@@ -135,42 +135,42 @@ mutual
   list_leads : (o : Opening) (fs : Forms) (place : ℕ) (c : Context) (s : Sofar) → LeadsTo (read_list o fs place c s) (naming_list o fs (map as_local c.locals) (as_bindings s.live))
   list_leads let_word (node part bs ⨾ body ⨾ none) place c s =
       unless_refused (is_empty bs) BadForm place (read_bindings bs [] c >>= (λ ts. read body (with_local (lets_as bs ts) c))) s
-        (naming body (lets bs ∷ map as_local c.locals) (naming_parts bs (map as_local c.locals) (as_bindings s.live)))
-        (then_leads (read_bindings bs [] c s) (λ ts. read body (with_local (lets_as bs ts) c))
-          (naming_parts bs (map as_local c.locals) (as_bindings s.live))
-          (naming body (lets bs ∷ map as_local c.locals) (naming_parts bs (map as_local c.locals) (as_bindings s.live)))
-          (bindings_lead bs [] c s)
-          (λ ts s' e. moved (read body (with_local (lets_as bs ts) c) s') (naming body (lets bs ∷ map as_local c.locals)) (as_bindings s'.live)
-            (naming_parts bs (map as_local c.locals) (as_bindings s.live)) e (read_leads body (with_local (lets_as bs ts) c) s')))
+      (naming body (lets bs ∷ map as_local c.locals) (naming_parts bs (map as_local c.locals) (as_bindings s.live)))
+      (then_leads (read_bindings bs [] c s) (λ ts. read body (with_local (lets_as bs ts) c))
+      (naming_parts bs (map as_local c.locals) (as_bindings s.live))
+      (naming body (lets bs ∷ map as_local c.locals) (naming_parts bs (map as_local c.locals) (as_bindings s.live)))
+      (bindings_lead bs [] c s)
+      (λ ts s' e. moved (read body (with_local (lets_as bs ts) c) s') (naming body (lets bs ∷ map as_local c.locals)) (as_bindings s'.live)
+      (naming_parts bs (map as_local c.locals) (as_bindings s.live)) e (read_leads body (with_local (lets_as bs ts) c) s')))
   list_leads let_word _ place c s = tt
   list_leads (quantifier_word q) (node part bs ⨾ body ⨾ none) place c s =
       let final : List Binding = naming body (quantified_locals (quantified_variables (live_sort (as_bindings s.live)) bs) (map as_local c.locals)) (as_bindings s.live) in
       let sorted : List Variable → Reading Term = λ xs. draws_names c xs >>= (λ ns. read body (below_quantifier xs ns c) >>= (λ t. quantified_over place q (renamed xs ns) t)) in
       unless_refused (is_empty bs) BadForm place (by_live (λ live. variables_in quantifier (live_sorts live) [] bs) >>= sorted) s final
-        (decided (variables_in quantifier (live_sorts s.live) [] bs) sorted s final (λ xs h.
-          then_leads (read body (below_quantifier xs (names_for c xs s).0 c) (behind_names c xs s)) (λ t. quantified_over place q (renamed xs (names_for c xs s).0) t) final final
-            (subst (λ ks. LeadsTo (read body (below_quantifier xs (names_for c xs s).0 c) (behind_names c xs s)) (naming body ks (as_bindings s.live))) (below c s bs xs h)
-              (read_leads body (below_quantifier xs (names_for c xs s).0 c) (behind_names c xs s)))
-            (λ t s' e. at_last (unless (not (has_sort bool t)) WrongSort place (Ok (quantified q (renamed xs (names_for c xs s).0) t))) s' final e)))
+      (decided (variables_in quantifier (live_sorts s.live) [] bs) sorted s final (λ xs h.
+      then_leads (read body (below_quantifier xs (names_for c xs s).0 c) (behind_names c xs s)) (λ t. quantified_over place q (renamed xs (names_for c xs s).0) t) final final
+      (subst (λ ks. LeadsTo (read body (below_quantifier xs (names_for c xs s).0 c) (behind_names c xs s)) (naming body ks (as_bindings s.live))) (below c s bs xs h)
+      (read_leads body (below_quantifier xs (names_for c xs s).0 c) (behind_names c xs s)))
+      (λ t s' e. at_last (unless (not (has_sort bool t)) WrongSort place (Ok (quantified q (renamed xs (names_for c xs s).0) t))) s' final e)))
   list_leads (quantifier_word q) _ place c s = tt
   list_leads annotation_word (f ⨾ attributes) place c s =
       let final : List Binding = with_names (names_among (named_parts attributes)) f (map as_local c.locals) (naming f (map as_local c.locals) (as_bindings s.live)) in
       let named : Term → Reading Term = λ t. by_live (term_names c.defines place [] (named_parts attributes)) >>= (λ ns. annotated place c f t ns) in
       unless_refused (not (are_attributes attributes)) BadForm place (read f c >>= named) s final
-        (then_leads (read f c s) named (naming f (map as_local c.locals) (as_bindings s.live)) final (read_leads f c s) (λ t s' e.
-          decided (term_names c.defines place [] (named_parts attributes) s'.live) (λ ns. annotated place c f t ns) s' final (λ ns h.
-            annotated_behind place c f t ns (names_among (named_parts attributes)) s' (naming f (map as_local c.locals) (as_bindings s.live))
-              (term_names_ok c.defines place [] (named_parts attributes) s'.live ns h) e)))
+      (then_leads (read f c s) named (naming f (map as_local c.locals) (as_bindings s.live)) final (read_leads f c s) (λ t s' e.
+      decided (term_names c.defines place [] (named_parts attributes) s'.live) (λ ns. annotated place c f t ns) s' final (λ ns h.
+      annotated_behind place c f t ns (names_among (named_parts attributes)) s' (naming f (map as_local c.locals) (as_bindings s.live))
+      (term_names_ok c.defines place [] (named_parts attributes) s'.live ns h) e)))
   list_leads annotation_word none place c s = tt
   list_leads index_word fs place c s = decided_last (vector_constant place fs) s
   list_leads (head f) (g ⨾ gs) place c s =
       let mid : List Binding = naming g (map as_local c.locals) (as_bindings s.live) in
       let final : List Binding = naming_all gs (map as_local c.locals) mid in
       decided (callee_of c.locals f s.live) (λ callee. read g c >>= (λ t. read_all gs c >>= (λ ts. applied callee place (t ∷ ts)))) s final (λ callee _.
-        then_leads (read g c s) (λ t. read_all gs c >>= (λ ts. applied callee place (t ∷ ts))) mid final (read_leads g c s) (λ t s' e.
-          then_leads (read_all gs c s') (λ ts. applied callee place (t ∷ ts)) final final
-            (moved (read_all gs c s') (naming_all gs (map as_local c.locals)) (as_bindings s'.live) mid e (all_lead gs c s'))
-            (λ ts s'' e'. applied_behind callee place (t ∷ ts) s'' final e')))
+      then_leads (read g c s) (λ t. read_all gs c >>= (λ ts. applied callee place (t ∷ ts))) mid final (read_leads g c s) (λ t s' e.
+      then_leads (read_all gs c s') (λ ts. applied callee place (t ∷ ts)) final final
+      (moved (read_all gs c s') (naming_all gs (map as_local c.locals)) (as_bindings s'.live) mid e (all_lead gs c s'))
+      (λ ts s'' e'. applied_behind callee place (t ∷ ts) s'' final e')))
   list_leads (head f) none place c s = tt
 
   bindings_lead : (fs : Forms) (earlier : List Name) (c : Context) (s : Sofar) → LeadsTo (read_bindings fs earlier c s) (naming_parts fs (map as_local c.locals) (as_bindings s.live))
@@ -179,18 +179,18 @@ mutual
       let mid : List Binding = naming f (map as_local c.locals) (as_bindings s.live) in
       let final : List Binding = naming_parts bs (map as_local c.locals) mid in
       decided (let_name earlier part (place_of x) (symbol_in x)) (λ n. read f c >>= (λ t. read_bindings bs (n ∷ earlier) c >>= (λ ts. gives ((n, t) ∷ ts)))) s final (λ n _.
-        then_leads (read f c s) (λ t. read_bindings bs (n ∷ earlier) c >>= (λ ts. gives ((n, t) ∷ ts))) mid final (read_leads f c s) (λ t s' e.
-          then_leads (read_bindings bs (n ∷ earlier) c s') (λ ts. gives ((n, t) ∷ ts)) final final
-            (moved (read_bindings bs (n ∷ earlier) c s') (naming_parts bs (map as_local c.locals)) (as_bindings s'.live) mid e (bindings_lead bs (n ∷ earlier) c s'))
-            (λ ts s'' e'. e')))
+      then_leads (read f c s) (λ t. read_bindings bs (n ∷ earlier) c >>= (λ ts. gives ((n, t) ∷ ts))) mid final (read_leads f c s) (λ t s' e.
+      then_leads (read_bindings bs (n ∷ earlier) c s') (λ ts. gives ((n, t) ∷ ts)) final final
+      (moved (read_bindings bs (n ∷ earlier) c s') (naming_parts bs (map as_local c.locals)) (as_bindings s'.live) mid e (bindings_lead bs (n ∷ earlier) c s'))
+      (λ ts s'' e'. e')))
   bindings_lead (f ⨾ bs) earlier c s = tt
 
   all_lead : (fs : Forms) (c : Context) (s : Sofar) → LeadsTo (read_all fs c s) (naming_all fs (map as_local c.locals) (as_bindings s.live))
   all_lead none c s = refl
   all_lead (f ⨾ fs) c s =
       then_leads (read f c s) (λ t. read_all fs c >>= (λ ts. gives (t ∷ ts))) (naming f (map as_local c.locals) (as_bindings s.live))
-        (naming_all fs (map as_local c.locals) (naming f (map as_local c.locals) (as_bindings s.live))) (read_leads f c s)
-        (λ t s' e. then_leads (read_all fs c s') (λ ts. gives (t ∷ ts)) (naming_all fs (map as_local c.locals) (naming f (map as_local c.locals) (as_bindings s.live)))
-          (naming_all fs (map as_local c.locals) (naming f (map as_local c.locals) (as_bindings s.live)))
-          (moved (read_all fs c s') (naming_all fs (map as_local c.locals)) (as_bindings s'.live) (naming f (map as_local c.locals) (as_bindings s.live)) e (all_lead fs c s'))
-          (λ ts s'' e'. e'))
+      (naming_all fs (map as_local c.locals) (naming f (map as_local c.locals) (as_bindings s.live))) (read_leads f c s)
+      (λ t s' e. then_leads (read_all fs c s') (λ ts. gives (t ∷ ts)) (naming_all fs (map as_local c.locals) (naming f (map as_local c.locals) (as_bindings s.live)))
+      (naming_all fs (map as_local c.locals) (naming f (map as_local c.locals) (as_bindings s.live)))
+      (moved (read_all fs c s') (naming_all fs (map as_local c.locals)) (as_bindings s'.live) (naming f (map as_local c.locals) (as_bindings s.live)) e (all_lead fs c s'))
+      (λ ts s'' e'. e'))

@@ -1,4 +1,6 @@
+mod Agreement
 mod Bindings
 mod Outcomes
+mod Points
 mod Rows
 mod Shown

@@ -1,7 +1,7 @@
 -- What is known where a test gave something.
-use Rattle.std.proofs.Common.{◌≡◌, sym, ap, refl, Bool, true, false, ℕ, Result, Ok, Err, Option, Some, None}
+use Rattle.std.proofs.Common.{◌≡◌, refl, Bool, true, false, ℕ, Result, Ok, Err, Option, Some, None}
 use Rattle.script_read.specs.declared.causes.Cause.{Cause}
-use Rattle.script_read.specs.Refusals.{Refused, at, and_then, unless, mapped, given}
+use Rattle.script_read.specs.Refusals.{Refused, and_then, unless, mapped, given}
 
 pub and_then_ok : {A B E : Type 0} (k : A → Result B E) (r : Result A E) (b : B) → and_then k r ≡ Ok b → (a : A) × (r ≡ Ok a) × (k a ≡ Ok b)
 and_then_ok k (Ok a) b h = (a, refl, h)
@@ -18,3 +18,6 @@ unless_ok false cause place r a h = h
 pub given_ok : {A : Type 0} (cause : Cause) (place : ℕ) (o : Option A) (a : A) → given cause place o ≡ Ok a → o ≡ Some a
 given_ok cause place (Some b) a h = cc
 given_ok cause place None a h = absurd (cc)
+
+pub ok_same : {A E : Type 0} (a b : A) (r : Result A E) → r ≡ Ok a → r ≡ Ok b → a ≡ b
+ok_same a b r h k = cc

@@ -106,7 +106,7 @@ sets_shows : (place : ℕ) (o : Option Bool) (seen_value : Bool) (s : Standing) 
 sets_shows place None v s h = tt
 sets_shows place (Some b) v s h =
     unless_shows s.begun UnsupportedOption place (Ok (globals b ∷ [], record { sofar = s.sofar; global = b; begun = false; asserted = s.asserted })) (globals v ∷ [], mk (as_bindings s.sofar.live) v s.asserted)
-      (ap (λ c. globals c ∷ []) (sym (h b refl)), ap (λ c. mk (as_bindings s.sofar.live) c s.asserted) (sym (h b refl)))
+    (ap (λ c. globals c ∷ []) (sym (h b refl)), ap (λ c. mk (as_bindings s.sofar.live) c s.asserted) (sym (h b refl)))
 
 -- ---- parameters
 
@@ -129,12 +129,12 @@ literals_show live bs (f ⨾ fs) ts h =
 declarable_shows : (live : List ReadBinding) (n : At Name) (next : Step) (q : List (Command Asserted) × Scene) → Shows next q → Shows (declarable live n next) q
 declarable_shows live n next q h =
     unless_shows (is_reserved_for_declaring n.it) ReservedName n.place (unless (is_some (entry_of live n.it)) Redeclared n.place next) q
-      (unless_shows (is_some (entry_of live n.it)) Redeclared n.place next q h)
+    (unless_shows (is_some (entry_of live n.it)) Redeclared n.place next q h)
 
 sort_declarable_shows : (live : List ReadBinding) (n : At Name) (next : Step) (q : List (Command Asserted) × Scene) → Shows next q → Shows (sort_declarable live n next) q
 sort_declarable_shows live n next q h =
     unless_shows (is_reserved_for_sorts n.it) ReservedName n.place (unless (is_some (live_sorts live n.it)) Redeclared n.place next) q
-      (unless_shows (is_some (live_sorts live n.it)) Redeclared n.place next q h)
+    (unless_shows (is_some (live_sorts live n.it)) Redeclared n.place next q h)
 
 no_parameters_shows : (parameters : Forms) (next : Step) (q : List (Command Asserted) × Scene) → Shows next q → Shows (without_parameters parameters next) q
 no_parameters_shows none next q h = h
@@ -150,16 +150,16 @@ declares_sort_shows n arity s =
     let given : Step = Ok (declare_sort n.it ∷ [], begun_with s (sort_known n.it (free_sort n.it) ∷ live_of s)) in
     let q : List (Command Asserted) × Scene = (declare_sort n.it ∷ [], mk (sort_name n.it (free_sort n.it) ∷ bindings_of s) s.global s.asserted) in
     sort_declarable_shows (live_of s) n (unless (not (arity.it == 0)) SortArity arity.place given) q
-      (unless_shows (not (arity.it == 0)) SortArity arity.place given q (refl, refl))
+    (unless_shows (not (arity.it == 0)) SortArity arity.place given q (refl, refl))
 
 defines_sort_shows : (n : At Name) (parameters : Forms) (f : Form) (s : Standing) → Shows (defines_sort n parameters f s) ([], mk (sort_name n.it (sort_meant (bindings_of s) f) ∷ bindings_of s) s.global s.asserted)
 defines_sort_shows n parameters f s =
     let make : Sort → List (Command Term) × Standing = λ to. ([], begun_with s (sort_known n.it to ∷ live_of s)) in
     let q : List (Command Asserted) × Scene = ([], mk (sort_name n.it (sort_meant (bindings_of s) f) ∷ bindings_of s) s.global s.asserted) in
     sort_declarable_shows (live_of s) n (without_parameters parameters (mapped make (sort_in (live_sorts (live_of s)) f))) q
-      (no_parameters_shows parameters (mapped make (sort_in (live_sorts (live_of s)) f)) q
-        (mapped_shows make (sort_in (live_sorts (live_of s)) f) q (λ to h.
-          (refl, ap (λ t. mk (sort_name n.it t ∷ bindings_of s) s.global s.asserted) (sym (ap (accepted_or bool) h))))))
+    (no_parameters_shows parameters (mapped make (sort_in (live_sorts (live_of s)) f)) q
+    (mapped_shows make (sort_in (live_sorts (live_of s)) f) q (λ to h.
+    (refl, ap (λ t. mk (sort_name n.it t ∷ bindings_of s) s.global s.asserted) (sym (ap (accepted_or bool) h))))))
 
 same_symbol : (s : Standing) (n : Name) (arguments : Forms) (f : Form) (args : List Sort) (to : Sort) → sorts_in (live_sorts (live_of s)) arguments ≡ Ok args → sort_in (live_sorts (live_of s)) f ≡ Ok to → symbol_of_sorts n args to ≡ symbol_meant (bindings_of s) n arguments f
 same_symbol s n arguments f args to h k =
@@ -170,10 +170,11 @@ declares_symbol_shows n arguments f s =
     let q : List (Command Asserted) × Scene = (declare (symbol_meant (bindings_of s) n.it arguments f) ∷ [], mk (function (symbol_meant (bindings_of s) n.it arguments f) ∷ bindings_of s) s.global s.asserted) in
     let result : List Sort → Step = λ args. mapped (λ to. declares s (symbol_of_sorts n.it args to)) (sort_in (live_sorts (live_of s)) f) in
     declarable_shows (live_of s) n (and_then result (sorts_in (live_sorts (live_of s)) arguments)) q
-      (then_shows result (sorts_in (live_sorts (live_of s)) arguments) q (λ args h.
-        mapped_shows (λ to. declares s (symbol_of_sorts n.it args to)) (sort_in (live_sorts (live_of s)) f) q (λ to k.
-          (ap (λ g. declare g ∷ []) (same_symbol s n.it arguments f args to h k),
-            ap (λ g. mk (function g ∷ bindings_of s) s.global s.asserted) (same_symbol s n.it arguments f args to h k)))))
+    (then_shows result (sorts_in (live_sorts (live_of s)) arguments) q (λ args h.
+    mapped_shows (λ to. declares s (symbol_of_sorts n.it args to)) (sort_in (live_sorts (live_of s)) f) q (λ to k. (
+      ap (λ g. declare g ∷ []) (same_symbol s n.it arguments f args to h k),
+      ap (λ g. mk (function g ∷ bindings_of s) s.global s.asserted) (same_symbol s n.it arguments f args to h k),
+    ))))
 
 -- ---- terms of a sort
 
@@ -192,34 +193,40 @@ leads_ok r p bs h k = subst (λ x. LeadsTo x bs) h k
 asserts_shows : (f : Form) (s : Standing) → Shows (asserts f s) (assert (suc s.asserted) (record { form = f; bindings = naming f [] (bindings_of s) }) ∷ [], mk (naming f [] (bindings_of s)) s.global (suc s.asserted))
 asserts_shows f s =
     mapped_shows (with_assertion s) (of_sort bool (place_of f) (read f no_context s.sofar)) (assert (suc s.asserted) (record { form = f; bindings = naming f [] (bindings_of s) }) ∷ [], mk (naming f [] (bindings_of s)) s.global (suc s.asserted))
-      (λ p h. (refl, ap (λ bs. mk bs s.global (suc s.asserted))
-        (leads_ok (read f no_context s.sofar) p (naming f [] (bindings_of s)) (of_sort_ok bool (place_of f) (read f no_context s.sofar) p h) (read_leads f no_context s.sofar))))
+    (λ p h. (
+      refl,
+      ap (λ bs. mk bs s.global (suc s.asserted))
+          (leads_ok (read f no_context s.sofar) p (naming f [] (bindings_of s)) (of_sort_ok bool (place_of f) (read f no_context s.sofar) p h) (read_leads f no_context s.sofar)),
+    ))
 
 body_leads : (n : Name) (xs : List Variable) (to : Sort) (body : Form) (s : Standing) (p : Term × Sofar) → of_sort to (place_of body) (read body (body_context n xs) s.sofar) ≡ Ok p → as_bindings p.1.live ≡ naming body (parameter_locals xs []) (bindings_of s)
 body_leads n xs to body s p h =
     leads_ok (read body (body_context n xs) s.sofar) p (naming body (map as_local (read_parameters xs (parameters_from 0 xs) [])) (bindings_of s))
-      (of_sort_ok to (place_of body) (read body (body_context n xs) s.sofar) p h) (read_leads body (body_context n xs) s.sofar)
+    (of_sort_ok to (place_of body) (read body (body_context n xs) s.sofar) p h) (read_leads body (body_context n xs) s.sofar)
     ∙ ap (λ ls. naming body ls (bindings_of s)) (parameters_agree 0 xs [])
 
 read_body_shows : (n : Name) (xs ys : List Variable) (to : Sort) (body : Form) (s : Standing) → xs ≡ ys → Shows (read_body n xs to body s) ([], mk (with_definition n ys body (bindings_of s)) s.global s.asserted)
 read_body_shows n xs ys to body s same =
     mapped_shows (read_definition n xs body s) (of_sort to (place_of body) (read body (body_context n xs) s.sofar)) ([], mk (with_definition n ys body (bindings_of s)) s.global s.asserted)
-      (λ p h. (refl, ap (λ bs. mk (definition_binding n xs body ∷ bs) s.global s.asserted) (body_leads n xs to body s p h)
-        ∙ ap (λ zs. mk (with_definition n zs body (bindings_of s)) s.global s.asserted) same))
+    (λ p h. (
+      refl,
+      ap (λ bs. mk (definition_binding n xs body ∷ bs) s.global s.asserted) (body_leads n xs to body s p h)
+          ∙ ap (λ zs. mk (with_definition n zs body (bindings_of s)) s.global s.asserted) same,
+    ))
 
 defines_symbol_shows : (n : At Name) (parameters : Forms) (f body : Form) (s : Standing) → Shows (defines_symbol n parameters f body s) ([], mk (with_definition n.it (parameters_meant (bindings_of s) parameters) body (bindings_of s)) s.global s.asserted)
 defines_symbol_shows n parameters f body s =
     let q : List (Command Asserted) × Scene = ([], mk (with_definition n.it (parameters_meant (bindings_of s) parameters) body (bindings_of s)) s.global s.asserted) in
     let result : List Variable → Step = λ xs. and_then (λ to. read_body n.it xs to body s) (sort_in (live_sorts (live_of s)) f) in
     declarable_shows (live_of s) n (and_then result (variables_in definition (live_sorts (live_of s)) [] parameters)) q
-      (then_shows result (variables_in definition (live_sorts (live_of s)) [] parameters) q (λ xs h.
-        then_shows (λ to. read_body n.it xs to body s) (sort_in (live_sorts (live_of s)) f) q (λ to _.
-          read_body_shows n.it xs (parameters_meant (bindings_of s) parameters) to body s (sym (ap (accepted_or []) h)))))
+    (then_shows result (variables_in definition (live_sorts (live_of s)) [] parameters) q (λ xs h.
+    then_shows (λ to. read_body n.it xs to body s) (sort_in (live_sorts (live_of s)) f) q (λ to _.
+    read_body_shows n.it xs (parameters_meant (bindings_of s) parameters) to body s (sym (ap (accepted_or []) h)))))
 
 assumes_shows : (fs : Forms) (s : Standing) → Shows (assumes fs s) (check_assuming (literals_meant (bindings_of s) fs) ∷ [], scene_of s)
 assumes_shows fs s =
     mapped_shows (λ ts. (check_assuming ts ∷ [], begun_with s (live_of s))) (literals_in (live_of s) fs) (check_assuming (literals_meant (bindings_of s) fs) ∷ [], scene_of s)
-      (λ ts h. (ap (λ us. check_assuming us ∷ []) (literals_show (live_of s) (bindings_of s) fs ts h), refl))
+    (λ ts h. (ap (λ us. check_assuming us ∷ []) (literals_show (live_of s) (bindings_of s) fs ts h), refl))
 
 -- ---- levels
 
@@ -232,8 +239,8 @@ pops_shows command place n s =
     let given : Step = Ok (pop n ∷ [], begun_with s (popped is_level_known s.global n (live_of s))) in
     let q : List (Command Asserted) × Scene = (pop n ∷ [], mk (popped is_level s.global n (bindings_of s)) s.global s.asserted) in
     unless_shows (nat_lt most_levels n) NumberLimit place (unless (nat_lt (open_levels s) n) PopTooFar command given) q
-      (unless_shows (nat_lt (open_levels s) n) PopTooFar command given q
-        (refl, rebound (as_bindings (popped is_level_known s.global n (live_of s))) (popped is_level s.global n (bindings_of s)) s.global s.asserted (popped_shows s.global n (live_of s))))
+    (unless_shows (nat_lt (open_levels s) n) PopTooFar command given q
+    (refl, rebound (as_bindings (popped is_level_known s.global n (live_of s))) (popped is_level s.global n (bindings_of s)) s.global s.asserted (popped_shows s.global n (live_of s))))
 
 -- ---- commands
 

@@ -16,9 +16,8 @@ use Rattle.smt_terms.specs.Sorts.{Sort, bool, Symbol, Variable}
 use Rattle.smt_terms.specs.Subst.{parameter, expand}
 use Rattle.smt_terms.specs.Term.{op, symbol, const_array, Term, apply, terms, none as no_terms, over, constant}
 use Rattle.smt_terms.specs.Written.{Written, Indexed, operator_named, at_indices, written_rank, Algebra, build}
-use Rattle.script_read.specs.declared.causes.Cause.{Cause}
 use Rattle.script_read.specs.declared.causes.Cause.TheVariants.{WrongArity, WidthLimit, BadIndex, BadForm, UnknownName, NumberLimit, RealSort}
-use Rattle.script_read.specs.Refusals.{Refused, at, and_then, unless, mapped, given, cause_of}
+use Rattle.script_read.specs.Refusals.{Refused, at, unless, mapped, cause_of}
 use Rattle.script_read.specs.Parts.{place_of, symbol_in, word_in, is_name, numeral_in, numerals_in, constant_by, greatest_number, vector_number}
 use Rattle.script_read.specs.SortForms.{sort_in}
 use Rattle.script_read.specs.Reading.{ReadLocal, ReadBinding, Sofar, live_sorts, Entry, symbol_entry, definition_entry, term_entry, entry_of, bound_as, Reading, by_rule}
@@ -85,8 +84,8 @@ is_vector_name (Some n) = is_bit_vector_constant n && is_numeral (drop 2 n)
 abbrev pub vector_of_width : ℕ → ℕ → ℕ → Result Term Refused
 vector_of_width place x n =
     unless (n == 0) BadIndex place
-      (unless (nat_lt most_bits n) WidthLimit place
-        (unless (nat_le (2 ^ n) x) BadIndex place (Ok (apply (op (Bits n x)) no_terms))))
+    (unless (nat_lt most_bits n) WidthLimit place
+    (unless (nat_le (2 ^ n) x) BadIndex place (Ok (apply (op (Bits n x)) no_terms))))
 
 abbrev pub vector_constant_of : ℕ → Option Name → Option ℕ → Result Term Refused
 vector_constant_of place (Some name) (Some n) =

@@ -1,5 +1,5 @@
 -- The outer shapes of commands: SMT-LIB 2.6, section 3.9. Which parts a command has is settled here, and not what they mean.
-use Rattle.std.specs.Prelude.{ℕ, Bool, true, false, cond, if◌then◌else◌, List, [], ◌∷◌, codes, bytes_eq, Result, Ok, Err, Option, Some, None, option_map}
+use Rattle.std.specs.Prelude.{ℕ, Bool, true, false, cond, if◌then◌else◌, List, [], ◌∷◌, codes, bytes_eq, Result, Ok, Option, Some, None, option_map}
 use Rattle.smt_lex.specs.Names.{Name, is_command_word}
 use Rattle.smt_lex.specs.Lex.{Fault}
 use Rattle.smt_lex.specs.Forms.{Form, atom, node, Forms, none, ◌⨾◌, forms}

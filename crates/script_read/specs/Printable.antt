@@ -4,12 +4,11 @@ use Rattle.std.specs.Prelude.{ℕ, ◌+◌, ◌-◌, ◌==◌, Bool, true, false
 use Rattle.std.specs.List.{list_any, list_all}
 use Rattle.smt_lex.specs.Lexicon.{bar, backslash}
 use Rattle.smt_lex.specs.Names.{is_among, is_reserved_for_declaring, is_reserved_for_sorts}
-use Rattle.smt_terms.specs.declared.op.Op.{Op}
 use Rattle.smt_terms.specs.declared.op.Op.TheVariants.{Not}
 use Rattle.smt_terms.specs.Free.{free, is_among as is_among_symbols, names_of}
 use Rattle.smt_terms.specs.Rank.{is_sort, is_well_sorted}
 use Rattle.smt_terms.specs.Shapes.{is_bool, is_clear}
-use Rattle.smt_terms.specs.Sorts.{Name, Sort, bool, int, bit_vector, array, free_sort, Symbol, Variable}
+use Rattle.smt_terms.specs.Sorts.{Name, Sort, bool, int, bit_vector, array, free_sort, Symbol}
 use Rattle.smt_terms.specs.Term.{Head, op, symbol, const_array, Term, apply, quantified, Terms, none, ◌⨾◌}
 use Rattle.script_read.specs.Read.{has_sort}
 use Rattle.script_read.specs.Commands.{Command, passed, declare_sort, declare, assert, check, check_assuming, push, pop, reset, reset_assertions, globals, exit, State, start, after, sorts_of_state, symbols_of_state}

@@ -1,6 +1,6 @@
 -- Terms as they are read: `let`, definitions and names of terms are replaced by their terms, and a bound name gets a fresh
 -- one where it would be mistaken for another. SMT-LIB 2.6, section 3.6.
-use Rattle.std.specs.Prelude.{ℕ, Bool, true, false, not, ◌||◌, List, [], ◌∷◌, Result, Ok, Err, Option, Some, None, is_some}
+use Rattle.std.specs.Prelude.{ℕ, Bool, true, false, not, ◌||◌, List, [], ◌∷◌, Result, Ok, Option, Some, None, is_some}
 use Rattle.std.specs.List.{list_any}
 use Rattle.smt_lex.specs.Names.{Name, is_among, is_reserved_for_declaring, is_reserved_for_let}
 use Rattle.smt_lex.specs.Forms.{Form, atom, node, Forms, none, ◌⨾◌}
@@ -10,7 +10,6 @@ use Rattle.smt_terms.specs.Fresh.{Supply, next_name, after_draw}
 use Rattle.smt_terms.specs.Rank.{sort_of}
 use Rattle.smt_terms.specs.Sorts.{Sort, bool, Symbol, Variable}
 use Rattle.smt_terms.specs.Term.{Quantifier, Term, quantified, constant_of}
-use Rattle.script_read.specs.declared.causes.Cause.{Cause}
 use Rattle.script_read.specs.declared.causes.Cause.TheVariants.{WrongSort, BadForm, Redeclared, ReservedName}
 use Rattle.script_read.specs.Refusals.{Refused, at, and_then, unless, mapped}
 use Rattle.script_read.specs.Parts.{place_of, symbol_in, Opening, let_word, quantifier_word, annotation_word, index_word, head, opening, are_attributes, named_parts}

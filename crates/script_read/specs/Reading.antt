@@ -1,7 +1,6 @@
 -- What is known while a script is read: the bindings with the terms that their forms are read as, and the names that are
 -- left to draw.
-use Rattle.std.specs.Prelude.{ℕ, suc, Bool, true, false, ◌||◌, cond, List, [], ◌∷◌, map, Result, Ok, Err, Option, Some, None}
-use Rattle.std.specs.List.{list_any}
+use Rattle.std.specs.Prelude.{ℕ, Bool, true, false, ◌||◌, List, [], ◌∷◌, map, Result, Ok, Err, Option, Some, None}
 use Rattle.smt_lex.specs.Names.{Name, is_among}
 use Rattle.smt_lex.specs.Forms.{Form, Forms}
 use Rattle.smt_terms.specs.Equal.{name_eq}

@@ -1,19 +1,18 @@
 -- The commands of an accepted text with the forms that it asserts, and what is bound where they stand: SMT-LIB 2.6,
 -- sections 3.6 (names of terms) and 4.2. Whether the text is accepted is said elsewhere.
-use Rattle.std.specs.Prelude.{ℕ, suc, Bool, true, false, ◌&&◌, List, [], ◌∷◌, ◌++◌, filter_map, codes, Result, Ok, Err, Option, Some, None, option_and_then, unwrap_or}
+use Rattle.std.specs.Prelude.{ℕ, suc, Bool, false, ◌&&◌, List, [], ◌∷◌, ◌++◌, filter_map, codes, Result, Ok, Err, Option, Some, None, option_and_then}
 use Rattle.std.specs.List.{list_all}
 use Rattle.smt_lex.specs.Names.{Name}
-use Rattle.smt_lex.specs.Lex.{Fault}
 use Rattle.smt_lex.specs.Forms.{Form, atom, node, Forms, none, ◌⨾◌, forms_to_exit}
 use Rattle.smt_terms.specs.Models.{Model}
 use Rattle.smt_terms.specs.Sorts.{Sort, bool, free_sort, Symbol, Variable}
 use Rattle.script_read.specs.Refusals.{Refused}
-use Rattle.script_read.specs.Parts.{symbol_in, is_name, form_text, Opening, let_word, quantifier_word, annotation_word, index_word, head, opening, named_parts}
+use Rattle.script_read.specs.Parts.{symbol_in, is_name, form_text, Opening, let_word, quantifier_word, annotation_word, head, opening, named_parts}
 use Rattle.script_read.specs.Scope.{Local, lets, quantified, parameter, Binding, sort_name, function, named, level, live_sort, is_level, opened, popped, emptied, definition as definition_binding}
-use Rattle.script_read.specs.SortForms.{Sorts, sort_in, sorts_in}
+use Rattle.script_read.specs.SortForms.{sort_in, sorts_in}
 use Rattle.script_read.specs.Variables.{definition, variables_in}
 use Rattle.script_read.specs.Commands.{Command, passed, declare_sort, declare, assert, check, check_assuming, push, pop, reset, reset_assertions, globals, exit, live, literals}
-use Rattle.script_read.specs.Outlines.{At, Outline, passing, sort_declaration, sort_definition, declaration, assertion, assuming, pushing, popping, resetting, resetting_assertions, ending, outline, levels_written, globals as globals_option, definition as definition_outline, check as checking}
+use Rattle.script_read.specs.Outlines.{Outline, passing, sort_declaration, sort_definition, declaration, assertion, assuming, pushing, popping, resetting, resetting_assertions, ending, outline, levels_written, globals as globals_option, definition as definition_outline, check as checking}
 use Rattle.script_read.specs.Mean.{accepted_or, quantified_variables, is_true_of, mean, meaning}
 
 -- ---- names of terms: each keeps what is bound locally where the annotation ends

@@ -1,7 +1,7 @@
 -- Scripts as they are read: SMT-LIB 2.6, section 3.9. One definition gives the commands with their terms and the names that
 -- are left, or the first refusal: commands in order, and in each command first its outer shape, then a name that it declares
 -- or defines, then its numbers, then its other parts from left to right.
-use Rattle.std.specs.Prelude.{ℕ, suc, ◌+◌, ◌==◌, Bool, true, false, ◌||◌, not, cond, nat_lt, if◌then◌else◌, List, [], ◌∷◌, ◌++◌, map, codes, bytes_eq, count_by, Result, Ok, Err, Option, Some, None, is_some, option_map}
+use Rattle.std.specs.Prelude.{ℕ, suc, ◌+◌, ◌==◌, Bool, true, false, ◌||◌, not, cond, nat_lt, if◌then◌else◌, List, [], ◌∷◌, ◌++◌, codes, bytes_eq, count_by, Result, Ok, Err, Option, Some, None, is_some, option_map}
 use Rattle.smt_lex.specs.Names.{Name, is_among, is_reserved_for_declaring, is_reserved_for_sorts}
 use Rattle.smt_lex.specs.Lex.{Fault, bad_byte, bad_token, open_text, unbalanced, line_at}
 use Rattle.smt_lex.specs.Forms.{Form, atom, node, Forms, none, ◌⨾◌, forms_to_exit}
@@ -10,14 +10,13 @@ use Rattle.smt_terms.specs.Equal.{sort_eq}
 use Rattle.smt_terms.specs.Fresh.{Supply}
 use Rattle.smt_terms.specs.Sorts.{Sort, bool, free_sort, Symbol, Variable}
 use Rattle.smt_terms.specs.Term.{Term, constant}
-use Rattle.script_read.specs.declared.causes.Cause.{Cause}
 use Rattle.script_read.specs.declared.causes.Cause.TheVariants.{WrongSort, BadForm, Redeclared, ReservedName, PopTooFar, NumberLimit, SortArity, UnsupportedOption}
 use Rattle.script_read.specs.Refusals.{Refused, at, Refusal, Unaccepted, unread, refused, and_then, unless, mapped, given}
 use Rattle.script_read.specs.Parts.{place_of, symbol_in, is_name, form_text}
 use Rattle.script_read.specs.Scope.{opened, popped, emptied}
 use Rattle.script_read.specs.SortForms.{sort_in, sorts_in}
 use Rattle.script_read.specs.Variables.{definition, variables_in}
-use Rattle.script_read.specs.Reading.{ReadLocal, parameter_as, ReadBinding, sort_known, function_known, definition_as, level_known, Sofar, live_sorts, is_level_known, Entry, symbol_entry, entry_of, Reading, continued}
+use Rattle.script_read.specs.Reading.{ReadLocal, parameter_as, ReadBinding, sort_known, function_known, definition_as, level_known, Sofar, live_sorts, is_level_known, Entry, symbol_entry, entry_of}
 use Rattle.script_read.specs.Heads.{parameters_from}
 use Rattle.script_read.specs.Read.{Context, has_sort, read}
 use Rattle.script_read.specs.Commands.{Command, passed, declare_sort, declare, assert, check, check_assuming, push, pop, reset, reset_assertions, globals, exit}
@@ -60,8 +59,8 @@ sort_declarable live n next =
 abbrev pub declares_sort : At Name → At ℕ → Standing → Step
 declares_sort n arity s =
     sort_declarable (live_of s) n
-      (unless (not (arity.it == 0)) SortArity arity.place
-        (Ok (declare_sort n.it ∷ [], begun_with s (sort_known n.it (free_sort n.it) ∷ live_of s))))
+    (unless (not (arity.it == 0)) SortArity arity.place
+    (Ok (declare_sort n.it ∷ [], begun_with s (sort_known n.it (free_sort n.it) ∷ live_of s))))
 
 abbrev pub without_parameters : {A : Type 0} → Forms → Result A Refused → Result A Refused
 without_parameters none next = next
@@ -70,8 +69,8 @@ without_parameters (f ⨾ fs) next = at SortArity (place_of f)
 abbrev pub defines_sort : At Name → Forms → Form → Standing → Step
 defines_sort n parameters f s =
     sort_declarable (live_of s) n
-      (without_parameters parameters
-        (mapped (λ to. ([], begun_with s (sort_known n.it to ∷ live_of s))) (sort_in (live_sorts (live_of s)) f)))
+    (without_parameters parameters
+    (mapped (λ to. ([], begun_with s (sort_known n.it to ∷ live_of s))) (sort_in (live_sorts (live_of s)) f)))
 
 -- ---- symbols
 
@@ -84,8 +83,8 @@ symbol_of_sorts n args to = record { name = n; args = args; result = to }
 abbrev pub declares_symbol : At Name → Forms → Form → Standing → Step
 declares_symbol n arguments f s =
     declarable (live_of s) n
-      (and_then (λ args. mapped (λ to. declares s (symbol_of_sorts n.it args to)) (sort_in (live_sorts (live_of s)) f))
-        (sorts_in (live_sorts (live_of s)) arguments))
+    (and_then (λ args. mapped (λ to. declares s (symbol_of_sorts n.it args to)) (sort_in (live_sorts (live_of s)) f))
+    (sorts_in (live_sorts (live_of s)) arguments))
 
 -- ---- definitions
 
@@ -114,8 +113,8 @@ read_body n xs to body s = mapped (with_definition n xs body s) (of_sort to (pla
 abbrev pub defines_symbol : At Name → Forms → Form → Form → Standing → Step
 defines_symbol n parameters f body s =
     declarable (live_of s) n
-      (and_then (λ xs. and_then (λ to. read_body n.it xs to body s) (sort_in (live_sorts (live_of s)) f))
-        (variables_in definition (live_sorts (live_of s)) [] parameters))
+    (and_then (λ xs. and_then (λ to. read_body n.it xs to body s) (sort_in (live_sorts (live_of s)) f))
+    (variables_in definition (live_sorts (live_of s)) [] parameters))
 
 -- ---- assertions and checks
 
@@ -177,8 +176,8 @@ pushes place n s = pushed_unless (nat_lt most_levels n || nat_lt most_levels (op
 abbrev pub pops : ℕ → ℕ → ℕ → Standing → Step
 pops command place n s =
     unless (nat_lt most_levels n) NumberLimit place
-      (unless (nat_lt (open_levels s) n) PopTooFar command
-        (Ok (pop n ∷ [], begun_with s (popped is_level_known s.global n (live_of s)))))
+    (unless (nat_lt (open_levels s) n) PopTooFar command
+    (Ok (pop n ∷ [], begun_with s (popped is_level_known s.global n (live_of s)))))
 
 -- ---- options and resets
 
@@ -195,7 +194,7 @@ abbrev pub sets_globals : ℕ → Option Bool → Standing → Step
 sets_globals command None s = at UnsupportedOption command
 sets_globals command (Some b) s =
     unless s.begun UnsupportedOption command
-      (Ok (globals b ∷ [], record { sofar = s.sofar; global = b; begun = false; asserted = s.asserted }))
+    (Ok (globals b ∷ [], record { sofar = s.sofar; global = b; begun = false; asserted = s.asserted }))
 
 abbrev pub after_reset : Standing → Standing
 after_reset s = record { sofar = record { live = []; supply = s.sofar.supply }; global = false; begun = false; asserted = s.asserted }

@@ -1,11 +1,10 @@
 -- Sorts as they are written: SMT-LIB 2.6, section 3.5, with the sorts of the theories.
-use Rattle.std.specs.Prelude.{ℕ, Bool, true, false, ◌==◌, not, nat_lt, cond, if◌then◌else◌, List, [], ◌∷◌, codes, bytes_eq, Result, Ok, Err, Option, Some, None}
+use Rattle.std.specs.Prelude.{ℕ, ◌==◌, nat_lt, if◌then◌else◌, List, [], ◌∷◌, codes, bytes_eq, Result, Ok, Option, Some, None}
 use Rattle.smt_lex.specs.Names.{Name, is_theory_sort}
 use Rattle.smt_lex.specs.Forms.{Form, atom, node, Forms, none, ◌⨾◌}
 use Rattle.smt_terms.specs.Equal.{sort_eq}
 use Rattle.smt_terms.specs.Rank.{is_array, most_bits}
 use Rattle.smt_terms.specs.Sorts.{Sort, bool, int, bit_vector, array, free_sort}
-use Rattle.script_read.specs.declared.causes.Cause.{Cause}
 use Rattle.script_read.specs.declared.causes.Cause.TheVariants.{WidthLimit, BadIndex, BadForm, UnknownName, RealSort, IndexSort, SortArity}
 use Rattle.script_read.specs.Refusals.{Refused, at, and_then, unless, mapped}
 use Rattle.script_read.specs.Parts.{place_of, symbol_in, word_in, is_name, numeral_in}

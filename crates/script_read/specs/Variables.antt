@@ -1,7 +1,7 @@
 -- Sorted variables, `(x SORT)`: SMT-LIB 2.6, section 3.6, and the parameters of section 4.2.3.
-use Rattle.std.specs.Prelude.{ℕ, Bool, true, false, not, List, [], ◌∷◌, Result, Ok, Err, Option, Some, None}
+use Rattle.std.specs.Prelude.{ℕ, Bool, true, not, List, [], ◌∷◌, Result, Ok, Option, Some, None}
 use Rattle.smt_lex.specs.Names.{Name, is_among, is_reserved_for_declaring}
-use Rattle.smt_lex.specs.Forms.{Form, atom, node, Forms, none, ◌⨾◌}
+use Rattle.smt_lex.specs.Forms.{Form, node, Forms, none, ◌⨾◌}
 use Rattle.smt_terms.specs.Rank.{is_quantifiable}
 use Rattle.smt_terms.specs.Sorts.{Sort, Variable}
 use Rattle.script_read.specs.declared.causes.Cause.TheVariants.{BadForm, Redeclared, ReservedName, QuantifiedSort}
@@ -28,7 +28,7 @@ abbrev pub variable_of : Binder → Sorts → List Name → ℕ → ℕ → Form
 variable_of b live earlier part place f None = at BadForm part
 variable_of b live earlier part place f (Some n) =
     fresh_name earlier place n
-      (and_then (λ s. unless (not (may_have b s)) QuantifiedSort (place_of f) (Ok (record { name = n; sort = s }))) (sort_in live f))
+    (and_then (λ s. unless (not (may_have b s)) QuantifiedSort (place_of f) (Ok (record { name = n; sort = s }))) (sort_in live f))
 
 -- one variable behind these names: its name is examined, then its sort
 abbrev pub variable_in : Binder → Sorts → List Name → Form → Result Variable Refused

@@ -4,5 +4,7 @@
 #![tactic(auto)]
 
 mod causes;
+mod laws;
 
 pub use causes::Cause;
+pub use laws::{reading_answers, reading_binds_names, terms_and_forms_agree};

@@ -1,14 +1,14 @@
 -- What rows are written with: what a text is read as, and terms and symbols by short names.
-use Rattle.std.specs.Prelude.{ℕ, List, [], ◌∷◌, map, ℤ, pos, Result, Ok, Err, Option, Some, None}
+use Rattle.std.specs.Prelude.{ℕ, List, [], map, ℤ, Result, Ok, Err, Option, Some, None}
 use Rattle.smt_terms.specs.declared.op.Op.{Op}
 use Rattle.smt_terms.specs.declared.op.Op.TheVariants.{Whole, Bits}
 use Rattle.smt_terms.specs.Fresh.{Supply}
-use Rattle.smt_terms.specs.Sorts.{Name, Sort, bool, int, Symbol, Variable}
-use Rattle.smt_terms.specs.Term.{Head, op, symbol, Term, apply, none, ◌⨾◌, over, constant}
+use Rattle.smt_terms.specs.Sorts.{Name, Sort, Symbol, Variable}
+use Rattle.smt_terms.specs.Term.{op, symbol, Term, apply, none, ◌⨾◌}
 use Rattle.script_read.specs.Refusals.{Unaccepted}
 use Rattle.script_read.specs.Commands.{Command}
 use Rattle.script_read.specs.Parts.{form_text}
-use Rattle.script_read.specs.Scenes.{Asserted, forms_script}
+use Rattle.script_read.specs.Scenes.{Asserted}
 use Rattle.script_read.specs.Script.{script}
 
 abbrev pub commands_of : Result (List (Command Term) × Supply) Unaccepted → List (Command Term)

@@ -1,5 +1,5 @@
 -- Worked rows: what assertions mean in models, by their forms and by the terms that they are read as.
-use Rattle.std.specs.Prelude.{◌≡◌, ℕ, Bool, true, false, cond, List, [], ◌∷◌, map, pos, negsuc, Option, Some, None, codes, refl}
+use Rattle.std.specs.Prelude.{◌≡◌, ℕ, Bool, true, false, cond, List, [], ◌∷◌, map, pos, Option, Some, None, codes, refl}
 use Rattle.smt_lex.specs.Names.{is_command_word, is_reserved, is_theory_name, is_theory_sort, is_reserved_for_declaring, is_reserved_for_let, is_reserved_for_sorts}
 use Rattle.smt_terms.specs.Equal.{op_eq}
 use Rattle.smt_terms.specs.Rank.{rank}
@@ -8,8 +8,8 @@ use Rattle.script_read.specs.Outlines.{supported}
 use Rattle.smt_terms.specs.Equal.{symbol_eq}
 use Rattle.smt_terms.specs.Models.{Graph, NumberRow, Model}
 use Rattle.smt_terms.specs.Operators.{op_value}
-use Rattle.smt_terms.specs.Sorts.{Symbol, bool, int, bit_vector}
-use Rattle.smt_terms.specs.Values.{Value, truth, whole, bits, over_bits}
+use Rattle.smt_terms.specs.Sorts.{Symbol, bool, int}
+use Rattle.smt_terms.specs.Values.{Value, truth, whole, over_bits}
 use Rattle.script_read.specs.Satisfied.{sat}
 use Rattle.script_read.specs.Scenes.{holds}
 use Rattle.script_read.proofs.Rows.Given.{read_as, symbol_named, constant_named}

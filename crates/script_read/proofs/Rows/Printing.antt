@@ -1,14 +1,14 @@
 -- Worked rows: which lists of commands can be printed and read again.
-use Rattle.std.specs.Prelude.{◌≡◌, ℕ, Bool, true, false, List, [], ◌∷◌, ◌++◌, map, pos, negsuc, codes, refl}
+use Rattle.std.specs.Prelude.{◌≡◌, true, false, [], ◌∷◌, pos, codes, refl}
 use Rattle.smt_lex.specs.Names.{is_command_word, is_reserved, is_theory_name, is_theory_sort, is_reserved_for_declaring, is_reserved_for_let, is_reserved_for_sorts}
 use Rattle.smt_terms.specs.Equal.{op_eq}
 use Rattle.smt_terms.specs.Rank.{rank, is_minus_of}
 use Rattle.smt_terms.specs.Written.{operator_named, written_rank, build}
 use Rattle.script_read.specs.Outlines.{supported}
 use Rattle.smt_terms.specs.declared.op.Op.TheVariants.{And, Lt, Neg}
-use Rattle.smt_terms.specs.Sorts.{Name, Sort, bool, int, bit_vector, array, free_sort}
-use Rattle.smt_terms.specs.Term.{universal, existential, op, const_array, Term, apply, quantified, none, ◌⨾◌, constant, variable}
-use Rattle.script_read.specs.Commands.{Command, passed, declare_sort, declare, assert, check, check_assuming, push, pop, reset, reset_assertions, globals, exit}
+use Rattle.smt_terms.specs.Sorts.{Name, bool, int, bit_vector, array, free_sort}
+use Rattle.smt_terms.specs.Term.{universal, Term, quantified, constant}
+use Rattle.script_read.specs.Commands.{Command, passed, declare_sort, declare, assert, check, check_assuming, push, pop, reset, globals, exit}
 use Rattle.script_read.specs.Printable.{printable}
 use Rattle.script_read.proofs.Rows.Given.{read_as, symbol_named, constant_named, variable_named, whole, over_one, over_two}
 

@@ -1,16 +1,16 @@
 -- Worked rows: scripts with their commands and terms.
-use Rattle.std.specs.Prelude.{◌≡◌, true, false, [], ◌∷◌, pos, negsuc, neg_ℤ, Some, None, Ok, codes, refl}
+use Rattle.std.specs.Prelude.{◌≡◌, false, [], ◌∷◌, pos, negsuc, neg_ℤ, Some, Ok, codes, refl}
 use Rattle.smt_lex.specs.Names.{is_command_word, is_reserved, is_theory_name, is_theory_sort, is_reserved_for_declaring, is_reserved_for_let, is_reserved_for_sorts}
-use Rattle.smt_terms.specs.declared.op.Op.TheVariants.{Truth, Not, And, Or, Xor, Implies, Equal, Distinct, Ite, Neg, Sub, Add, Lt, Le, Mod, Concat, BvNot, BvAnd, BvAdd, BvUlt, RotL, Select, Store}
-use Rattle.smt_terms.specs.Equal.{place, parameters, op_eq}
+use Rattle.smt_terms.specs.declared.op.Op.TheVariants.{Not, And, Or, Xor, Equal, Ite, Neg, Add, Lt, Concat, BvUlt}
+use Rattle.smt_terms.specs.Equal.{op_eq}
 use Rattle.smt_terms.specs.Rank.{rank}
-use Rattle.smt_terms.specs.Sorts.{Sort, bool, int, bit_vector, array, free_sort, Symbol, Variable}
-use Rattle.smt_terms.specs.Term.{universal, existential, op, const_array, Term, quantified, none, apply, ◌⨾◌, over, constant, variable}
+use Rattle.smt_terms.specs.Sorts.{bool, int, bit_vector, array, free_sort, Symbol, Variable}
+use Rattle.smt_terms.specs.Term.{universal, existential, quantified, constant, variable}
 use Rattle.smt_terms.specs.Written.{operator_named, written_rank, build}
 use Rattle.script_read.specs.Commands.{passed, declare_sort, declare, assert, check, check_assuming, push, pop, reset, reset_assertions, globals, exit}
 use Rattle.script_read.specs.Outlines.{supported}
 use Rattle.script_read.specs.Script.{script}
-use Rattle.script_read.proofs.Rows.Given.{read_as, supply_of, symbol_named, constant_named, variable_named, whole, bits, over_one, over_two, over_three, call}
+use Rattle.script_read.proofs.Rows.Given.{read_as, supply_of, symbol_named, constant_named, variable_named, whole, bits, over_one, over_two, over_three}
 
 abbrev a : Symbol
 a = constant_named (codes "a") bool
@@ -112,9 +112,9 @@ minus = refl
 wide_vectors : read_as (codes "(declare-fun u () (_ BitVec 64))\n(declare-fun v () (_ BitVec 64))\n(assert (= (concat u v) (concat u v)))\n")
     ≡ declare (constant_named (codes "u") (bit_vector 64)) ∷ declare (constant_named (codes "v") (bit_vector 64))
     ∷ assert 1
-      (over_two Equal
-        (over_two Concat (constant (constant_named (codes "u") (bit_vector 64))) (constant (constant_named (codes "v") (bit_vector 64))))
-        (over_two Concat (constant (constant_named (codes "u") (bit_vector 64))) (constant (constant_named (codes "v") (bit_vector 64))))) ∷ []
+    (over_two Equal
+    (over_two Concat (constant (constant_named (codes "u") (bit_vector 64))) (constant (constant_named (codes "v") (bit_vector 64))))
+    (over_two Concat (constant (constant_named (codes "u") (bit_vector 64))) (constant (constant_named (codes "v") (bit_vector 64))))) ∷ []
 unfolding is_command_word is_reserved supported is_theory_name is_theory_sort is_reserved_for_declaring is_reserved_for_let is_reserved_for_sorts operator_named written_rank build rank op_eq
 wide_vectors = refl
 

@@ -5,7 +5,7 @@ use Rattle.smt_terms.specs.Equal.{op_eq}
 use Rattle.smt_terms.specs.Rank.{rank}
 use Rattle.smt_terms.specs.Written.{operator_named, written_rank, build}
 use Rattle.script_read.specs.Outlines.{supported}
-use Rattle.smt_terms.specs.declared.op.Op.TheVariants.{Equal, Lt, BvUlt, Not, And}
+use Rattle.smt_terms.specs.declared.op.Op.TheVariants.{Equal, Lt, BvUlt, Not}
 use Rattle.smt_terms.specs.Sorts.{Symbol, bool, int, bit_vector, free_sort}
 use Rattle.smt_terms.specs.Term.{constant}
 use Rattle.script_read.specs.Commands.{checked, assumed, ended, Signature, kinds, live, literals, signature, checks}

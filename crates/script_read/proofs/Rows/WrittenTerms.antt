@@ -5,8 +5,8 @@ use Rattle.smt_terms.specs.Equal.{op_eq}
 use Rattle.smt_terms.specs.Rank.{rank}
 use Rattle.smt_terms.specs.Written.{operator_named, written_rank, build}
 use Rattle.script_read.specs.Outlines.{supported}
-use Rattle.smt_terms.specs.declared.op.Op.TheVariants.{Not, And, Or, Xor, Implies, Equal, Distinct, Ite, Neg, Sub, Add, Mul, Div, Mod, Abs, Le, Lt, Concat, Extract, BvNot, BvAnd, BvOr, BvXor, BvAdd, BvComp, BvUlt, BvSle, ZeroExt, SignExt, RotL, RotR, Select, Store}
-use Rattle.smt_terms.specs.Sorts.{Sort, bool, int, bit_vector, array}
+use Rattle.smt_terms.specs.declared.op.Op.TheVariants.{And, Or, Xor, Implies, Equal, Distinct, Ite, Neg, Sub, Add, Mul, Div, Mod, Abs, Le, Lt, Concat, Extract, BvNot, BvAnd, BvOr, BvXor, BvComp, BvUlt, BvSle, ZeroExt, SignExt, RotL, RotR, Select, Store}
+use Rattle.smt_terms.specs.Sorts.{bool, int, bit_vector, array}
 use Rattle.smt_terms.specs.Term.{op, const_array, Term, apply, none, ◌⨾◌, constant}
 use Rattle.script_read.specs.Commands.{live}
 use Rattle.script_read.proofs.Rows.Given.{read_as, constant_named, whole, bits, over_one, over_two, over_three}

@@ -1,0 +1,20 @@
+//! The laws of reading, each the contract of a function that does nothing.
+
+ghost use Rattle.script_read.specs.Laws.{ReadingNames, SameCommands, PointsAgree, ReadingAnswers};
+
+/// A text is accepted exactly where there is no reason against it.
+pub fn reading_answers()
+    ensures { ReadingAnswers }
+{}
+
+/// Reading a term binds the names that its form gives, and nothing else.
+pub fn reading_binds_names()
+    ensures { ReadingNames }
+{}
+
+/// The commands with terms of an accepted text are those with its forms, one by one; so they have the same points, with
+/// the same signatures and as many live assertions.
+pub fn terms_and_forms_agree()
+    ensures commands { SameCommands }
+    ensures points { PointsAgree }
+{}
