@@ -11,14 +11,14 @@ use Rattle.script_read.specs.declared.causes.Cause.{Cause}
 use Rattle.script_read.specs.declared.causes.Cause.TheVariants.{WrongSort, BadForm, Redeclared, ReservedName}
 use Rattle.script_read.specs.Refusals.{Refused, unless, mapped}
 use Rattle.script_read.specs.Parts.{Opening, let_word, quantifier_word, annotation_word, index_word, head, opening, symbol_in, are_attributes, named_parts, place_of}
-use Rattle.script_read.specs.Heads.{Callee, written, filling, declared, defined, operandless, expanded, applied, callee_of, atom_term, vector_constant}
+use Rattle.script_read.specs.Heads.{Callee, written, array_of_sort, called, defined, operandless, expanded, applied, callee_of, atom_term, vector_constant}
 use Rattle.script_read.specs.Laws.{LeadsTo}
 use Rattle.script_read.specs.Mean.{accepted_or, quantified_variables}
 use Rattle.script_read.specs.Read.{Context, with_local, is_empty, let_name, below_quantifier, renamed, draws_names, has_sort, quantified_over, read, read_list, read_bindings, read_all, is_given, term_name, term_names, term_name_in, mentions_local, annotated, with_quantified, constant_names, name_drawn_if, is_taken}
 use Rattle.script_read.specs.Reading.{ReadLocal, lets_as, as_local, ReadBinding, named_as, as_bindings, Sofar, Reading, continued, ◌>>=◌, gives, refused_if, beside, by_live, binds, live_sorts}
 use Rattle.script_read.specs.Scenes.{names_among, with_names, quantified_locals, naming, naming_list, naming_parts, naming_all}
-use Rattle.script_read.specs.Scope.{lets, Binding, live_sort}
-use Rattle.script_read.specs.Variables.{quantifier, variables_in}
+use Rattle.script_read.specs.Scope.{let_names, Binding, live_sort}
+use Rattle.script_read.specs.Variables.{quantifier_binder, variables_in}
 use Rattle.script_read.proofs.Outcomes.{and_then_ok, mapped_ok}
 
 -- ---- readings one behind the other
@@ -48,8 +48,8 @@ expanded_leads place xs t ts (Err e) s = tt
 
 pub applied_leads : (callee : Callee) (place : ℕ) (ts : List Term) (s : Sofar) → LeadsTo (applied callee place ts s) (as_bindings s.live)
 applied_leads (written w) place ts s = decided_last _ s
-applied_leads (filling to) place ts s = decided_last _ s
-applied_leads (declared f) place ts s = decided_last _ s
+applied_leads (array_of_sort to) place ts s = decided_last _ s
+applied_leads (called f) place ts s = decided_last _ s
 applied_leads (defined xs t) place ts s = expanded_leads place xs t ts _ s
 applied_leads operandless place ts s = tt
 
@@ -120,7 +120,7 @@ abbrev behind_names : Context → List Variable → Sofar → Sofar
 behind_names c xs s = record s { supply = (names_for c xs s).1 }
 
 -- the locals below a quantifier, without terms
-below : (c : Context) (s : Sofar) (bs : Forms) (xs : List Variable) → variables_in quantifier (live_sorts s.live) [] bs ≡ Ok xs → map as_local (with_quantified xs (names_for c xs s).0 c.locals) ≡ quantified_locals (quantified_variables (live_sort (as_bindings s.live)) bs) (map as_local c.locals)
+below : (c : Context) (s : Sofar) (bs : Forms) (xs : List Variable) → variables_in quantifier_binder (live_sorts s.live) [] bs ≡ Ok xs → map as_local (with_quantified xs (names_for c xs s).0 c.locals) ≡ quantified_locals (quantified_variables (live_sort (as_bindings s.live)) bs) (map as_local c.locals)
 below c s bs xs h =
     locals_agree xs (is_taken c.locals s.live) s.supply c.locals ∙ ap (λ ys. quantified_locals ys (map as_local c.locals)) (sym (ap (accepted_or []) h))
 
@@ -135,19 +135,19 @@ mutual
   list_leads : (o : Opening) (fs : Forms) (place : ℕ) (c : Context) (s : Sofar) → LeadsTo (read_list o fs place c s) (naming_list o fs (map as_local c.locals) (as_bindings s.live))
   list_leads let_word (node part bs ⨾ body ⨾ none) place c s =
       unless_refused (is_empty bs) BadForm place (read_bindings bs [] c >>= (λ ts. read body (with_local (lets_as bs ts) c))) s
-      (naming body (lets bs ∷ map as_local c.locals) (naming_parts bs (map as_local c.locals) (as_bindings s.live)))
+      (naming body (let_names bs ∷ map as_local c.locals) (naming_parts bs (map as_local c.locals) (as_bindings s.live)))
       (then_leads (read_bindings bs [] c s) (λ ts. read body (with_local (lets_as bs ts) c))
       (naming_parts bs (map as_local c.locals) (as_bindings s.live))
-      (naming body (lets bs ∷ map as_local c.locals) (naming_parts bs (map as_local c.locals) (as_bindings s.live)))
+      (naming body (let_names bs ∷ map as_local c.locals) (naming_parts bs (map as_local c.locals) (as_bindings s.live)))
       (bindings_lead bs [] c s)
-      (λ ts s' e. moved (read body (with_local (lets_as bs ts) c) s') (naming body (lets bs ∷ map as_local c.locals)) (as_bindings s'.live)
+      (λ ts s' e. moved (read body (with_local (lets_as bs ts) c) s') (naming body (let_names bs ∷ map as_local c.locals)) (as_bindings s'.live)
       (naming_parts bs (map as_local c.locals) (as_bindings s.live)) e (read_leads body (with_local (lets_as bs ts) c) s')))
   list_leads let_word _ place c s = tt
   list_leads (quantifier_word q) (node part bs ⨾ body ⨾ none) place c s =
       let final : List Binding = naming body (quantified_locals (quantified_variables (live_sort (as_bindings s.live)) bs) (map as_local c.locals)) (as_bindings s.live) in
       let sorted : List Variable → Reading Term = λ xs. draws_names c xs >>= (λ ns. read body (below_quantifier xs ns c) >>= (λ t. quantified_over place q (renamed xs ns) t)) in
-      unless_refused (is_empty bs) BadForm place (by_live (λ live. variables_in quantifier (live_sorts live) [] bs) >>= sorted) s final
-      (decided (variables_in quantifier (live_sorts s.live) [] bs) sorted s final (λ xs h.
+      unless_refused (is_empty bs) BadForm place (by_live (λ live. variables_in quantifier_binder (live_sorts live) [] bs) >>= sorted) s final
+      (decided (variables_in quantifier_binder (live_sorts s.live) [] bs) sorted s final (λ xs h.
       then_leads (read body (below_quantifier xs (names_for c xs s).0 c) (behind_names c xs s)) (λ t. quantified_over place q (renamed xs (names_for c xs s).0) t) final final
       (subst (λ ks. LeadsTo (read body (below_quantifier xs (names_for c xs s).0 c) (behind_names c xs s)) (naming body ks (as_bindings s.live))) (below c s bs xs h)
       (read_leads body (below_quantifier xs (names_for c xs s).0 c) (behind_names c xs s)))

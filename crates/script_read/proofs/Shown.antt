@@ -11,17 +11,17 @@ use Rattle.script_read.specs.declared.causes.Cause.TheVariants.{WrongSort, BadFo
 use Rattle.script_read.specs.Refusals.{Refused, and_then, unless, mapped, given}
 use Rattle.script_read.specs.Parts.{place_of, symbol_in, is_name}
 use Rattle.script_read.specs.SortForms.{sort_in, sorts_in}
-use Rattle.script_read.specs.Variables.{definition, variables_in}
+use Rattle.script_read.specs.Variables.{definition_binder, variables_in}
 use Rattle.script_read.specs.Commands.{Command, declare_sort, declare, assert, check_assuming, push, pop, globals}
 use Rattle.script_read.specs.Heads.{parameters_from}
 use Rattle.script_read.specs.Laws.{LeadsTo, blank, bare}
 use Rattle.script_read.specs.Mean.{accepted_or}
-use Rattle.script_read.specs.Outlines.{At, Outline, passing, sort_declaration, sort_definition, declaration, assertion, assuming, pushing, popping, resetting, resetting_assertions, ending, levels_written, globals as globals_option, definition as definition_outline, check as checking}
+use Rattle.script_read.specs.Outlines.{At, Outline, passing, sort_declaration, sort_definition, symbol_declaration, assertion, assuming, pushing, popping, resetting, resetting_assertions, ending, levels_written, global_option, symbol_definition, checking}
 use Rattle.script_read.specs.Read.{has_sort, read}
 use Rattle.script_read.specs.Reading.{ReadLocal, parameter_as, as_local, ReadBinding, sort_known, level_known, as_binding, as_bindings, is_level_known, Sofar, live_sorts, entry_of}
 use Rattle.script_read.specs.Scenes.{Asserted, Scene, literals_meant, is_true_symbol, naming, seen, sort_meant, sorts_meant, symbol_meant, parameters_meant, parameter_locals, with_definition}
 use Rattle.script_read.specs.Scope.{Binding, sort_name, function, level, is_level, opened, closed, merged, flattened, popped, emptied, definition as definition_binding}
-use Rattle.script_read.specs.Script.{Standing, Step, live_of, begun_with, declarable, sort_declarable, declares_sort, without_parameters, defines_sort, declares, symbol_of_sorts, declares_symbol, body_context, of_sort, read_body, defines_symbol, no_context, with_assertion, asserts, literal, literals_in, assumes, most_levels, open_levels, place_or, pushed_unless, pops, truth_named, truth_in, sets_globals, step, parameter_locals as read_parameters, with_definition as read_definition}
+use Rattle.script_read.specs.Script.{Standing, Step, live_of, begun_with, declarable, sort_declarable, declares_sort, without_parameters, defines_sort, declares, symbol_of_sorts, declares_symbol, body_context, of_sort, read_body, defines_symbol, no_context, asserted_with, asserts, literal, literals_in, assumes, most_levels, open_levels, place_or, pushed_unless, pops, truth_named, truth_in, sets_globals, step, parameters_read, defined_with}
 use Rattle.script_read.proofs.Bindings.{read_leads}
 use Rattle.script_read.proofs.Outcomes.{and_then_ok, mapped_ok}
 
@@ -110,7 +110,7 @@ sets_shows place (Some b) v s h =
 
 -- ---- parameters
 
-parameters_agree : (i : ℕ) (xs : List Variable) (ls : List ReadLocal) → map as_local (read_parameters xs (parameters_from i xs) ls) ≡ parameter_locals xs (map as_local ls)
+parameters_agree : (i : ℕ) (xs : List Variable) (ls : List ReadLocal) → map as_local (parameters_read xs (parameters_from i xs) ls) ≡ parameter_locals xs (map as_local ls)
 parameters_agree i [] ls = refl
 parameters_agree i (x ∷ xs) ls = parameters_agree (suc i) xs (parameter_as x (parameter i x.sort).name ∷ ls)
 
@@ -192,7 +192,7 @@ leads_ok r p bs h k = subst (λ x. LeadsTo x bs) h k
 
 asserts_shows : (f : Form) (s : Standing) → Shows (asserts f s) (assert (suc s.asserted) (record { form = f; bindings = naming f [] (bindings_of s) }) ∷ [], mk (naming f [] (bindings_of s)) s.global (suc s.asserted))
 asserts_shows f s =
-    mapped_shows (with_assertion s) (of_sort bool (place_of f) (read f no_context s.sofar)) (assert (suc s.asserted) (record { form = f; bindings = naming f [] (bindings_of s) }) ∷ [], mk (naming f [] (bindings_of s)) s.global (suc s.asserted))
+    mapped_shows (asserted_with s) (of_sort bool (place_of f) (read f no_context s.sofar)) (assert (suc s.asserted) (record { form = f; bindings = naming f [] (bindings_of s) }) ∷ [], mk (naming f [] (bindings_of s)) s.global (suc s.asserted))
     (λ p h. (
       refl,
       ap (λ bs. mk bs s.global (suc s.asserted))
@@ -201,13 +201,13 @@ asserts_shows f s =
 
 body_leads : (n : Name) (xs : List Variable) (to : Sort) (body : Form) (s : Standing) (p : Term × Sofar) → of_sort to (place_of body) (read body (body_context n xs) s.sofar) ≡ Ok p → as_bindings p.1.live ≡ naming body (parameter_locals xs []) (bindings_of s)
 body_leads n xs to body s p h =
-    leads_ok (read body (body_context n xs) s.sofar) p (naming body (map as_local (read_parameters xs (parameters_from 0 xs) [])) (bindings_of s))
+    leads_ok (read body (body_context n xs) s.sofar) p (naming body (map as_local (parameters_read xs (parameters_from 0 xs) [])) (bindings_of s))
     (of_sort_ok to (place_of body) (read body (body_context n xs) s.sofar) p h) (read_leads body (body_context n xs) s.sofar)
     ∙ ap (λ ls. naming body ls (bindings_of s)) (parameters_agree 0 xs [])
 
 read_body_shows : (n : Name) (xs ys : List Variable) (to : Sort) (body : Form) (s : Standing) → xs ≡ ys → Shows (read_body n xs to body s) ([], mk (with_definition n ys body (bindings_of s)) s.global s.asserted)
 read_body_shows n xs ys to body s same =
-    mapped_shows (read_definition n xs body s) (of_sort to (place_of body) (read body (body_context n xs) s.sofar)) ([], mk (with_definition n ys body (bindings_of s)) s.global s.asserted)
+    mapped_shows (defined_with n xs body s) (of_sort to (place_of body) (read body (body_context n xs) s.sofar)) ([], mk (with_definition n ys body (bindings_of s)) s.global s.asserted)
     (λ p h. (
       refl,
       ap (λ bs. mk (definition_binding n xs body ∷ bs) s.global s.asserted) (body_leads n xs to body s p h)
@@ -218,8 +218,8 @@ defines_symbol_shows : (n : At Name) (parameters : Forms) (f body : Form) (s : S
 defines_symbol_shows n parameters f body s =
     let q : List (Command Asserted) × Scene = ([], mk (with_definition n.it (parameters_meant (bindings_of s) parameters) body (bindings_of s)) s.global s.asserted) in
     let result : List Variable → Step = λ xs. and_then (λ to. read_body n.it xs to body s) (sort_in (live_sorts (live_of s)) f) in
-    declarable_shows (live_of s) n (and_then result (variables_in definition (live_sorts (live_of s)) [] parameters)) q
-    (then_shows result (variables_in definition (live_sorts (live_of s)) [] parameters) q (λ xs h.
+    declarable_shows (live_of s) n (and_then result (variables_in definition_binder (live_sorts (live_of s)) [] parameters)) q
+    (then_shows result (variables_in definition_binder (live_sorts (live_of s)) [] parameters) q (λ xs h.
     then_shows (λ to. read_body n.it xs to body s) (sort_in (live_sorts (live_of s)) f) q (λ to _.
     read_body_shows n.it xs (parameters_meant (bindings_of s) parameters) to body s (sym (ap (accepted_or []) h)))))
 
@@ -246,11 +246,11 @@ pops_shows command place n s =
 
 pub step_shows : (place : ℕ) (text : List ℕ) (s : Standing) (o : Outline) → Shows (step place text s o) (seen text (scene_of s) o)
 step_shows place text s passing = (refl, refl)
-step_shows place text s (globals_option f) = sets_shows place (truth_in f) (is_true_symbol f) s (truth_of_form f)
+step_shows place text s (global_option f) = sets_shows place (truth_in f) (is_true_symbol f) s (truth_of_form f)
 step_shows place text s (sort_declaration n arity) = declares_sort_shows n arity s
 step_shows place text s (sort_definition n parameters f) = defines_sort_shows n parameters f s
-step_shows place text s (declaration n arguments f) = declares_symbol_shows n arguments f s
-step_shows place text s (definition_outline n parameters f body) = defines_symbol_shows n parameters f body s
+step_shows place text s (symbol_declaration n arguments f) = declares_symbol_shows n arguments f s
+step_shows place text s (symbol_definition n parameters f body) = defines_symbol_shows n parameters f body s
 step_shows place text s (assertion f) = asserts_shows f s
 step_shows place text s checking = (refl, refl)
 step_shows place text s (assuming fs) = assumes_shows fs s

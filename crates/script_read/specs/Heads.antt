@@ -53,10 +53,10 @@ symbol_term place n (Some t) entry = Ok t
 symbol_term place n None entry = live_symbol place n entry
 
 -- a constant that is a token
-abbrev pub constant_term : ℕ → Op → Result Term Refused
-constant_term place (Whole n) = unless (nat_lt greatest_number (nat_abs n)) NumberLimit place (Ok (apply (op (Whole n)) no_terms))
-constant_term place (Bits w n) = unless (nat_lt most_bits w) WidthLimit place (Ok (apply (op (Bits w n)) no_terms))
-constant_term place _ = at BadForm place
+abbrev pub token_constant : ℕ → Op → Result Term Refused
+token_constant place (Whole n) = unless (nat_lt greatest_number (nat_abs n)) NumberLimit place (Ok (apply (op (Whole n)) no_terms))
+token_constant place (Bits w n) = unless (nat_lt most_bits w) WidthLimit place (Ok (apply (op (Bits w n)) no_terms))
+token_constant place _ = at BadForm place
 
 -- of what is neither a constant nor a symbol, decimals are reals
 abbrev pub other_atom : ℕ → Item → Result Term Refused
@@ -68,7 +68,7 @@ name_or_other locals live t (Some n) = symbol_term t.start n (bound_as locals n)
 name_or_other locals live t None = other_atom t.start t.item
 
 abbrev pub atom_by : List ReadLocal → List ReadBinding → Token → Option Op → Result Term Refused
-atom_by locals live t (Some o) = constant_term t.start o
+atom_by locals live t (Some o) = token_constant t.start o
 atom_by locals live t None = name_or_other locals live t (symbol_of t)
 
 -- the term that a token is
@@ -102,8 +102,8 @@ vector_constant place _ = at BadForm place
 pub data Callee : Type 0 where
   written : Written → Callee
   -- the constant array of a sort
-  filling : Sort → Callee
-  declared : Symbol → Callee
+  array_of_sort : Sort → Callee
+  called : Symbol → Callee
   defined : List Variable → Term → Callee
   -- what takes no operands
   operandless : Callee
@@ -138,7 +138,7 @@ theory_head place n fs indices None =
 -- a live name takes no index
 abbrev pub live_head : ℕ → Name → Forms → List ℕ → Option Entry → Result Callee Refused
 live_head place n fs indices None = theory_head place n fs indices (operator_named n)
-live_head place n fs [] (Some (symbol_entry f)) = Ok (declared f)
+live_head place n fs [] (Some (symbol_entry f)) = Ok (called f)
 live_head place n fs [] (Some (definition_entry xs t)) = Ok (defined xs t)
 live_head place n fs [] (Some (term_entry t)) = Ok operandless
 live_head place n fs (i ∷ is) (Some entry) = at BadForm place
@@ -156,7 +156,7 @@ indexed_head locals live place fs _ _ = at BadForm place
 -- `(as const S)`
 abbrev pub filling_head : List ReadBinding → ℕ → Forms → Result Callee Refused
 filling_head live place (f ⨾ s ⨾ none) =
-    if is_name (codes "const") (symbol_in f) then mapped filling (sort_in (live_sorts live) s) else at BadForm place
+    if is_name (codes "const") (symbol_in f) then mapped array_of_sort (sort_in (live_sorts live) s) else at BadForm place
 filling_head live place _ = at BadForm place
 
 abbrev pub list_head : List ReadLocal → List ReadBinding → ℕ → Option Name → Forms → Result Callee Refused
@@ -178,12 +178,12 @@ callee_of locals (node place (f ⨾ fs)) live = list_head locals live place (wor
 
 -- ---- applications
 
-abbrev pub width_of : Term → ℕ
-width_of t = width (unwrap_or (sort_of t) bool)
+abbrev pub term_width : Term → ℕ
+term_width t = width (unwrap_or (sort_of t) bool)
 
 -- terms, of which a unary minus over a constant is the constant
 abbrev pub term_algebra : Algebra Term
-term_algebra = record { apply = λ o ts. made (op o) (terms ts); width = width_of }
+term_algebra = record { make = λ o ts. made (op o) (terms ts); width_in = term_width }
 
 abbrev pub operand_sorts : List Term → List Sort
 operand_sorts ts = unwrap_or (sorts_of (terms ts)) []
@@ -213,7 +213,7 @@ rank_of_arguments xs ts = rank (symbol (record { name = []; args = map (λ x. x.
 -- the application to operands that were read
 abbrev pub applied : Callee → ℕ → List Term → Reading Term
 applied (written w) place ts = by_rule (where_ranked place (written_rank w (operand_sorts ts)) (build term_algebra w ts))
-applied (filling s) place ts = by_rule (where_ranked place (rank (const_array s) (operand_sorts ts)) (over (const_array s) ts))
-applied (declared f) place ts = by_rule (where_ranked place (rank (symbol f) (operand_sorts ts)) (over (symbol f) ts))
+applied (array_of_sort s) place ts = by_rule (where_ranked place (rank (const_array s) (operand_sorts ts)) (over (const_array s) ts))
+applied (called f) place ts = by_rule (where_ranked place (rank (symbol f) (operand_sorts ts)) (over (symbol f) ts))
 applied (defined xs t) place ts = expanded place xs t ts (rank_of_arguments xs ts)
 applied operandless place ts = by_rule (at WrongArity place)

@@ -17,9 +17,9 @@ use Rattle.smt_terms.specs.Values.{Value, truth, table, no_pairs, Sizes, is_true
 use Rattle.smt_terms.specs.Written.{Written, Algebra, build, written_named}
 use Rattle.script_read.specs.Refusals.{Refused}
 use Rattle.script_read.specs.Parts.{symbol_in, word_in, is_name, numeral_in, numerals_in, constant_by, vector_number, Opening, let_word, quantifier_word, annotation_word, index_word, head, opening}
-use Rattle.script_read.specs.Scope.{Local, lets, quantified, parameter, Binding, sort_name, function, definition, named, level}
+use Rattle.script_read.specs.Scope.{Local, let_names, quantified_name, parameter_name, Binding, sort_name, function, definition, named, level}
 use Rattle.script_read.specs.SortForms.{Sorts, sort_in}
-use Rattle.script_read.specs.Variables.{quantifier, variables_in}
+use Rattle.script_read.specs.Variables.{quantifier_binder, variables_in}
 
 -- a value and its sort, if it has one
 abbrev pub Denoted : Type 0
@@ -47,24 +47,24 @@ denoted_or None otherwise = otherwise
 abbrev pub values_of : List Denoted → List Value
 values_of ds = map (λ d. d.0) ds
 
-abbrev pub sorts_of : List Denoted → Option (List Sort)
-sorts_of [] = Some []
-sorts_of (d ∷ ds) = with_sort d.1 (sorts_of ds)
+abbrev pub sorts_denoted : List Denoted → Option (List Sort)
+sorts_denoted [] = Some []
+sorts_denoted (d ∷ ds) = with_sort d.1 (sorts_denoted ds)
 
 abbrev pub over_op : Model → Op → List Denoted → Denoted
-over_op m o ds = (op_value (background m) o (unwrap_or (sorts_of ds) []) (values_of ds), sort_over (op o) (sorts_of ds))
+over_op m o ds = (op_value (background m) o (unwrap_or (sorts_denoted ds) []) (values_of ds), sort_over (op o) (sorts_denoted ds))
 
 abbrev pub over_symbol : Model → Symbol → List Denoted → Denoted
-over_symbol m f ds = (symbol_value m f (values_of ds), sort_over (symbol f) (sorts_of ds))
+over_symbol m f ds = (symbol_value m f (values_of ds), sort_over (symbol f) (sorts_denoted ds))
 
 abbrev pub over_array : Sort → List Denoted → Denoted
-over_array s ds = (table (first_value (values_of ds)) no_pairs, sort_over (const_array s) (sorts_of ds))
+over_array s ds = (table (first_value (values_of ds)) no_pairs, sort_over (const_array s) (sorts_denoted ds))
 
-abbrev pub width_of : Denoted → ℕ
-width_of d = width (unwrap_or d.1 bool)
+abbrev pub denoted_width : Denoted → ℕ
+denoted_width d = width (unwrap_or d.1 bool)
 
 abbrev pub value_algebra : Model → Algebra Denoted
-value_algebra m = record { apply = over_op m; width = width_of }
+value_algebra m = record { make = over_op m; width_in = denoted_width }
 
 abbrev pub over_written : Model → Option Written → List Denoted → Denoted
 over_written m (Some w) ds = build (value_algebra m) w ds
@@ -82,14 +82,14 @@ abbrev pub with_all : List (Name × Denoted) → Meaning → Meaning
 with_all [] e = e
 with_all (p ∷ ps) e = with_bound p.0 p.1 (with_all ps e)
 
-abbrev pub of_sort : Value → Sort → Denoted
-of_sort v s = (v, Some s)
+abbrev pub denoted_as : Value → Sort → Denoted
+denoted_as v s = (v, Some s)
 
 -- a test under all choices of values for variables, or under some choice, the variables from the first to the last
 abbrev pub over_variables : Quantifier → List Variable → Sizes → (Meaning → Bool) → Meaning → Bool
 over_variables q [] sizes test e = test e
 over_variables q (x ∷ xs) sizes test e =
-    over_values q x.sort sizes (λ v. over_variables q xs sizes test (with_bound x.name (of_sort v x.sort) e))
+    over_values q x.sort sizes (λ v. over_variables q xs sizes test (with_bound x.name (denoted_as v x.sort) e))
 
 abbrev pub accepted_or : {A E : Type 0} → A → Result A E → A
 accepted_or otherwise (Ok a) = a
@@ -97,7 +97,7 @@ accepted_or otherwise (Err e) = otherwise
 
 -- the variables of a quantifier
 abbrev pub quantified_variables : Sorts → Forms → List Variable
-quantified_variables sorts fs = accepted_or [] (variables_in quantifier sorts [] fs)
+quantified_variables sorts fs = accepted_or [] (variables_in quantifier_binder sorts [] fs)
 
 -- ---- symbols
 
@@ -163,7 +163,7 @@ head_means (node place (f ⨾ fs)) e m ds = list_head_means e m (word_in f) fs d
 -- ---- forms
 
 abbrev pub quantifier_means : Quantifier → List Variable → Sizes → (Meaning → Denoted) → Meaning → Denoted
-quantifier_means q xs sizes body e = of_sort (truth (over_variables q xs sizes (λ e'. is_true_of (body e')) e)) bool
+quantifier_means q xs sizes body e = denoted_as (truth (over_variables q xs sizes (λ e'. is_true_of (body e')) e)) bool
 
 abbrev pub let_pair : Option Name → Denoted → List (Name × Denoted) → List (Name × Denoted)
 let_pair (Some n) d ps = (n, d) ∷ ps
@@ -198,9 +198,9 @@ abbrev mutual
 
 -- quantified names and parameters have their sort's default value: no name of a term mentions them
 abbrev pub with_local : Local → Model → Meaning → Meaning
-with_local (lets fs) m e = with_all (mean_bindings fs e m) e
-with_local (quantified x) m e = with_bound x.name (of_sort (default_value x.sort) x.sort) e
-with_local (parameter x) m e = with_bound x.name (of_sort (default_value x.sort) x.sort) e
+with_local (let_names fs) m e = with_all (mean_bindings fs e m) e
+with_local (quantified_name x) m e = with_bound x.name (denoted_as (default_value x.sort) x.sort) e
+with_local (parameter_name x) m e = with_bound x.name (denoted_as (default_value x.sort) x.sort) e
 
 abbrev pub with_locals : List Local → Model → Meaning → Meaning
 with_locals [] m e = e

@@ -15,34 +15,34 @@ pub record At (A : Type 0) : Type 0 where
 -- ---- the commands that are supported
 
 pub data CommandWord : Type 0 where
-  set_logic : CommandWord
-  set_info : CommandWord
-  set_option : CommandWord
-  get_info : CommandWord
-  get_option : CommandWord
-  echo : CommandWord
-  get_model : CommandWord
-  declare_sort : CommandWord
-  define_sort : CommandWord
-  declare_const : CommandWord
-  declare_fun : CommandWord
-  define_fun : CommandWord
-  assert : CommandWord
-  check_sat : CommandWord
-  check_sat_assuming : CommandWord
-  push : CommandWord
-  pop : CommandWord
-  reset : CommandWord
-  reset_assertions : CommandWord
-  exit : CommandWord
+  set_logic_word : CommandWord
+  set_info_word : CommandWord
+  set_option_word : CommandWord
+  get_info_word : CommandWord
+  get_option_word : CommandWord
+  echo_word : CommandWord
+  get_model_word : CommandWord
+  declare_sort_word : CommandWord
+  define_sort_word : CommandWord
+  declare_const_word : CommandWord
+  declare_fun_word : CommandWord
+  define_fun_word : CommandWord
+  assert_word : CommandWord
+  check_sat_word : CommandWord
+  check_sat_assuming_word : CommandWord
+  push_word : CommandWord
+  pop_word : CommandWord
+  reset_word : CommandWord
+  reset_assertions_word : CommandWord
+  exit_word : CommandWord
 
 abbrev pub command_table : List (Name × CommandWord)
 command_table =
-    (codes "assert", assert) ∷ (codes "check-sat", check_sat) ∷ (codes "check-sat-assuming", check_sat_assuming) ∷ (codes "declare-const", declare_const)
-    ∷ (codes "declare-fun", declare_fun) ∷ (codes "declare-sort", declare_sort) ∷ (codes "define-fun", define_fun) ∷ (codes "define-sort", define_sort)
-    ∷ (codes "echo", echo) ∷ (codes "exit", exit) ∷ (codes "get-info", get_info) ∷ (codes "get-model", get_model) ∷ (codes "get-option", get_option)
-    ∷ (codes "pop", pop) ∷ (codes "push", push) ∷ (codes "reset", reset) ∷ (codes "reset-assertions", reset_assertions) ∷ (codes "set-info", set_info)
-    ∷ (codes "set-logic", set_logic) ∷ (codes "set-option", set_option) ∷ []
+    (codes "assert", assert_word) ∷ (codes "check-sat", check_sat_word) ∷ (codes "check-sat-assuming", check_sat_assuming_word) ∷ (codes "declare-const", declare_const_word)
+    ∷ (codes "declare-fun", declare_fun_word) ∷ (codes "declare-sort", declare_sort_word) ∷ (codes "define-fun", define_fun_word) ∷ (codes "define-sort", define_sort_word)
+    ∷ (codes "echo", echo_word) ∷ (codes "exit", exit_word) ∷ (codes "get-info", get_info_word) ∷ (codes "get-model", get_model_word) ∷ (codes "get-option", get_option_word)
+    ∷ (codes "pop", pop_word) ∷ (codes "push", push_word) ∷ (codes "reset", reset_word) ∷ (codes "reset-assertions", reset_assertions_word) ∷ (codes "set-info", set_info_word)
+    ∷ (codes "set-logic", set_logic_word) ∷ (codes "set-option", set_option_word) ∷ []
 
 abbrev pub word_among : List (Name × CommandWord) → Name → Option CommandWord
 word_among [] n = None
@@ -57,16 +57,16 @@ pub data Outline : Type 0 where
   -- passed on as it is written
   passing : Outline
   -- `:global-declarations`, with its value if there is one
-  globals : Option Form → Outline
+  global_option : Option Form → Outline
   -- a name and an arity; a name, parameters and a sort
   sort_declaration : At Name → At ℕ → Outline
   sort_definition : At Name → Forms → Form → Outline
   -- a name, the sorts of arguments and of the result
-  declaration : At Name → Forms → Form → Outline
+  symbol_declaration : At Name → Forms → Form → Outline
   -- a name, parameters, the sort of the result and the body
-  definition : At Name → Forms → Form → Form → Outline
+  symbol_definition : At Name → Forms → Form → Form → Outline
   assertion : Form → Outline
-  check : Outline
+  checking : Outline
   assuming : Forms → Outline
   -- a number of levels, where one is written
   pushing : Option (At ℕ) → Outline
@@ -108,34 +108,34 @@ is_globals (Some k) = bytes_eq k (codes ":global-declarations")
 
 -- a keyword and at most one form
 abbrev pub option_shape : Form → Option Form → Option Outline
-option_shape k f = where_so (is_keyword k) (cond (is_globals (keyword_in k)) (globals f) passing)
+option_shape k f = where_so (is_keyword k) (cond (is_globals (keyword_in k)) (global_option f) passing)
 
 -- the outline of a command from the forms behind its word, if they have its shape
 abbrev pub shape : CommandWord → Forms → Option Outline
-shape set_logic (w ⨾ none) = where_so (is_symbol w) passing
-shape set_info (k ⨾ none) = where_so (is_keyword k) passing
-shape set_info (k ⨾ f ⨾ none) = where_so (is_keyword k) passing
-shape set_option (k ⨾ none) = option_shape k None
-shape set_option (k ⨾ f ⨾ none) = option_shape k (Some f)
-shape get_info (k ⨾ none) = where_so (is_keyword k) passing
-shape get_option (k ⨾ none) = where_so (is_keyword k) passing
-shape echo (t ⨾ none) = where_so (is_text t) passing
-shape get_model none = Some passing
-shape declare_sort (n ⨾ i ⨾ none) = of_both sort_declaration (symbol_at n) (numeral_at i)
-shape define_sort (n ⨾ ps ⨾ s ⨾ none) = of_both (λ name parameters. sort_definition name parameters s) (symbol_at n) (list_in ps)
-shape declare_const (n ⨾ s ⨾ none) = option_map (λ name. declaration name none s) (symbol_at n)
-shape declare_fun (n ⨾ ss ⨾ s ⨾ none) = of_both (λ name arguments. declaration name arguments s) (symbol_at n) (list_in ss)
-shape define_fun (n ⨾ ps ⨾ s ⨾ t ⨾ none) = of_both (λ name parameters. definition name parameters s t) (symbol_at n) (list_in ps)
-shape assert (t ⨾ none) = Some (assertion t)
-shape check_sat none = Some check
-shape check_sat_assuming (ls ⨾ none) = option_map assuming (list_in ls)
-shape push none = Some (pushing None)
-shape push (i ⨾ none) = option_map (λ n. pushing (Some n)) (numeral_at i)
-shape pop none = Some (popping None)
-shape pop (i ⨾ none) = option_map (λ n. popping (Some n)) (numeral_at i)
-shape reset none = Some resetting
-shape reset_assertions none = Some resetting_assertions
-shape exit none = Some ending
+shape set_logic_word (w ⨾ none) = where_so (is_symbol w) passing
+shape set_info_word (k ⨾ none) = where_so (is_keyword k) passing
+shape set_info_word (k ⨾ f ⨾ none) = where_so (is_keyword k) passing
+shape set_option_word (k ⨾ none) = option_shape k None
+shape set_option_word (k ⨾ f ⨾ none) = option_shape k (Some f)
+shape get_info_word (k ⨾ none) = where_so (is_keyword k) passing
+shape get_option_word (k ⨾ none) = where_so (is_keyword k) passing
+shape echo_word (t ⨾ none) = where_so (is_text t) passing
+shape get_model_word none = Some passing
+shape declare_sort_word (n ⨾ i ⨾ none) = of_both sort_declaration (symbol_at n) (numeral_at i)
+shape define_sort_word (n ⨾ ps ⨾ s ⨾ none) = of_both (λ name parameters. sort_definition name parameters s) (symbol_at n) (list_in ps)
+shape declare_const_word (n ⨾ s ⨾ none) = option_map (λ name. symbol_declaration name none s) (symbol_at n)
+shape declare_fun_word (n ⨾ ss ⨾ s ⨾ none) = of_both (λ name arguments. symbol_declaration name arguments s) (symbol_at n) (list_in ss)
+shape define_fun_word (n ⨾ ps ⨾ s ⨾ t ⨾ none) = of_both (λ name parameters. symbol_definition name parameters s t) (symbol_at n) (list_in ps)
+shape assert_word (t ⨾ none) = Some (assertion t)
+shape check_sat_word none = Some checking
+shape check_sat_assuming_word (ls ⨾ none) = option_map assuming (list_in ls)
+shape push_word none = Some (pushing None)
+shape push_word (i ⨾ none) = option_map (λ n. pushing (Some n)) (numeral_at i)
+shape pop_word none = Some (popping None)
+shape pop_word (i ⨾ none) = option_map (λ n. popping (Some n)) (numeral_at i)
+shape reset_word none = Some resetting
+shape reset_assertions_word none = Some resetting_assertions
+shape exit_word none = Some ending
 shape _ _ = None
 
 abbrev pub shaped : ℕ → Forms → Option CommandWord → Result Outline Refused

@@ -13,7 +13,7 @@ use Rattle.smt_terms.specs.Term.{Quantifier, Term, quantified, constant_of}
 use Rattle.script_read.specs.declared.causes.Cause.TheVariants.{WrongSort, BadForm, Redeclared, ReservedName}
 use Rattle.script_read.specs.Refusals.{Refused, at, and_then, unless, mapped}
 use Rattle.script_read.specs.Parts.{place_of, symbol_in, Opening, let_word, quantifier_word, annotation_word, index_word, head, opening, are_attributes, named_parts}
-use Rattle.script_read.specs.Variables.{quantifier, variables_in}
+use Rattle.script_read.specs.Variables.{quantifier_binder, variables_in}
 use Rattle.script_read.specs.Reading.{ReadLocal, lets_as, quantified_as, parameter_as, ReadBinding, named_as, Sofar, live_sorts, entry_of, is_declared, is_quantified, Reading, ◌>>=◌, gives, refuses, refused_if, by_live, by_rule, binds}
 use Rattle.script_read.specs.Heads.{atom_term, vector_constant, callee_of, applied}
 
@@ -143,7 +143,7 @@ abbrev mutual
     read body (with_local (lets_as bs ts) c)
   read_list let_word _ place c = refuses BadForm place
   read_list (quantifier_word q) (node part bs ⨾ body ⨾ none) place c = refused_if (is_empty bs) BadForm place do
-    xs ← by_live (λ live. variables_in quantifier (live_sorts live) [] bs)
+    xs ← by_live (λ live. variables_in quantifier_binder (live_sorts live) [] bs)
     ns ← draws_names c xs
     t ← read body (below_quantifier xs ns c)
     quantified_over place q (renamed xs ns) t

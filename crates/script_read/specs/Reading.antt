@@ -9,7 +9,7 @@ use Rattle.smt_terms.specs.Sorts.{Sort, Symbol, Variable}
 use Rattle.smt_terms.specs.Term.{Term, variable}
 use Rattle.script_read.specs.declared.causes.Cause.{Cause}
 use Rattle.script_read.specs.Refusals.{Refused, at}
-use Rattle.script_read.specs.Scope.{Local, lets, quantified, parameter, Binding, sort_name, function, definition, named, level, or_later, live_sort}
+use Rattle.script_read.specs.Scope.{Local, let_names, quantified_name, parameter_name, Binding, sort_name, function, definition, named, level, or_later, live_sort}
 use Rattle.script_read.specs.SortForms.{Sorts}
 
 -- what a form binds, with what the names are read as: terms, or constants of the variable's sort under this name
@@ -34,9 +34,9 @@ pub record Sofar : Type 0 where
 -- ---- the same without terms
 
 abbrev pub as_local : ReadLocal → Local
-as_local (lets_as fs ts) = lets fs
-as_local (quantified_as x n) = quantified x
-as_local (parameter_as x n) = parameter x
+as_local (lets_as fs ts) = let_names fs
+as_local (quantified_as x n) = quantified_name x
+as_local (parameter_as x n) = parameter_name x
 
 abbrev pub as_binding : ReadBinding → Binding
 as_binding (sort_known n s) = sort_name n s

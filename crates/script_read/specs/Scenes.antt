@@ -8,11 +8,11 @@ use Rattle.smt_terms.specs.Models.{Model}
 use Rattle.smt_terms.specs.Sorts.{Sort, bool, free_sort, Symbol, Variable}
 use Rattle.script_read.specs.Refusals.{Refused}
 use Rattle.script_read.specs.Parts.{symbol_in, is_name, form_text, Opening, let_word, quantifier_word, annotation_word, head, opening, named_parts}
-use Rattle.script_read.specs.Scope.{Local, lets, quantified, parameter, Binding, sort_name, function, named, level, live_sort, is_level, opened, popped, emptied, definition as definition_binding}
+use Rattle.script_read.specs.Scope.{Local, let_names, quantified_name, parameter_name, Binding, sort_name, function, named, level, live_sort, is_level, opened, popped, emptied, definition as definition_binding}
 use Rattle.script_read.specs.SortForms.{sort_in, sorts_in}
-use Rattle.script_read.specs.Variables.{definition, variables_in}
+use Rattle.script_read.specs.Variables.{definition_binder, variables_in}
 use Rattle.script_read.specs.Commands.{Command, passed, declare_sort, declare, assert, check, check_assuming, push, pop, reset, reset_assertions, globals, exit, live, literals}
-use Rattle.script_read.specs.Outlines.{Outline, passing, sort_declaration, sort_definition, declaration, assertion, assuming, pushing, popping, resetting, resetting_assertions, ending, outline, levels_written, globals as globals_option, definition as definition_outline, check as checking}
+use Rattle.script_read.specs.Outlines.{Outline, passing, sort_declaration, sort_definition, symbol_declaration, assertion, assuming, pushing, popping, resetting, resetting_assertions, ending, outline, levels_written, global_option, symbol_definition, checking}
 use Rattle.script_read.specs.Mean.{accepted_or, quantified_variables, is_true_of, mean, meaning}
 
 -- ---- names of terms: each keeps what is bound locally where the annotation ends
@@ -27,7 +27,7 @@ with_names (n ∷ ns) f ls bs = named (n ∷ ns) f ls ∷ bs
 
 abbrev pub quantified_locals : List Variable → List Local → List Local
 quantified_locals [] ls = ls
-quantified_locals (x ∷ xs) ls = quantified_locals xs (quantified x ∷ ls)
+quantified_locals (x ∷ xs) ls = quantified_locals xs (quantified_name x ∷ ls)
 
 abbrev mutual
   -- the bindings behind a form, where these are bound locally and those globally
@@ -37,7 +37,7 @@ abbrev mutual
   naming (node place (f ⨾ fs)) ls bs = naming_list (opening f) fs ls bs
 
   pub naming_list : Opening → Forms → List Local → List Binding → List Binding
-  naming_list let_word (node part ps ⨾ body ⨾ none) ls bs = naming body (lets ps ∷ ls) (naming_parts ps ls bs)
+  naming_list let_word (node part ps ⨾ body ⨾ none) ls bs = naming body (let_names ps ∷ ls) (naming_parts ps ls bs)
   naming_list (quantifier_word q) (node part ps ⨾ body ⨾ none) ls bs =
       naming body (quantified_locals (quantified_variables (live_sort bs) ps) ls) bs
   naming_list annotation_word (f ⨾ attributes) ls bs = with_names (names_among (named_parts attributes)) f ls (naming f ls bs)
@@ -78,14 +78,14 @@ abbrev pub sorts_meant : List Binding → Forms → List Sort
 sorts_meant bs fs = accepted_or [] (sorts_in (live_sort bs) fs)
 
 abbrev pub parameters_meant : List Binding → Forms → List Variable
-parameters_meant bs fs = accepted_or [] (variables_in definition (live_sort bs) [] fs)
+parameters_meant bs fs = accepted_or [] (variables_in definition_binder (live_sort bs) [] fs)
 
 abbrev pub symbol_meant : List Binding → Name → Forms → Form → Symbol
 symbol_meant bs n arguments f = record { name = n; args = sorts_meant bs arguments; result = sort_meant bs f }
 
 abbrev pub parameter_locals : List Variable → List Local → List Local
 parameter_locals [] ls = ls
-parameter_locals (x ∷ xs) ls = parameter_locals xs (parameter x ∷ ls)
+parameter_locals (x ∷ xs) ls = parameter_locals xs (parameter_name x ∷ ls)
 
 -- a definition, behind the names that its body gives
 abbrev pub with_definition : Name → List Variable → Form → List Binding → List Binding
@@ -109,11 +109,11 @@ is_true_symbol (Some f) = is_name (codes "true") (symbol_in f)
 -- the commands that a command's outline gives, none for a definition, and what is bound behind it
 abbrev pub seen : List ℕ → Scene → Outline → List (Command Asserted) × Scene
 seen text s passing = (passed text ∷ [], s)
-seen text s (globals_option f) = (globals (is_true_symbol f) ∷ [], record { bindings = s.bindings; global = is_true_symbol f; asserted = s.asserted })
+seen text s (global_option f) = (globals (is_true_symbol f) ∷ [], record { bindings = s.bindings; global = is_true_symbol f; asserted = s.asserted })
 seen text s (sort_declaration n arity) = (declare_sort n.it ∷ [], with_bindings s (sort_name n.it (free_sort n.it) ∷ s.bindings))
 seen text s (sort_definition n parameters f) = ([], with_bindings s (sort_name n.it (sort_meant s.bindings f) ∷ s.bindings))
-seen text s (declaration n arguments f) = declares s (symbol_meant s.bindings n.it arguments f)
-seen text s (definition_outline n parameters f body) =
+seen text s (symbol_declaration n arguments f) = declares s (symbol_meant s.bindings n.it arguments f)
+seen text s (symbol_definition n parameters f body) =
     ([], with_bindings s (with_definition n.it (parameters_meant s.bindings parameters) body s.bindings))
 seen text s (assertion f) = asserts s f (naming f [] s.bindings)
 seen text s checking = (check ∷ [], s)

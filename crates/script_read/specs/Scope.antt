@@ -9,11 +9,11 @@ use Rattle.smt_terms.specs.Sorts.{Sort, Symbol, Variable}
 -- what a form binds for the forms inside it
 pub data Local : Type 0 where
   -- a `let`: its list of names with their forms; all of them are bound at once
-  lets : Forms → Local
+  let_names : Forms → Local
   -- a name of a quantifier
-  quantified : Variable → Local
+  quantified_name : Variable → Local
   -- a parameter of a definition
-  parameter : Variable → Local
+  parameter_name : Variable → Local
 
 -- what a command binds for those behind it
 pub data Binding : Type 0 where

@@ -15,12 +15,12 @@ use Rattle.script_read.specs.Refusals.{Refused, at, Refusal, Unaccepted, unread,
 use Rattle.script_read.specs.Parts.{place_of, symbol_in, is_name, form_text}
 use Rattle.script_read.specs.Scope.{opened, popped, emptied}
 use Rattle.script_read.specs.SortForms.{sort_in, sorts_in}
-use Rattle.script_read.specs.Variables.{definition, variables_in}
+use Rattle.script_read.specs.Variables.{definition_binder, variables_in}
 use Rattle.script_read.specs.Reading.{ReadLocal, parameter_as, ReadBinding, sort_known, function_known, definition_as, level_known, Sofar, live_sorts, is_level_known, Entry, symbol_entry, entry_of}
 use Rattle.script_read.specs.Heads.{parameters_from}
 use Rattle.script_read.specs.Read.{Context, has_sort, read}
 use Rattle.script_read.specs.Commands.{Command, passed, declare_sort, declare, assert, check, check_assuming, push, pop, reset, reset_assertions, globals, exit}
-use Rattle.script_read.specs.Outlines.{At, Outline, passing, sort_declaration, sort_definition, declaration, assertion, assuming, pushing, popping, resetting, resetting_assertions, ending, outline, levels_written, globals as globals_option, definition as definition_outline, check as checking}
+use Rattle.script_read.specs.Outlines.{At, Outline, passing, sort_declaration, sort_definition, symbol_declaration, assertion, assuming, pushing, popping, resetting, resetting_assertions, ending, outline, levels_written, global_option, symbol_definition, checking}
 
 -- ---- what is known between two commands
 
@@ -89,43 +89,43 @@ declares_symbol n arguments f s =
 -- ---- definitions
 
 -- the parameters, each read as the constant that stands for it, the latest first
-abbrev pub parameter_locals : List Variable → List Symbol → List ReadLocal → List ReadLocal
-parameter_locals (x ∷ xs) (p ∷ ps) ls = parameter_locals xs ps (parameter_as x p.name ∷ ls)
-parameter_locals _ _ ls = ls
+abbrev pub parameters_read : List Variable → List Symbol → List ReadLocal → List ReadLocal
+parameters_read (x ∷ xs) (p ∷ ps) ls = parameters_read xs ps (parameter_as x p.name ∷ ls)
+parameters_read _ _ ls = ls
 
 abbrev pub body_context : Name → List Variable → Context
-body_context n xs = record { locals = parameter_locals xs (parameters_from 0 xs) []; defines = Some n }
+body_context n xs = record { locals = parameters_read xs (parameters_from 0 xs) []; defines = Some n }
 
 -- with what was read, and the bindings and names behind it
 abbrev pub begun_after : Standing → Sofar → Standing
 begun_after s sofar = record { sofar = sofar; global = s.global; begun = true; asserted = s.asserted }
 
-abbrev pub with_definition : Name → List Variable → Form → Standing → Term × Sofar → List (Command Term) × Standing
-with_definition n xs body s r = ([], begun_after s (record r.1 { live = definition_as n xs body r.0 ∷ r.1.live }))
+abbrev pub defined_with : Name → List Variable → Form → Standing → Term × Sofar → List (Command Term) × Standing
+defined_with n xs body s r = ([], begun_after s (record r.1 { live = definition_as n xs body r.0 ∷ r.1.live }))
 
 -- the body has the sort
 abbrev pub of_sort : Sort → ℕ → Result (Term × Sofar) Refused → Result (Term × Sofar) Refused
 of_sort to place r = and_then (λ p. unless (not (has_sort to p.0)) WrongSort place (Ok p)) r
 
 abbrev pub read_body : Name → List Variable → Sort → Form → Standing → Step
-read_body n xs to body s = mapped (with_definition n xs body s) (of_sort to (place_of body) (read body (body_context n xs) s.sofar))
+read_body n xs to body s = mapped (defined_with n xs body s) (of_sort to (place_of body) (read body (body_context n xs) s.sofar))
 
 abbrev pub defines_symbol : At Name → Forms → Form → Form → Standing → Step
 defines_symbol n parameters f body s =
     declarable (live_of s) n
     (and_then (λ xs. and_then (λ to. read_body n.it xs to body s) (sort_in (live_sorts (live_of s)) f))
-    (variables_in definition (live_sorts (live_of s)) [] parameters))
+    (variables_in definition_binder (live_sorts (live_of s)) [] parameters))
 
 -- ---- assertions and checks
 
 abbrev pub no_context : Context
 no_context = record { locals = []; defines = None }
 
-abbrev pub with_assertion : Standing → Term × Sofar → List (Command Term) × Standing
-with_assertion s r = (assert (suc s.asserted) r.0 ∷ [], record { sofar = r.1; global = s.global; begun = true; asserted = suc s.asserted })
+abbrev pub asserted_with : Standing → Term × Sofar → List (Command Term) × Standing
+asserted_with s r = (assert (suc s.asserted) r.0 ∷ [], record { sofar = r.1; global = s.global; begun = true; asserted = suc s.asserted })
 
 abbrev pub asserts : Form → Standing → Step
-asserts f s = mapped (with_assertion s) (of_sort bool (place_of f) (read f no_context s.sofar))
+asserts f s = mapped (asserted_with s) (of_sort bool (place_of f) (read f no_context s.sofar))
 
 abbrev pub boolean_constant : Symbol → List Sort → Option Term
 boolean_constant f [] = cond (sort_eq f.result bool) (Some (constant f)) None
@@ -208,11 +208,11 @@ after_emptying s =
 -- a command that begins at a place, with its text
 abbrev pub step : ℕ → List ℕ → Standing → Outline → Step
 step place text s passing = Ok (passed text ∷ [], s)
-step place text s (globals_option f) = sets_globals place (truth_in f) s
+step place text s (global_option f) = sets_globals place (truth_in f) s
 step place text s (sort_declaration n arity) = declares_sort n arity s
 step place text s (sort_definition n parameters f) = defines_sort n parameters f s
-step place text s (declaration n arguments f) = declares_symbol n arguments f s
-step place text s (definition_outline n parameters f body) = defines_symbol n parameters f body s
+step place text s (symbol_declaration n arguments f) = declares_symbol n arguments f s
+step place text s (symbol_definition n parameters f body) = defines_symbol n parameters f body s
 step place text s (assertion f) = asserts f s
 step place text s checking = Ok (check ∷ [], begun_with s (live_of s))
 step place text s (assuming fs) = assumes fs s

@@ -11,13 +11,13 @@ use Rattle.script_read.specs.SortForms.{Sorts, sort_in}
 
 -- what binds a variable
 pub data Binder : Type 0 where
-  quantifier : Binder
-  definition : Binder
+  quantifier_binder : Binder
+  definition_binder : Binder
 
 -- a quantifier is over truth values and bit vectors alone
 abbrev pub may_have : Binder → Sort → Bool
-may_have quantifier s = is_quantifiable s
-may_have definition s = true
+may_have quantifier_binder s = is_quantifiable s
+may_have definition_binder s = true
 
 -- a name that stands behind others of its list
 abbrev pub fresh_name : {A : Type 0} → List Name → ℕ → Name → Result A Refused → Result A Refused

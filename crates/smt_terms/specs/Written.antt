@@ -1,7 +1,7 @@
 -- Written operators: the functions of the theories Core, Ints, FixedSizeBitVectors and ArraysEx and of the logic QF_BV as a
 -- text writes them, with their indices (SMT-LIB 2.6, sections 3.6 and 3.7: identifiers, and the attributes `:left-assoc`,
 -- `:right-assoc` and `:chainable`), the operands that they take, and the node operators that they are made of.
-use Rattle.std.specs.Prelude.{ℕ, zero, suc, ◌*◌, ◌%◌, Bool, true, false, cond, nat_le, ℤ, pos, List, [], ◌∷◌, map, length, codes, Option, Some, None, option_and_then, Result, Ok, Err, if◌then◌else◌}
+use Rattle.std.specs.Prelude.{ℕ, zero, suc, ◌*◌, ◌%◌, Bool, true, cond, nat_le, pos, List, [], ◌∷◌, map, length, codes, Option, Some, None, option_and_then, Result, Err, if◌then◌else◌}
 use Rattle.smt_terms.specs.declared.op.Op.{Op}
 use Rattle.smt_terms.specs.declared.op.Op.TheVariants.{Whole, Not, And, Or, Xor, Implies, Equal, Distinct, Ite, Neg, Sub, Add, Mul, Div, Mod, Abs, Le, Lt, Concat, Extract, BvNot, BvNeg, BvAnd, BvOr, BvXor, BvAdd, BvMul, BvSub, BvUdiv, BvUrem, BvSdiv, BvSrem, BvSmod, BvShl, BvLshr, BvAshr, BvComp, BvUlt, BvUle, BvSlt, BvSle, ZeroExt, SignExt, RotL, RotR, Select, Store}
 use Rattle.smt_terms.specs.Sorts.{Name, Sort, bool, int, bit_vector}
@@ -13,7 +13,7 @@ pub data Written : Type 0 where
   -- the operator over them
   plain : Op → Written
   -- the operator over them all; one operand stands for itself
-  joined : Op → Written
+  over_all : Op → Written
   -- a sequence of applications to two operands, from the left or from the right
   left_associative : Op → Written
   right_associative : Op → Written
@@ -45,8 +45,8 @@ pub data Indexed : Type 0 where
 abbrev pub core_operators : List (Name × Indexed)
 core_operators =
     (codes "not", without_index (plain Not))
-    ∷ (codes "and", without_index (joined And))
-    ∷ (codes "or", without_index (joined Or))
+    ∷ (codes "and", without_index (over_all And))
+    ∷ (codes "or", without_index (over_all Or))
     ∷ (codes "xor", without_index (left_associative Xor))
     ∷ (codes "=>", without_index (right_associative Implies))
     ∷ (codes "=", without_index (chainable Equal))
@@ -57,8 +57,8 @@ core_operators =
 abbrev pub number_operators : List (Name × Indexed)
 number_operators =
     (codes "-", without_index subtraction)
-    ∷ (codes "+", without_index (joined Add))
-    ∷ (codes "*", without_index (joined Mul))
+    ∷ (codes "+", without_index (over_all Add))
+    ∷ (codes "*", without_index (over_all Mul))
     ∷ (codes "div", without_index (left_associative Div))
     ∷ (codes "mod", without_index (plain Mod))
     ∷ (codes "abs", without_index (plain Abs))
@@ -138,7 +138,7 @@ written_named n indices = option_and_then (λ o. at_indices o indices) (operator
 unfoldable pub written_arity : Written → Arity
 unfolding shape
 written_arity (plain o) = arity (shape o)
-written_arity (joined o) = at_least 1
+written_arity (over_all o) = at_least 1
 written_arity (left_associative o) = at_least 2
 written_arity (right_associative o) = at_least 2
 written_arity (chainable o) = at_least 2
@@ -159,7 +159,7 @@ alike other ss = places other ss
 unfoldable pub written_places : Written → List Sort → List Place
 unfolding shape
 written_places (plain o) ss = places (shape o) ss
-written_places (joined o) ss = alike (shape o) ss
+written_places (over_all o) ss = alike (shape o) ss
 written_places (left_associative o) ss = alike (shape o) ss
 written_places (right_associative o) ss = alike (shape o) ss
 written_places (chainable o) ss = alike (shape o) ss
@@ -183,7 +183,7 @@ written_in_range _ ss = true
 unfoldable pub written_result : Written → List Sort → Sort
 unfolding shape
 written_result (plain o) ss = result_of (shape o) ss
-written_result (joined o) ss = result_of (shape o) ss
+written_result (over_all o) ss = result_of (shape o) ss
 written_result (left_associative o) ss = result_of (shape o) ss
 written_result (right_associative o) ss = result_of (shape o) ss
 written_result (chainable o) ss = bool
@@ -208,19 +208,19 @@ written_rank w ss =
 -- ---- what it is made of, where applications of the node operators are things of any kind: terms, values or others
 
 pub record Algebra (A : Type 0) : Type 0 where
-  pub apply : Op → List A → A
+  pub make : Op → List A → A
   -- of a bit vector
-  pub width : A → ℕ
+  pub width_in : A → ℕ
 
 abbrev pub apply_to : {A : Type 0} → Algebra A → Op → A → A
-apply_to a o x = a.apply o (x ∷ [])
+apply_to a o x = a.make o (x ∷ [])
 
 abbrev pub apply_to_both : {A : Type 0} → Algebra A → Op → A → A → A
-apply_to_both a o x y = a.apply o (x ∷ y ∷ [])
+apply_to_both a o x y = a.make o (x ∷ y ∷ [])
 
 abbrev pub itself_or_join : {A : Type 0} → Algebra A → Op → List A → A
 itself_or_join a o (x ∷ []) = x
-itself_or_join a o xs = a.apply o xs
+itself_or_join a o xs = a.make o xs
 
 abbrev pub from_left : {A : Type 0} → (A → A → A) → A → List A → A
 from_left two x [] = x
@@ -232,7 +232,7 @@ from_right two x (y ∷ ys) = two x (from_right two y ys)
 
 -- by two operands at a time; without operands, the operator over none
 abbrev pub associated : {A : Type 0} → Algebra A → Op → (A → List A → A) → List A → A
-associated a o fold [] = a.apply o []
+associated a o fold [] = a.make o []
 associated a o fold (x ∷ xs) = fold x xs
 
 abbrev pub neighbours : {A : Type 0} → (A → A → A) → A → List A → List A
@@ -240,7 +240,7 @@ neighbours two x [] = []
 neighbours two x (y ∷ ys) = two x y ∷ neighbours two y ys
 
 abbrev pub chain : {A : Type 0} → Algebra A → (A → A → A) → List A → A
-chain a two [] = a.apply And []
+chain a two [] = a.make And []
 chain a two (x ∷ xs) = itself_or_join a And (neighbours two x xs)
 
 abbrev pub minus_or_differences : {A : Type 0} → Algebra A → List A → A
@@ -248,12 +248,12 @@ minus_or_differences a (x ∷ []) = apply_to a Neg x
 minus_or_differences a xs = associated a Sub (from_left (apply_to_both a Sub)) xs
 
 abbrev pub whole_in : {A : Type 0} → Algebra A → ℕ → A
-whole_in a n = a.apply (Whole (pos n)) []
+whole_in a n = a.make (Whole (pos n)) []
 
 -- the operator, at a number that the operand's width fixes, over the one operand
 abbrev pub over_one : {A : Type 0} → Algebra A → (A → A) → List A → A
 over_one a make (x ∷ xs) = make x
-over_one a make [] = a.apply And []
+over_one a make [] = a.make And []
 
 -- n more copies in front of the operand
 abbrev pub copies : {A : Type 0} → Algebra A → ℕ → A → A
@@ -269,17 +269,17 @@ divides a n x = apply_to_both a Equal (apply_to_both a Mod x (whole_in a n)) (wh
 
 -- a written operator over its operands
 unfoldable pub build : {A : Type 0} → Algebra A → Written → List A → A
-build a (plain o) xs = a.apply o xs
-build a (joined o) xs = itself_or_join a o xs
+build a (plain o) xs = a.make o xs
+build a (over_all o) xs = itself_or_join a o xs
 build a (left_associative o) xs = associated a o (from_left (apply_to_both a o)) xs
 build a (right_associative o) xs = associated a o (from_right (apply_to_both a o)) xs
 build a (chainable o) xs = chain a (apply_to_both a o) xs
 build a (chainable_exchanged o) xs = chain a (λ x y. apply_to_both a o y x) xs
 build a (exchanged o) (x ∷ y ∷ xs) = apply_to_both a o y x
-build a (exchanged o) xs = a.apply o xs
-build a (complemented o) xs = apply_to a BvNot (a.apply o xs)
+build a (exchanged o) xs = a.make o xs
+build a (complemented o) xs = apply_to a BvNot (a.make o xs)
 build a subtraction xs = minus_or_differences a xs
 build a (divisibility n) xs = over_one a (divides a n) xs
 build a (repetition n) xs = over_one a (repeated a n) xs
-build a (left_rotation n) xs = over_one a (λ x. apply_to a (RotL (n % a.width x)) x) xs
-build a (right_rotation n) xs = over_one a (λ x. apply_to a (RotR (n % a.width x)) x) xs
+build a (left_rotation n) xs = over_one a (λ x. apply_to a (RotL (n % a.width_in x)) x) xs
+build a (right_rotation n) xs = over_one a (λ x. apply_to a (RotR (n % a.width_in x)) x) xs
