@@ -1,5 +1,6 @@
 mod Agreement
 mod Bindings
+mod Builds
 mod Outcomes
 mod Points
 mod Rows

@@ -2,8 +2,14 @@
 use Rattle.std.specs.Prelude.{◌≡◌, ◌↔◌, ℕ, List, map, length, None, Result, Ok, Err, is_ok, IsTrue, ⊤}
 use Rattle.smt_lex.specs.Forms.{Form}
 use Rattle.smt_terms.specs.Fresh.{Supply}
+use Rattle.smt_terms.specs.Models.{Model}
+use Rattle.smt_terms.specs.Rank.{sort_of}
 use Rattle.smt_terms.specs.Term.{Term}
+use Rattle.smt_terms.specs.Val.{Env, val}
+use Rattle.smt_terms.specs.Written.{Written, build}
 use Rattle.script_read.specs.Commands.{Command, with_asserted, kinds, live, signature}
+use Rattle.script_read.specs.Heads.{term_algebra}
+use Rattle.script_read.specs.Mean.{Denoted, value_algebra}
 use Rattle.script_read.specs.Refusals.{Refused}
 use Rattle.script_read.specs.Read.{Context, read}
 use Rattle.script_read.specs.Reading.{as_local, as_bindings, Sofar}
@@ -43,3 +49,13 @@ PointsAgree = (b : List ℕ) (r : List (Command Term) × Supply) → script b �
 -- a text is accepted, or there is a reason why it isn't
 abbrev pub ReadingAnswers : Type 0
 ReadingAnswers = (b : List ℕ) → IsTrue (is_ok (script b)) ↔ (fault b ≡ None)
+
+-- ---- written operators
+
+-- what a term denotes under values of the quantified variables
+abbrev pub denoted : Model → Env → Term → Denoted
+denoted m e t = (val m t e, sort_of t)
+
+-- a written operator means over values what the term means that it is made into
+abbrev pub WrittenMeaning : Type 0
+WrittenMeaning = (m : Model) (e : Env) (w : Written) (ts : List Term) → build (value_algebra m) w (map (denoted m e) ts) ≡ denoted m e (build term_algebra w ts)

@@ -1,6 +1,6 @@
 //! The laws of reading, each the contract of a function that does nothing.
 
-ghost use Rattle.script_read.specs.Laws.{ReadingNames, SameCommands, PointsAgree, ReadingAnswers};
+ghost use Rattle.script_read.specs.Laws.{ReadingNames, SameCommands, PointsAgree, ReadingAnswers, WrittenMeaning};
 
 /// A text is accepted exactly where there is no reason against it.
 pub fn reading_answers()
@@ -17,4 +17,10 @@ pub fn reading_binds_names()
 pub fn terms_and_forms_agree()
     ensures commands { SameCommands }
     ensures points { PointsAgree }
+{}
+
+/// A written operator means over values what the term means that reading makes of it: chains, sequences from the left or
+/// the right, exchanged operands, repetitions and rotations included.
+pub fn written_operators_keep_meaning()
+    ensures { WrittenMeaning }
 {}

@@ -7,4 +7,6 @@ mod causes;
 mod laws;
 
 pub use causes::Cause;
-pub use laws::{reading_answers, reading_binds_names, terms_and_forms_agree};
+pub use laws::{
+    reading_answers, reading_binds_names, terms_and_forms_agree, written_operators_keep_meaning,
+};
