@@ -1,6 +1,12 @@
-mod Beginnings
+mod Choices
+pub mod Joining
+mod Keeping
+mod Lexing
 mod Literals
 mod Nesting
 mod Outcomes
+pub mod Printing
 mod Putting
+pub mod Rereading
 mod Rows
+pub mod Stepping

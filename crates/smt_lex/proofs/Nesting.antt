@@ -1,5 +1,5 @@
 -- What one more entry does to the open lists, and to where forms end.
-use Rattle.std.proofs.Common.{◌≡◌, ◌≢◌, ℕ, zero, suc, ◌+◌, ◌-◌, ◌<◌, ◌≤◌, ◌⊎◌, inl, inr, ⊎_elim, Bool, true, false, List, [], ◌∷◌, ◌++◌, length, get_or, drop, map, set, eqb, refl, ap, sym, ◌∙◌, subst, arith, append_assoc, add-one}
+use Rattle.std.proofs.Common.{◌≡◌, ℕ, suc, ◌+◌, ◌-◌, ◌<◌, ◌⊎◌, inl, inr, false, List, [], ◌∷◌, ◌++◌, length, get_or, drop, set, refl, ap, sym, ◌∙◌, subst, arith, append_assoc, add-one}
 use Rattle.std.proofs.lemmas.List.{map_push, length-map, length_push, get_or_push, get_or_append_left, get_or-set_other, get_or-set_same, length-set, drop-append-le, drop_all, drop_more, drop-drop, get_or-map, length-append}
 use Rattle.std.proofs.Math.Seq.{map-set_same}
 use Rattle.std.proofs.Math.Dec.{eqb-suc-zero}
@@ -7,7 +7,7 @@ use Rattle.std.proofs.lemmas.Bool.Decides.{eqb_tells}
 use Rattle.smt_lex.specs.declared.items.Item.{Item}
 use Rattle.smt_lex.specs.declared.items.Item.TheVariants.{Left, Right}
 use Rattle.smt_lex.specs.declared.entries.Entry.{Entry}
-use Rattle.smt_lex.specs.Forms.{is_left, is_right, depth_after}
+use Rattle.smt_lex.specs.Forms.{is_left}
 use Rattle.smt_lex.specs.Forest.{closing, form_length}
 use Rattle.smt_lex.specs.Building.{IsAtom, Nests, IsOpen, EndsAt, ClosesBehind, entry_at, no_entry, entry_items}
 
@@ -27,8 +27,8 @@ closing_here more = refl
 below_or_last : (P : ℕ → Type 0) (n m : ℕ) → m ≡ n + 1 → ((i : ℕ) → i < n → P i) → P n → (i : ℕ) → i < m → P i
 below_or_last P n m is earlier last i within =
     elim (eqb_tells i n) [
-      inl same ↦ subst P (sym same.1) last
-    | inr differs ↦ earlier i (omega (arith, differs.1))
+      | inl same ↦ subst P (sym same.1) last
+      | inr differs ↦ earlier i (omega (arith, differs.1))
     ]
 
 module _ (es : List Entry) (e : Entry) where
@@ -58,7 +58,7 @@ module _ (es : List Entry) (e : Entry) where
       ∙ ap (λ xs. xs ++ (e.item ∷ more)) (drop_all (length es) (entry_items es) (omega (arith, length-map es (λ (e : Entry). e.item))))
 
   behind_last : (more : List Item) → drop (suc (length es)) (entry_items (es ++ e ∷ []) ++ more) ≡ more
-  behind_last more = 
+  behind_last more =
       let place : length es + 1 ≡ suc (length es) = omega arith in
       sym (drop-drop 1 (length es) (entry_items (es ++ e ∷ []) ++ more) ∙ ap (λ n. drop n (entry_items (es ++ e ∷ []) ++ more)) place) ∙ ap (drop 1) (last_drop more)
 
@@ -101,21 +101,21 @@ module _ (es : List Entry) (e : Entry) where
             (ap (λ i. (entry_at (es ++ e ∷ []) i).item) listed_last ∙ ap (λ (e : Entry). e.item) entry_last ∙ left);
         behind = below_or_last (λ j. ClosesBehind (es ++ e ∷ []) (get_or (lists ++ length es ∷ []) j 0) (length (lists ++ length es ∷ []) - suc j)) (length lists) (length (lists ++ length es ∷ [])) (length_push lists (length es))
             (λ j within.
-                let depth : length (lists ++ length es ∷ []) - suc j ≡ suc (length lists - suc j) = omega (arith, length_push lists (length es)) in
-                subst (λ i. ClosesBehind (es ++ e ∷ []) i (length (lists ++ length es ∷ []) - suc j)) (sym (listed_before j within))
-                (subst (ClosesBehind (es ++ e ∷ []) (get_or lists j 0)) (sym depth)
-                (behind_push _ _ _ (λ more. ap (λ item. closing (length lists - suc j) (item ∷ more)) left) (nests.behind j within))))
+            let depth : length (lists ++ length es ∷ []) - suc j ≡ suc (length lists - suc j) = omega (arith, length_push lists (length es)) in
+            subst (λ i. ClosesBehind (es ++ e ∷ []) i (length (lists ++ length es ∷ []) - suc j)) (sym (listed_before j within))
+            (subst (ClosesBehind (es ++ e ∷ []) (get_or lists j 0)) (sym depth)
+            (behind_push _ _ _ (λ more. ap (λ item. closing (length lists - suc j) (item ∷ more)) left) (nests.behind j within))))
             (let depth : length (lists ++ length es ∷ []) - suc (length lists) ≡ 0 = omega (arith, length_push lists (length es)) in
-                subst (λ i. ClosesBehind (es ++ e ∷ []) i (length (lists ++ length es ∷ []) - suc (length lists))) (sym listed_last)
-                (subst (ClosesBehind (es ++ e ∷ []) (length es)) (sym depth)
-                (λ more.
-                    let inside = ap (closing 0) (behind_last more) in
-                    omega (arith, inside, length_push es e))));
+            subst (λ i. ClosesBehind (es ++ e ∷ []) i (length (lists ++ length es ∷ []) - suc (length lists))) (sym listed_last)
+            (subst (ClosesBehind (es ++ e ∷ []) (length es)) (sym depth)
+            (λ more.
+            let inside = ap (closing 0) (behind_last more) in
+            omega (arith, inside, length_push es e))));
         ends = below_or_last (λ i. IsOpen (lists ++ length es ∷ []) i ⊎ EndsAt (es ++ e ∷ []) i (entry_at (es ++ e ∷ []) i).after) (length es) (length (es ++ e ∷ [])) (length_push es e)
             (λ i within. elim (nests.ends i within) [
-                inl listed ↦ inl (listed.0, omega (arith, length_push lists (length es), listed.1), listed_before listed.0 listed.1 ∙ listed.2)
+              | inl listed ↦ inl (listed.0, omega (arith, length_push lists (length es), listed.1), listed_before listed.0 listed.1 ∙ listed.2)
               | inr ends ↦ inr (subst (EndsAt (es ++ e ∷ []) i) (ap (λ (e : Entry). e.after) (sym (entry_before i within))) (ends_push i _ ends))
-              ])
+            ])
             (inl (length lists, omega (arith, length_push lists (length es)), listed_last));
       }
 
@@ -142,8 +142,8 @@ module _ (es : List Entry) (e : Entry) where
         let behind_it = e.item ∷ more in
         let long : o < length (entry_items es ++ behind_it) = omega (arith, closed_below, length-append (entry_items es) behind_it, length-map es (λ (e : Entry). e.item)) in
         let first : get_or (entry_items es ++ behind_it) o Right ≡ Left =
-            get_or_append_left (entry_items es) behind_it Right o (omega (arith, closed_below, length-map es (λ (e : Entry). e.item)))
-            ∙ get_or-map (λ (e : Entry). e.item) es o no_entry Right closed_below ∙ closed_left in
+        get_or_append_left (entry_items es) behind_it Right o (omega (arith, closed_below, length-map es (λ (e : Entry). e.item)))
+        ∙ get_or-map (λ (e : Entry). e.item) es o no_entry Right closed_below ∙ closed_left in
         let place : o + 1 ≡ suc o = omega arith in
         let split = drop_more (entry_items es ++ behind_it) o Right long ∙ ap (λ item. item ∷ drop (o + 1) (entry_items es ++ behind_it)) first in
         let size = ap form_length (ap (drop o) (items_push more) ∙ split) ∙ ap (λ n. suc (closing 0 (drop n (entry_items es ++ behind_it)))) place in
@@ -170,25 +170,25 @@ module _ (es : List Entry) (e : Entry) where
 
       item_at : (i : ℕ) → i < length es → (entry_at (set (es ++ e ∷ []) o closed) i).item ≡ (entry_at es i).item
       item_at i within = elim (eqb_tells i o) [
-          inl same ↦ ap (λ n. (entry_at (set (es ++ e ∷ []) o closed) n).item) same.1 ∙ ap (λ (e : Entry). e.item) at_closed ∙ left ∙ sym (ap (λ n. (entry_at es n).item) same.1 ∙ closed_left)
+        | inl same ↦ ap (λ n. (entry_at (set (es ++ e ∷ []) o closed) n).item) same.1 ∙ ap (λ (e : Entry). e.item) at_closed ∙ left ∙ sym (ap (λ n. (entry_at es n).item) same.1 ∙ closed_left)
         | inr differs ↦ ap (λ (e : Entry). e.item) (at_other i differs.1 ∙ entry_before i within)
-        ]
+      ]
 
       still_listed : (i : ℕ) → (i ≡ o → ⊥) → (j : ℕ) → j < length (lists ++ o ∷ []) → get_or (lists ++ o ∷ []) j 0 ≡ i → j < length lists
       still_listed i differs j within is = elim (eqb_tells j (length lists)) [
-          inl last ↦ absurd (differs (sym is ∙ ap (λ j. get_or (lists ++ o ∷ []) j 0) last.1 ∙ listed_last))
+        | inl last ↦ absurd (differs (sym is ∙ ap (λ j. get_or (lists ++ o ∷ []) j 0) last.1 ∙ listed_last))
         | inr earlier ↦ omega (arith, within, length_push lists o, earlier.1)
-        ]
+      ]
 
       ends_earlier : (i : ℕ) → i < length es → IsOpen lists i ⊎ EndsAt (set (es ++ e ∷ []) o closed) i (entry_at (set (es ++ e ∷ []) o closed) i).after
       ends_earlier i within = elim (eqb_tells i o) [
-          inl same ↦ inr (subst (λ n. EndsAt (set (es ++ e ∷ []) o closed) n (entry_at (set (es ++ e ∷ []) o closed) n).after) (sym same.1)
-              (subst (EndsAt (set (es ++ e ∷ []) o closed) o) (sym (ap (λ (e : Entry). e.after) at_closed ∙ closed_after)) (ends_set o _ closed_ends)))
+        | inl same ↦ inr (subst (λ n. EndsAt (set (es ++ e ∷ []) o closed) n (entry_at (set (es ++ e ∷ []) o closed) n).after) (sym same.1)
+            (subst (EndsAt (set (es ++ e ∷ []) o closed) o) (sym (ap (λ (e : Entry). e.after) at_closed ∙ closed_after)) (ends_set o _ closed_ends)))
         | inr differs ↦ elim (nests.ends i within) [
-            inl listed ↦ inl (listed.0, still_listed i differs.1 listed.0 listed.1 listed.2, sym (listed_before listed.0 (still_listed i differs.1 listed.0 listed.1 listed.2)) ∙ listed.2)
+          | inl listed ↦ inl (listed.0, still_listed i differs.1 listed.0 listed.1 listed.2, sym (listed_before listed.0 (still_listed i differs.1 listed.0 listed.1 listed.2)) ∙ listed.2)
           | inr ends ↦ inr (subst (EndsAt (set (es ++ e ∷ []) o closed) i) (ap (λ (e : Entry). e.after) (sym (at_other i differs.1 ∙ entry_before i within))) (ends_set i _ (ends_push i _ ends)))
-          ]
         ]
+      ]
 
       pub nests_right : Nests (set (es ++ e ∷ []) o closed) lists
       nests_right = record {
@@ -207,5 +207,5 @@ module _ (es : List Entry) (e : Entry) where
             ends_earlier
             (let differs : length es ≡ o → ⊥ = λ same. omega (arith, closed_below, same) in
             inr (subst (EndsAt (set (es ++ e ∷ []) o closed) (length es)) (ap (λ (e : Entry). e.after) (sym (at_other (length es) differs ∙ entry_last)))
-                (ends_set _ _ (one_ends (ap is_left right) after))));
+            (ends_set _ _ (one_ends (ap is_left right) after))));
       }

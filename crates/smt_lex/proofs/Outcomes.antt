@@ -1,15 +1,19 @@
 -- What comes of a text, met in a loop at one token after the other.
-use Rattle.std.proofs.Common.{◌≡◌, ◌≢◌, ℕ, zero, suc, ◌+◌, ◌-◌, ◌<◌, ◌⊎◌, Bool, true, false, cond, eqb, List, [], ◌∷◌, ◌++◌, length, Result, Ok, Err, refl, ap, sym, ◌∙◌, subst, inl, inr, arith, append_assoc, append-nil}
+use Rattle.std.proofs.Common.{◌≡◌, ◌≢◌, ℕ, zero, suc, ◌-◌, ◌<◌, ◌≤◌, ◌⊎◌, Bool, true, false, cond, eqb, List, [], ◌∷◌, ◌++◌, length, Result, Ok, Err, refl, ap, sym, ◌∙◌, subst, inl, inr, arith, append_assoc, append-nil}
 use Rattle.std.specs.Prelude.{◌&&◌}
 use Rattle.std.proofs.lemmas.Bool.Decides.{eqb_tells}
+use Rattle.smt_lex.proofs.Choices.{tell}
 use Rattle.smt_lex.specs.declared.items.Item.{Item}
 use Rattle.smt_lex.specs.declared.items.Item.TheVariants.{Left, Right, Word, Numeral, Decimal, Hex, Bin, Text, Quoted, Keyword}
+use Rattle.smt_lex.specs.declared.items.Until.{Until}
+use Rattle.smt_lex.specs.declared.items.Until.TheVariants.{End, Exit}
 use Rattle.smt_lex.specs.declared.entries.Entry.{Entry}
 use Rattle.smt_lex.specs.declared.entries.Watch.{Watch}
 use Rattle.smt_lex.specs.declared.entries.Watch.TheVariants.{Never, Elsewhere, Opened, Named, Met}
-use Rattle.smt_lex.specs.Lex.{Token, Fault, bad_byte, bad_token, open_text, unbalanced, Lexed, ended, faulty, next}
-use Rattle.smt_lex.specs.Forms.{is_left, is_right, is_exit_word, depth_after, with_token, balanced, first_tokens, begins_with_right, begins_with_name, begins_with_exit, to_exit}
-use Rattle.smt_lex.specs.Building.{AtTop, left_of, watch_after, prefixed, outcome, tokens_in}
+use Rattle.smt_lex.specs.Lex.{Token, Fault, unbalanced, Lexed, ended, faulty, next, lex, lex_at}
+use Rattle.smt_lex.specs.Forms.{is_left, is_right, is_exit_word, depth_after, with_token, balanced, first_tokens, begins_with_right, begins_with_name, to_exit, tokens_of}
+use Rattle.smt_lex.proofs.Lexing.{lex_end}
+use Rattle.smt_lex.specs.Building.{AtTop, IsBuilt, first_watch, left_of, watch_after, prefixed, outcome, tokens_in}
 
 left_depth : (item : Item) (depth : ℕ) → is_left item ≡ true → depth_after item depth ≡ suc depth
 left_depth Left depth left = refl
@@ -62,22 +66,18 @@ elsewhere_opens depth t ts left outermost is = record {
   top = rw (left, outermost) (left_depth t.item depth left ∙ ap suc is);
 }
 
-tell : (b : Bool) → (b ≡ true) ⊎ (b ≡ false)
-tell true = inl refl
-tell false = inr refl
-
 and_false : (b : Bool) → (b && false) ≡ false
 and_false true = refl
 and_false false = refl
 
 watches_elsewhere : (depth : ℕ) (t : Token) (ts : Lexed) → Watches Elsewhere depth t ts
 watches_elsewhere depth t ts = elim (tell (is_left t.item)) [
-    inr other ↦ elsewhere_on depth t ts (rw other refl) (rw other (and_false (eqb depth 0)))
+  | inr other ↦ elsewhere_on depth t ts (rw other refl) (rw other (and_false (eqb depth 0)))
   | inl left ↦ elim (eqb_tells depth 0) [
-      inl is ↦ elsewhere_opens depth t ts left is.0 is.1
+    | inl is ↦ elsewhere_opens depth t ts left is.0 is.1
     | inr inside ↦ elsewhere_on depth t ts (rw (left, inside.0) refl) (rw inside.0 refl)
-    ]
   ]
+]
 
 -- behind the `(`
 opened_exit : (t : Token) (ts : Lexed) → is_exit_word t.item t.text ≡ true → Watches Opened 1 t ts
@@ -127,8 +127,8 @@ outcome_next bytes w es fs lists left t ts met top closes added depth =
     ap (λ us. prefixed us (balanced (length left) (left_of (watch_after w (length lists) t.item t.text) (length left) ts))) added
     ∙ ap (λ d. prefixed (tokens_in bytes es ++ t ∷ []) (balanced d (left_of (watch_after w (length lists) t.item t.text) d ts))) depth
     ∙ sym (ap (λ ts. prefixed (tokens_in bytes es) (balanced (length lists) ts)) here.left
-        ∙ ap (prefixed (tokens_in bytes es)) (balanced_next (length lists) t (left_of (watch_after w (length lists) t.item t.text) (depth_after t.item (length lists)) ts) closes)
-        ∙ prefixed_next (tokens_in bytes es) t _)
+    ∙ ap (prefixed (tokens_in bytes es)) (balanced_next (length lists) t (left_of (watch_after w (length lists) t.item t.text) (depth_after t.item (length lists)) ts) closes)
+    ∙ prefixed_next (tokens_in bytes es) t _)
 
 -- a `)` too many
 pub outcome_over : (bytes : List ℕ) (w : Watch) (es : List Entry) (lists : List ℕ) (t : Token) (ts : Lexed)
@@ -187,3 +187,57 @@ outcome_open bytes w es lists n met some =
     still_open Opened depth n met = refl
     still_open Named depth n met = refl
     still_open Met depth n met = absurd (met refl)
+
+-- before the first token
+prefixed_none : (r : Result (List Token) Fault) → prefixed [] r ≡ r
+prefixed_none (Ok ts) = refl
+prefixed_none (Err fault) = refl
+
+pub outcome_first : (until : Until) (bytes : List ℕ) → outcome bytes (first_watch until) [] [] (lex bytes) ≡ tokens_of until bytes
+unfolding outcome
+outcome_first End bytes = prefixed_none (balanced 0 (lex bytes))
+outcome_first Exit bytes = prefixed_none (balanced 0 (to_exit 0 (lex bytes)))
+
+pub built_first : (until : Until) → IsBuilt 0 [] [] (first_watch until)
+built_first until = record {
+  spans = record { count = omega arith; stands = λ i within. absurd (omega arith); order = λ i j below within. absurd (omega arith) };
+  nests = record { below = λ j within. absurd (omega arith); lefts = λ j within. absurd (omega arith); behind = λ j within. absurd (omega arith); ends = λ i within. absurd (omega arith) };
+  top = top until;
+}
+  where
+    top : (until : Until) → AtTop (first_watch until) 0
+    top End = tt
+    top Exit = tt
+
+-- a builder at a place of a text
+pub record Going (until : Until) (bytes : List ℕ) (place : ℕ) (es : List Entry) (lists : List ℕ) (w : Watch) : Type 0 where
+  pub within : place ≤ length bytes
+  pub built : IsBuilt place es lists w
+  pub same : outcome bytes w es lists (lex_at bytes place) ≡ tokens_of until bytes
+
+pub going_first : (until : Until) (bytes : List ℕ) → Going until bytes 0 [] [] (first_watch until)
+going_first until bytes = record { within = omega arith; built = built_first until; same = outcome_first until bytes }
+
+-- the end of the text, or the form `(exit)`
+abbrev pub Stops : List ℕ → ℕ → Watch → Type 0
+Stops bytes place w = (length bytes ≤ place) ⊎ (w ≡ Met)
+
+module _ (until : Until) (bytes : List ℕ) (place : ℕ) (es : List Entry) (lists : List ℕ) (w : Watch) (going : Going until bytes place es lists w) where
+  at_end : length bytes ≤ place → lex_at bytes place ≡ ended (length bytes)
+  at_end end =
+      let is : place ≡ length bytes = omega (arith, going.within) in
+      ap (lex_at bytes) is ∙ lex_end bytes
+
+  pub finished : Stops bytes place w → lists ≡ [] → tokens_of until bytes ≡ Ok (tokens_in bytes es)
+  finished stops none = elim stops [
+    | inl end ↦ sym going.same ∙ ap (outcome bytes w es lists) (at_end end) ∙ outcome_ended bytes w es lists (length bytes) (ap length none)
+    | inr met ↦ sym going.same ∙ ap (λ w. outcome bytes w es lists (lex_at bytes place)) met ∙ outcome_met bytes es lists (lex_at bytes place) (ap length none)
+  ]
+
+  pub unfinished : Stops bytes place w → 0 < length lists → tokens_of until bytes ≡ Err (unbalanced (length bytes))
+  unfinished stops some =
+      let met : w ≢ Met = λ is. let none : length lists ≡ 0 = subst (λ w. AtTop w (length lists)) is going.built.top in omega (arith, none, some) in
+      elim stops [
+        | inl end ↦ sym going.same ∙ ap (outcome bytes w es lists) (at_end end) ∙ outcome_open bytes w es lists (length bytes) met some
+        | inr is ↦ absurd (met is)
+      ]

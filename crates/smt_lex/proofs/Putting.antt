@@ -1,12 +1,11 @@
 -- What the steps that add an entry do.
-use Rattle.std.proofs.Common.{◌≡◌, ℕ, suc, ◌+◌, ◌<◌, ◌≤◌, List, [], ◌∷◌, ◌++◌, length, get_or, map, set, refl, ap, sym, ◌∙◌, subst, inl, inr, arith, true, false, eqb}
+use Rattle.std.proofs.Common.{◌≡◌, ℕ, ◌+◌, ◌<◌, List, [], ◌∷◌, ◌++◌, length, get_or, set, refl, ap, sym, ◌∙◌, subst, inl, inr, arith}
 use Rattle.std.proofs.lemmas.List.{map_push, length_push, get_or_push, get_or_append_left, get_or-set_other, get_or-set_same, length-set, get_or_default}
 use Rattle.std.proofs.Math.Seq.{map-set_same}
 use Rattle.std.proofs.lemmas.Bool.Decides.{eqb_tells}
 use Rattle.smt_lex.specs.declared.items.Item.{Item}
 use Rattle.smt_lex.specs.declared.items.Item.TheVariants.{Left, Right, Quoted}
 use Rattle.smt_lex.specs.declared.entries.Entry.{Entry}
-use Rattle.smt_lex.specs.Forms.{depth_after}
 use Rattle.smt_lex.specs.Building.{IsAtom, Nests, Spans, Stands, Puts, entry_at, no_entry, token_of, tokens_in}
 use Rattle.smt_lex.proofs.Nesting.{nests_atom, nests_left, nests_right, closed_below, closed_left}
 
@@ -18,7 +17,7 @@ spans_push start end es e stands begins spans =
     record {
       count = omega (arith, spans.count, length_push es e, stands.some, stands.within, begins);
       stands = λ i within. elim (eqb_tells i (length es)) [
-          inl is ↦ subst (λ i. Stands end (entry_at (es ++ e ∷ []) i)) (sym is.1) (subst (Stands end) (sym last) stands)
+        | inl is ↦ subst (λ i. Stands end (entry_at (es ++ e ∷ []) i)) (sym is.1) (subst (Stands end) (sym last) stands)
         | inr differs ↦
             let earlier : i < length es = omega (arith, length_push es e, differs.1) in
             let old = spans.stands i earlier in
@@ -27,19 +26,19 @@ spans_push start end es e stands begins spans =
               within = omega (arith, old.within, stands.some, stands.within, begins);
               bars = old.bars;
             })
-        ];
+      ];
       order = λ i j below within.
           let first : i < length es = omega (arith, length_push es e) in
           let old = spans.stands i first in
           let ends = ap (λ (e : Entry). e.end) (before i first) in
           elim (eqb_tells j (length es)) [
-            inl is ↦
-              let starts = ap (λ n. (entry_at (es ++ e ∷ []) n).start) is.1 ∙ ap (λ (e : Entry). e.start) last in
-              omega (arith, ends, old.within, starts, begins)
-          | inr differs ↦
-              let earlier : j < length es = omega (arith, length_push es e, differs.1) in
-              let starts = ap (λ (e : Entry). e.start) (before j earlier) in
-              omega (arith, ends, starts, spans.order i j below earlier)
+            | inl is ↦
+                let starts = ap (λ n. (entry_at (es ++ e ∷ []) n).start) is.1 ∙ ap (λ (e : Entry). e.start) last in
+                omega (arith, ends, old.within, starts, begins)
+            | inr differs ↦
+                let earlier : j < length es = omega (arith, length_push es e, differs.1) in
+                let starts = ap (λ (e : Entry). e.start) (before j earlier) in
+                omega (arith, ends, starts, spans.order i j below earlier)
           ];
     }
 
@@ -47,15 +46,15 @@ spans_push start end es e stands begins spans =
 spans_set : (place : ℕ) (es : List Entry) (o : ℕ) (closed : Entry) → closed.start ≡ (entry_at es o).start → closed.end ≡ (entry_at es o).end → closed.item ≡ (entry_at es o).item → o < length es → Spans place es → Spans place (set es o closed)
 spans_set place es o closed starts ends item below spans =
     let at : (i : ℕ) → ((entry_at (set es o closed) i).start ≡ (entry_at es i).start) × ((entry_at (set es o closed) i).end ≡ (entry_at es i).end) × ((entry_at (set es o closed) i).item ≡ (entry_at es i).item) =
-        λ i. elim (eqb_tells i o) [
-          inl is ↦
-            let here : entry_at (set es o closed) i ≡ closed = ap (entry_at (set es o closed)) is.1 ∙ get_or-set_same es o closed no_entry below in
-            let there : entry_at es o ≡ entry_at es i = ap (entry_at es) (sym is.1) in
-            (ap (λ (e : Entry). e.start) here ∙ starts ∙ ap (λ (e : Entry). e.start) there, ap (λ (e : Entry). e.end) here ∙ ends ∙ ap (λ (e : Entry). e.end) there, ap (λ (e : Entry). e.item) here ∙ item ∙ ap (λ (e : Entry). e.item) there)
-        | inr differs ↦
-            let same : entry_at (set es o closed) i ≡ entry_at es i = get_or-set_other es o i closed no_entry differs.1 in
-            (ap (λ (e : Entry). e.start) same, ap (λ (e : Entry). e.end) same, ap (λ (e : Entry). e.item) same)
-        ] in
+    λ i. elim (eqb_tells i o) [
+      | inl is ↦
+          let here : entry_at (set es o closed) i ≡ closed = ap (entry_at (set es o closed)) is.1 ∙ get_or-set_same es o closed no_entry below in
+          let there : entry_at es o ≡ entry_at es i = ap (entry_at es) (sym is.1) in
+          (ap (λ (e : Entry). e.start) here ∙ starts ∙ ap (λ (e : Entry). e.start) there, ap (λ (e : Entry). e.end) here ∙ ends ∙ ap (λ (e : Entry). e.end) there, ap (λ (e : Entry). e.item) here ∙ item ∙ ap (λ (e : Entry). e.item) there)
+      | inr differs ↦
+          let same : entry_at (set es o closed) i ≡ entry_at es i = get_or-set_other es o i closed no_entry differs.1 in
+          (ap (λ (e : Entry). e.start) same, ap (λ (e : Entry). e.end) same, ap (λ (e : Entry). e.item) same)
+    ] in
     record {
       count = omega (arith, spans.count, length-set es o closed);
       stands = λ i within.
@@ -105,7 +104,7 @@ puts_right start end es fs lists left o read closed gs some nests popped pushed 
     let opens = closed_left es e left o refl (omega arith) nests in
     let there : entry_at (es ++ e ∷ []) o ≡ entry_at es o = get_or_append_left es (e ∷ []) no_entry o below in
     let reads : read ≡ entry_at es o =
-        reads ∙ ap (λ gs. get_or gs o read) pushed ∙ get_or_append_left es (e ∷ []) read o below ∙ get_or_default es o read no_entry below in
+    reads ∙ ap (λ gs. get_or gs o read) pushed ∙ get_or_append_left es (e ∷ []) read o below ∙ get_or_default es o read no_entry below in
     let closes : closed ≡ record (entry_at es o) { after = length es + 1 } = made ∙ ap (λ (e : Entry). record e { after = length es + 1 }) reads in
     subst (λ fs. Puts Right start end es fs lists left) (sym (is ∙ ap (λ gs. set gs o closed) pushed)) (record {
       tokens = λ bytes. map-set_same (token_of bytes) (es ++ e ∷ []) o closed no_entry (ap (token_of bytes) closes ∙ sym (ap (token_of bytes) there)) ∙ tokens_push es e bytes;

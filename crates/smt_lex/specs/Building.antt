@@ -1,17 +1,17 @@
 -- The tokens of a text as they are collected from left to right.
-use Rattle.std.specs.Prelude.{◌≡◌, ℕ, zero, suc, ◌+◌, ◌-◌, ◌<◌, ◌≤◌, ◌⊎◌, Bool, true, false, ◌&&◌, List, [], ◌∷◌, ◌++◌, length, take, drop, map, Result, Ok, Err, ◌==◌, if◌then◌else◌, slice_index_or, slice_range}
+use Rattle.std.specs.Prelude.{◌≡◌, ℕ, suc, ◌+◌, ◌-◌, ◌<◌, ◌≤◌, ◌^◌, ◌⊎◌, false, ◌&&◌, List, [], ◌∷◌, ◌++◌, length, drop, map, Result, Ok, Err, ◌==◌, if◌then◌else◌, slice_index_or, slice_range}
 use Rattle.smt_lex.specs.declared.items.Item.{Item}
 use Rattle.smt_lex.specs.declared.items.Item.TheVariants.{Left, Right, Quoted}
 use Rattle.smt_lex.specs.declared.items.Until.{Until}
 use Rattle.smt_lex.specs.declared.items.Until.TheVariants.{End, Exit}
 use Rattle.smt_lex.specs.declared.fronts.Front.{Front}
-use Rattle.smt_lex.specs.declared.fronts.Front.TheVariants.{Gap, Lexeme, BadByte, BadToken, OpenText}
+use Rattle.smt_lex.specs.declared.fronts.Front.TheVariants.{Gap, Lexeme, BadByte}
 use Rattle.smt_lex.specs.declared.entries.Entry.{Entry}
 use Rattle.smt_lex.specs.declared.entries.Watch.{Watch}
 use Rattle.smt_lex.specs.declared.entries.Watch.TheVariants.{Never, Elsewhere, Opened, Named, Met}
-use Rattle.smt_lex.specs.Lex.{Token, Fault, Lexed, ended, next}
+use Rattle.smt_lex.specs.Lex.{Token, Fault, Lexed, ended}
 use Rattle.smt_lex.specs.Forms.{is_left, is_right, is_exit_word, depth_after, balanced, first_tokens, begins_with_right, begins_with_name, to_exit}
-use Rattle.smt_lex.specs.Forest.{closing, form_length}
+use Rattle.smt_lex.specs.Forest.{closing, form_length, IsBalanced, Source}
 
 -- the bytes begin with so much, and it isn't empty
 abbrev pub FitsIn : ℕ → Front → Type 0
@@ -39,6 +39,10 @@ no_entry = record { start = 0; end = 0; after = 0; item = Right }
 
 abbrev pub entry_at : List Entry → ℕ → Entry
 entry_at es i = slice_index_or es i no_entry
+
+abbrev pub first_watch : Until → Watch
+first_watch End = Never
+first_watch Exit = Elsewhere
 
 -- how much of a form `(exit)` that stands in no other the last tokens are, after one more
 abbrev pub watch_after : Watch → ℕ → Item → List ℕ → Watch
@@ -118,3 +122,13 @@ pub record IsBuilt (place : ℕ) (es : List Entry) (lists : List ℕ) (watch : W
   pub spans : Spans place es
   pub nests : Nests es lists
   pub top : AtTop watch (length lists)
+
+-- what a forest keeps
+pub record IsForest (bytes : List ℕ) (es : List Entry) : Type 0 where
+  pub small : length bytes < 2 ^ 32
+  pub spans : Spans (length bytes) es
+  pub ends : Nests es []
+  pub balanced : IsBalanced (tokens_in bytes es)
+
+abbrev pub source : List ℕ → List Entry → Source
+source bytes es = record { bytes = bytes; tokens = tokens_in bytes es }

@@ -1,7 +1,7 @@
 -- A text as a flat list of its tokens, and the forms in it by the numbers of their first tokens.
-use Rattle.std.specs.Prelude.{◌≡◌, ℕ, zero, suc, ◌+◌, ◌-◌, ◌≤◌, Bool, true, false, ◌&&◌, not, List, [], ◌∷◌, length, drop, map, Option, Some, None, Result, Ok, Err, ◌==◌, if◌then◌else◌, IsTrue, slice_index_or}
+use Rattle.std.specs.Prelude.{◌≡◌, ℕ, suc, ◌+◌, ◌<◌, ◌≤◌, ◌^◌, Bool, true, ◌&&◌, not, List, [], ◌∷◌, length, drop, map, Option, Some, None, Result, Err, ◌==◌, if◌then◌else◌, slice_range, slice_index_or}
 use Rattle.smt_lex.specs.declared.items.Item.{Item}
-use Rattle.smt_lex.specs.declared.items.Item.TheVariants.{Left, Right}
+use Rattle.smt_lex.specs.declared.items.Item.TheVariants.{Right}
 use Rattle.smt_lex.specs.declared.faults.LexFault.{LexFault}
 use Rattle.smt_lex.specs.declared.faults.LexFault.TheVariants.{BadByte, BadToken, OpenText, Unbalanced, Memory}
 use Rattle.smt_lex.specs.Lex.{Token, Fault, bad_byte, bad_token, open_text, unbalanced, line_at}
@@ -46,6 +46,15 @@ closes depth (item ∷ more) = not (is_right item && depth == 0) && closes (dept
 
 abbrev pub IsBalanced : List Token → Type 0
 IsBalanced ts = closes 0 (items ts) ≡ true
+
+-- what holds of each text that was scanned: its tokens stand one behind the other, and its parentheses match
+pub record IsScanned (s : Source) : Type 0 where
+  pub small : length s.bytes < 2 ^ 32
+  pub balanced : IsBalanced s.tokens
+  pub some : (i : ℕ) → i < length s.tokens → 0 < length (token_at s.tokens i).text
+  pub within : (i : ℕ) → i < length s.tokens → end_of (token_at s.tokens i) ≤ length s.bytes
+  pub texts : (i : ℕ) → i < length s.tokens → (token_at s.tokens i).text ≡ slice_range s.bytes (token_at s.tokens i).start (end_of (token_at s.tokens i))
+  pub order : (i j : ℕ) → i < j → j < length s.tokens → end_of (token_at s.tokens i) ≤ (token_at s.tokens j).start
 
 -- what is left to read at token i
 abbrev pub rest_at : List Token → ℕ → Forms × List Forms

@@ -1,5 +1,5 @@
 -- The forms of a text, which SMT-LIB 2.6, section 3.2, calls its s-expressions.
-use Rattle.std.specs.Prelude.{ℕ, zero, suc, ◌+◌, ◌-◌, Bool, true, false, ◌&&◌, List, [], ◌∷◌, ◌++◌, drop, codes, bytes_eq, Result, Ok, Err, ◌==◌, if◌then◌else◌}
+use Rattle.std.specs.Prelude.{ℕ, zero, suc, ◌-◌, Bool, true, false, ◌&&◌, List, [], ◌∷◌, codes, bytes_eq, Result, Ok, Err, ◌==◌, if◌then◌else◌}
 use Rattle.smt_lex.specs.Lex.{Token, Fault, unbalanced, Lexed, ended, faulty, next, lex}
 use Rattle.smt_lex.specs.declared.items.Item.{Item}
 use Rattle.smt_lex.specs.declared.items.Item.TheVariants.{Left, Right, Word}

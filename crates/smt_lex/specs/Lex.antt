@@ -1,5 +1,5 @@
 -- The tokens of a text (SMT-LIB 2.6, section 3.1), with their places: bytes counted from 0.
-use Rattle.std.specs.Prelude.{ℕ, zero, suc, ◌+◌, ◌-◌, Bool, true, false, ◌&&◌, not, List, [], ◌∷◌, length, take, drop, count_by, Option, Some, None, ◌==◌, nat_lt, if◌then◌else◌}
+use Rattle.std.specs.Prelude.{◌≡◌, ℕ, zero, suc, ◌+◌, ◌-◌, Bool, false, ◌&&◌, not, List, [], ◌∷◌, length, take, drop, count_by, Option, Some, None, ◌==◌, nat_lt, if◌then◌else◌}
 use Rattle.smt_lex.specs.Lexicon.{line_feed, quote, left_parenthesis, right_parenthesis, semicolon, backslash, bar, is_blank, is_line_end, is_run_byte, length_while, run_item}
 use Rattle.smt_lex.specs.Names.{Name, is_reserved}
 use Rattle.smt_lex.specs.declared.items.Item.{Item}
@@ -42,8 +42,12 @@ abbrev pub literal_length : List ℕ → Option ℕ
 literal_length bs = literal_from false bs
 
 -- a literal whose first quote stands before the bytes
+abbrev pub literal_by : Option ℕ → Front
+literal_by (Some n) = Lexeme Text (suc n)
+literal_by None = OpenText
+
 abbrev pub literal_front : List ℕ → Front
-literal_front bs = elim (literal_length bs) [ Some n ↦ Lexeme Text (suc n) | None ↦ OpenText ]
+literal_front bs = literal_by (literal_length bs)
 
 -- a quoted symbol whose first bar stands before the bytes: the next bar closes it, and no backslash stands between
 abbrev pub quoted_front : List ℕ → Front
@@ -55,10 +59,12 @@ quoted_front bs =
     else Lexeme Quoted (inside + 2))
 
 -- the longest run that the bytes begin with
+abbrev pub run_by : Option Item → ℕ → Front
+run_by (Some item) n = Lexeme item n
+run_by None n = BadToken
+
 abbrev pub run_front : List ℕ → Front
-run_front bs =
-    let run = length_while is_run_byte bs in
-    elim (run_item (take run bs)) [ Some item ↦ Lexeme item run | None ↦ BadToken ]
+run_front bs = let n = length_while is_run_byte bs in run_by (run_item (take n bs)) n
 
 -- what the bytes begin with, and how many bytes that is
 abbrev pub front : List ℕ → Front
@@ -121,3 +127,7 @@ symbol_by _ text = None
 
 abbrev pub symbol_of : Token → Option Name
 symbol_of token = symbol_by token.item token.text
+
+-- the text is one token, and that is the symbol of this name
+abbrev pub IsOneSymbol : List ℕ → Name → Type 0
+IsOneSymbol text name = (token : Token) × (lex text ≡ next token (ended (length text))) × (symbol_of token ≡ Some name)

@@ -1,8 +1,8 @@
 -- Names: reserved words (SMT-LIB 2.6, section 3.1), the names of the theories, and how symbols are printed.
-use Rattle.std.specs.Prelude.{ℕ, Bool, ◌&&◌, ◌||◌, not, List, [], ◌∷◌, ◌++◌, take, drop, codes, bytes_eq, ◌==◌, if◌then◌else◌}
-use Rattle.std.specs.List.{list_any}
+use Rattle.std.specs.Prelude.{◌≡◌, ℕ, Bool, true, ◌&&◌, ◌||◌, not, List, [], ◌∷◌, ◌++◌, take, drop, codes, bytes_eq, ◌==◌, if◌then◌else◌}
+use Rattle.std.specs.List.{list_any, list_all}
 use Rattle.std.specs.Char.{is_ascii_digit}
-use Rattle.smt_lex.specs.Lexicon.{bar, starts_as, is_some_of, is_word}
+use Rattle.smt_lex.specs.Lexicon.{bar, backslash, starts_as, is_some_of, is_word}
 
 abbrev pub Name : Type 0
 Name = List ℕ
@@ -23,11 +23,18 @@ command_words =
     ∷ codes "get-proof" ∷ codes "get-unsat-assumptions" ∷ codes "get-unsat-core" ∷ codes "get-value" ∷ codes "pop" ∷ codes "push" ∷ codes "reset"
     ∷ codes "reset-assertions" ∷ codes "set-info" ∷ codes "set-logic" ∷ codes "set-option" ∷ []
 
-unfoldable pub is_command_word : Name → Bool
-is_command_word = is_among command_words
+unfoldable pub is_syntax_word : Name → Bool
+is_syntax_word name = is_among syntax_words name
 
-unfoldable pub is_reserved : Name → Bool
-is_reserved name = is_among syntax_words name || is_among command_words name
+unfoldable pub is_command_word : Name → Bool
+is_command_word name = is_among command_words name
+
+abbrev pub is_reserved : Name → Bool
+is_reserved name = is_syntax_word name || is_command_word name
+
+-- a name is what can stand between bars
+abbrev pub IsName : Name → Type 0
+IsName name = list_all (λ b. not (b == bar) && not (b == backslash)) name ≡ true
 
 -- a name that is written without bars
 abbrev pub is_simple : Name → Bool
@@ -67,7 +74,7 @@ abbrev pub theory_sorts : List Name
 theory_sorts = codes "Bool" ∷ codes "Int" ∷ codes "Real" ∷ codes "Array" ∷ codes "BitVec" ∷ []
 
 unfoldable pub is_theory_sort : Name → Bool
-is_theory_sort = is_among theory_sorts
+is_theory_sort name = is_among theory_sorts name
 
 -- names that begin with `@` or `.` belong to the solvers
 abbrev pub is_internal : Name → Bool
@@ -79,7 +86,7 @@ is_reserved_for_declaring name = is_internal name || is_theory_name name
 
 -- no `let` binds such a name
 unfoldable pub is_reserved_for_let : Name → Bool
-is_reserved_for_let = is_theory_name
+is_reserved_for_let name = is_theory_name name
 
 -- no sort is given such a name
 unfoldable pub is_reserved_for_sorts : Name → Bool

@@ -185,10 +185,7 @@ pub(crate) fn tokens_of(alloc: Global, bytes: &[u8], until: Until) -> Result<Vec
     let mut builder = Builder {
         entries: Vec::new(alloc),
         lists: Vec::new(alloc),
-        watch: match until {
-            Until::End => Watch::Never,
-            Until::Exit => Watch::Elsewhere,
-        },
+        watch: Watch::new(until),
     };
     let mut place = 0;
     while place < bytes.len() && !matches!(builder.watch, Watch::Met) {

@@ -3,7 +3,7 @@
 ghost use Rattle.std.specs.Prelude.{◌≡◌};
 ghost use Rattle.smt_lex.specs.Forms.{is_exit_word, is_left, is_right};
 
-use crate::items::Item;
+use crate::items::{Item, Until};
 
 /// A token, its first byte and the one behind it, and the number of the token behind the form that begins here.
 #[derive(Clone, Copy)]
@@ -51,8 +51,20 @@ fn is_exit_word(item: Item, text: &[u8]) -> bool
     }
 }
 
+const _: () = prove!(size_of::<Entry>() <= 16);
+
 impl Watch {
-    ghost use Rattle.smt_lex.specs.Building.{watch_after};
+    ghost use Rattle.smt_lex.specs.Building.{watch_after, first_watch};
+
+    /// The watch before the first token.
+    pub(crate) fn new(until: Until) -> Watch
+        ensures { result ≡ first_watch until }
+    {
+        match until {
+            Until::End => Watch::Never,
+            Until::Exit => Watch::Elsewhere,
+        }
+    }
 
     /// The watch behind one more token, before which so many lists were open.
     pub(crate) fn after(self, depth: usize, item: Item, text: &[u8]) -> Watch

@@ -1,9 +1,14 @@
 // How symbols are printed.
 
+ghost use Rattle.std.specs.Prelude.{◌≡◌, [], ◌∷◌, ◌++◌, map, IfOk, OnOk, OnErr};
+ghost use Rattle.smt_lex.specs.Lexicon.{bar};
+ghost use Rattle.smt_lex.specs.Names.{is_among, is_syntax_word, is_command_word, is_reserved, is_simple, IsName, printed_symbol};
+ghost use Rattle.smt_lex.specs.Lex.{IsOneSymbol};
+
 use crate::runs::is_word;
 use std::alloc::{AllocError, Global};
 
-const RESERVED: [&[u8]; 43] = [
+const SYNTAX_WORDS: [&[u8]; 13] = [
     b"BINARY",
     b"DECIMAL",
     b"HEXADECIMAL",
@@ -17,6 +22,9 @@ const RESERVED: [&[u8]; 43] = [
     b"let",
     b"match",
     b"par",
+];
+
+const COMMAND_WORDS: [&[u8]; 30] = [
     b"assert",
     b"check-sat",
     b"check-sat-assuming",
@@ -49,20 +57,66 @@ const RESERVED: [&[u8]; 43] = [
     b"set-option",
 ];
 
-// Whether the word is reserved.
-fn is_reserved(word: &[u8]) -> bool {
-    RESERVED.iter().any(|reserved| *reserved == word)
+// Whether the name is a symbol without bars.
+fn is_simple(name: &[u8]) -> bool
+    ensures { result ≡ is_simple name.now }
+{
+    is_word(name) && !is_reserved(name)
+}
+
+// Whether the word belongs to the syntax or names a command.
+fn is_reserved(word: &[u8]) -> bool
+    ensures { result ≡ is_reserved word.now }
+{
+    is_syntax_word(word) || is_command_word(word)
+}
+
+fn is_syntax_word(word: &[u8]) -> bool
+    ensures { result ≡ is_syntax_word word.now }
+{
+    is_among(&SYNTAX_WORDS, word)
+}
+
+fn is_command_word(word: &[u8]) -> bool
+    ensures { result ≡ is_command_word word.now }
+{
+    is_among(&COMMAND_WORDS, word)
+}
+
+// Whether it is one of the words.
+fn is_among(words: &[&[u8]], word: &[u8]) -> bool
+    ensures { result ≡ is_among (map (λ other. other.now) words.now) word.now }
+{
+    for other in words {
+        if word == *other {
+            return true;
+        }
+    }
+    false
 }
 
 /// Appends the symbol of this name as it is printed: with bars unless the name is a word that isn't reserved.
 /// A name has no `|` and no `\`. A refusal leaves `out` as before.
-pub fn symbol_text(alloc: Global, name: &[u8], out: &mut Vec<u8>) -> Result<(), AllocError> {
-    if is_word(name) && !is_reserved(name) {
+pub fn symbol_text(alloc: Global, name: &[u8], out: &mut Vec<u8>) -> Result<(), AllocError>
+    requires { IsName name.now }
+    ensures ok { OnOk result (out.new.items ≡ out.old.items ++ printed_symbol name.now) }
+    ensures refused { OnErr result (out.new.items ≡ out.old.items) }
+    ensures one { IsOneSymbol (printed_symbol name.now) name.now }
+{
+    if is_simple(name) {
         return out.extend_from_slice(name);
     }
-    let mut quoted = Vec::new(alloc);
-    quoted.push(b'|')?;
-    quoted.extend_from_slice(name)?;
-    quoted.push(b'|')?;
-    out.extend_from_slice(&quoted)
+    let text = quoted(alloc, name)?;
+    out.extend_from_slice(&text)
+}
+
+// The name between bars.
+fn quoted(alloc: Global, name: &[u8]) -> Result<Vec<u8>, AllocError>
+    ensures { IfOk result (λ text. text.items ≡ bar ∷ name.now ++ bar ∷ []) }
+{
+    let mut text = Vec::new(alloc);
+    text.push(b'|')?;
+    text.extend_from_slice(name)?;
+    text.push(b'|')?;
+    Ok(text)
 }

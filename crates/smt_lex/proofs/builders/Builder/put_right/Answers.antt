@@ -1,5 +1,5 @@
 use Rattle.smt_lex.proofs.Putting.{puts_right}
-use Rattle.std.proofs.Common.{◌+◌, ◌∙◌, ◌++◌, ap, refl, sym}
+use Rattle.std.proofs.Common.{◌+◌, ◌∙◌, ◌++◌, ap, refl}
 use Rattle.std.specs.Prelude.{option_to_list}
 use Rattle.smt_lex.proofs.builders.Builder.put_right.Goals as goal
 
