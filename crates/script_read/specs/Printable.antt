@@ -1,7 +1,7 @@
 -- Lists of commands that can be printed and read again: nothing that reading would refuse is among them. SMT-LIB 2.6,
 -- sections 3.1 (symbols), 3.9 and 4.2.
-use Rattle.std.specs.Prelude.{ℕ, ◌+◌, ◌-◌, ◌==◌, Bool, true, false, not, ◌&&◌, ◌||◌, nat_le, List, [], ◌∷◌, length}
-use Rattle.std.specs.List.{list_any, list_all}
+use Rattle.std.specs.Prelude.{ℕ, ◌+◌, ◌-◌, ◌==◌, Bool, true, false, not, ◌&&◌, nat_le, List, [], ◌∷◌, length}
+use Rattle.std.specs.List.{list_all}
 use Rattle.smt_lex.specs.Lexicon.{bar, backslash}
 use Rattle.smt_lex.specs.Names.{is_among, is_reserved_for_declaring, is_reserved_for_sorts}
 use Rattle.smt_terms.specs.declared.op.Op.TheVariants.{Not}
@@ -19,7 +19,7 @@ use Rattle.script_read.specs.Script.{most_levels}
 
 -- a name that can be written between bars
 abbrev pub is_writable : Name → Bool
-is_writable n = not (list_any (λ b. b == bar || b == backslash) n)
+is_writable n = list_all (λ b. not (b == bar) && not (b == backslash)) n
 
 -- a name that may be declared or quantified
 abbrev pub is_usable : Name → Bool

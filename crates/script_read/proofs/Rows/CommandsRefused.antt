@@ -1,7 +1,7 @@
 -- Worked rows: what commands are refused for, their names, shapes, levels and options. Each text stands with its first refusal, or none.
 use Rattle.std.specs.Prelude.{◌≡◌, [], ◌∷◌, Some, None, codes, refl}
 use Rattle.smt_lex.specs.Lex.{bad_byte, bad_token, open_text, unbalanced}
-use Rattle.smt_lex.specs.Names.{is_command_word, is_reserved, is_theory_name, is_theory_sort, is_reserved_for_declaring, is_reserved_for_let, is_reserved_for_sorts}
+use Rattle.smt_lex.specs.Names.{is_command_word, is_syntax_word, is_theory_name, is_theory_sort, is_reserved_for_declaring, is_reserved_for_let, is_reserved_for_sorts}
 use Rattle.smt_terms.specs.Rank.{rank}
 use Rattle.smt_terms.specs.Written.{operator_named, written_rank, build}
 use Rattle.script_read.specs.declared.causes.Cause.TheVariants.{BadForm, NumberLimit, PopTooFar, Redeclared, ReservedName, SortArity, UnknownCommand, UnknownName, UnsupportedCommand, UnsupportedOption}
@@ -20,7 +20,7 @@ unknown_commands =
     ∷ []
 
 of_unknown_commands : found unknown_commands ≡ wanted unknown_commands
-unfolding is_command_word is_reserved supported is_theory_name is_theory_sort is_reserved_for_declaring is_reserved_for_let is_reserved_for_sorts operator_named written_rank build rank
+unfolding is_command_word is_syntax_word supported is_theory_name is_theory_sort is_reserved_for_declaring is_reserved_for_let is_reserved_for_sorts operator_named written_rank build rank
 of_unknown_commands = refl
 
 -- a command of the standard that isn't supported, whatever its shape
@@ -33,7 +33,7 @@ unsupported_commands =
     ∷ []
 
 of_unsupported_commands : found unsupported_commands ≡ wanted unsupported_commands
-unfolding is_command_word is_reserved supported is_theory_name is_theory_sort is_reserved_for_declaring is_reserved_for_let is_reserved_for_sorts operator_named written_rank build rank
+unfolding is_command_word is_syntax_word supported is_theory_name is_theory_sort is_reserved_for_declaring is_reserved_for_let is_reserved_for_sorts operator_named written_rank build rank
 of_unsupported_commands = refl
 
 -- a form that is no list or begins with no word
@@ -47,7 +47,7 @@ no_commands =
     ∷ []
 
 of_no_commands : found no_commands ≡ wanted no_commands
-unfolding is_command_word is_reserved supported is_theory_name is_theory_sort is_reserved_for_declaring is_reserved_for_let is_reserved_for_sorts operator_named written_rank build rank
+unfolding is_command_word is_syntax_word supported is_theory_name is_theory_sort is_reserved_for_declaring is_reserved_for_let is_reserved_for_sorts operator_named written_rank build rank
 of_no_commands = refl
 
 -- another number or kind of parts
@@ -64,7 +64,7 @@ shapes_of_declarations =
     ∷ []
 
 of_shapes_of_declarations : found shapes_of_declarations ≡ wanted shapes_of_declarations
-unfolding is_command_word is_reserved supported is_theory_name is_theory_sort is_reserved_for_declaring is_reserved_for_let is_reserved_for_sorts operator_named written_rank build rank
+unfolding is_command_word is_syntax_word supported is_theory_name is_theory_sort is_reserved_for_declaring is_reserved_for_let is_reserved_for_sorts operator_named written_rank build rank
 of_shapes_of_declarations = refl
 
 abbrev shapes_of_other_commands : Cases
@@ -87,7 +87,7 @@ shapes_of_other_commands =
     ∷ []
 
 of_shapes_of_other_commands : found shapes_of_other_commands ≡ wanted shapes_of_other_commands
-unfolding is_command_word is_reserved supported is_theory_name is_theory_sort is_reserved_for_declaring is_reserved_for_let is_reserved_for_sorts operator_named written_rank build rank
+unfolding is_command_word is_syntax_word supported is_theory_name is_theory_sort is_reserved_for_declaring is_reserved_for_let is_reserved_for_sorts operator_named written_rank build rank
 of_shapes_of_other_commands = refl
 
 -- names of the theories, and those that begin with `@` or `.`
@@ -110,7 +110,7 @@ reserved_names =
     ∷ []
 
 of_reserved_names : found reserved_names ≡ wanted reserved_names
-unfolding is_command_word is_reserved supported is_theory_name is_theory_sort is_reserved_for_declaring is_reserved_for_let is_reserved_for_sorts operator_named written_rank build rank
+unfolding is_command_word is_syntax_word supported is_theory_name is_theory_sort is_reserved_for_declaring is_reserved_for_let is_reserved_for_sorts operator_named written_rank build rank
 of_reserved_names = refl
 
 -- a name that is live, or stands twice
@@ -133,7 +133,7 @@ names_given_twice =
     ∷ []
 
 of_names_given_twice : found names_given_twice ≡ wanted names_given_twice
-unfolding is_command_word is_reserved supported is_theory_name is_theory_sort is_reserved_for_declaring is_reserved_for_let is_reserved_for_sorts operator_named written_rank build rank
+unfolding is_command_word is_syntax_word supported is_theory_name is_theory_sort is_reserved_for_declaring is_reserved_for_let is_reserved_for_sorts operator_named written_rank build rank
 of_names_given_twice = refl
 
 -- a name is examined before an arity, sorts and parameters
@@ -147,7 +147,7 @@ a_name_counts_first =
     ∷ []
 
 of_a_name_counts_first : found a_name_counts_first ≡ wanted a_name_counts_first
-unfolding is_command_word is_reserved supported is_theory_name is_theory_sort is_reserved_for_declaring is_reserved_for_let is_reserved_for_sorts operator_named written_rank build rank
+unfolding is_command_word is_syntax_word supported is_theory_name is_theory_sort is_reserved_for_declaring is_reserved_for_let is_reserved_for_sorts operator_named written_rank build rank
 of_a_name_counts_first = refl
 
 abbrev levels : Cases
@@ -164,7 +164,7 @@ levels =
     ∷ []
 
 of_levels : found levels ≡ wanted levels
-unfolding is_command_word is_reserved supported is_theory_name is_theory_sort is_reserved_for_declaring is_reserved_for_let is_reserved_for_sorts operator_named written_rank build rank
+unfolding is_command_word is_syntax_word supported is_theory_name is_theory_sort is_reserved_for_declaring is_reserved_for_let is_reserved_for_sorts operator_named written_rank build rank
 of_levels = refl
 
 abbrev arities_of_sorts : Cases
@@ -176,7 +176,7 @@ arities_of_sorts =
     ∷ []
 
 of_arities_of_sorts : found arities_of_sorts ≡ wanted arities_of_sorts
-unfolding is_command_word is_reserved supported is_theory_name is_theory_sort is_reserved_for_declaring is_reserved_for_let is_reserved_for_sorts operator_named written_rank build rank
+unfolding is_command_word is_syntax_word supported is_theory_name is_theory_sort is_reserved_for_declaring is_reserved_for_let is_reserved_for_sorts operator_named written_rank build rank
 of_arities_of_sorts = refl
 
 -- `:global-declarations` stands before all that it would change
@@ -195,7 +195,7 @@ options =
     ∷ []
 
 of_options : found options ≡ wanted options
-unfolding is_command_word is_reserved supported is_theory_name is_theory_sort is_reserved_for_declaring is_reserved_for_let is_reserved_for_sorts operator_named written_rank build rank
+unfolding is_command_word is_syntax_word supported is_theory_name is_theory_sort is_reserved_for_declaring is_reserved_for_let is_reserved_for_sorts operator_named written_rank build rank
 of_options = refl
 
 -- they outlive their level
@@ -207,7 +207,7 @@ global_declarations =
     ∷ []
 
 of_global_declarations : found global_declarations ≡ wanted global_declarations
-unfolding is_command_word is_reserved supported is_theory_name is_theory_sort is_reserved_for_declaring is_reserved_for_let is_reserved_for_sorts operator_named written_rank build rank
+unfolding is_command_word is_syntax_word supported is_theory_name is_theory_sort is_reserved_for_declaring is_reserved_for_let is_reserved_for_sorts operator_named written_rank build rank
 of_global_declarations = refl
 
 -- a literal is a declared Boolean constant or its negation
@@ -223,7 +223,7 @@ assumptions =
     ∷ []
 
 of_assumptions : found assumptions ≡ wanted assumptions
-unfolding is_command_word is_reserved supported is_theory_name is_theory_sort is_reserved_for_declaring is_reserved_for_let is_reserved_for_sorts operator_named written_rank build rank
+unfolding is_command_word is_syntax_word supported is_theory_name is_theory_sort is_reserved_for_declaring is_reserved_for_let is_reserved_for_sorts operator_named written_rank build rank
 of_assumptions = refl
 
 -- they come before all commands, and what follows `(exit)` isn't looked at
@@ -239,5 +239,5 @@ tokens_and_parentheses =
     ∷ []
 
 of_tokens_and_parentheses : found tokens_and_parentheses ≡ wanted tokens_and_parentheses
-unfolding is_command_word is_reserved supported is_theory_name is_theory_sort is_reserved_for_declaring is_reserved_for_let is_reserved_for_sorts operator_named written_rank build rank
+unfolding is_command_word is_syntax_word supported is_theory_name is_theory_sort is_reserved_for_declaring is_reserved_for_let is_reserved_for_sorts operator_named written_rank build rank
 of_tokens_and_parentheses = refl

@@ -1,6 +1,6 @@
 -- Worked rows: what assertions mean in models, by their forms and by the terms that they are read as.
 use Rattle.std.specs.Prelude.{◌≡◌, ℕ, Bool, true, false, cond, List, [], ◌∷◌, map, pos, Option, Some, None, codes, refl}
-use Rattle.smt_lex.specs.Names.{is_command_word, is_reserved, is_theory_name, is_theory_sort, is_reserved_for_declaring, is_reserved_for_let, is_reserved_for_sorts}
+use Rattle.smt_lex.specs.Names.{is_command_word, is_syntax_word, is_theory_name, is_theory_sort, is_reserved_for_declaring, is_reserved_for_let, is_reserved_for_sorts}
 use Rattle.smt_terms.specs.Equal.{op_eq}
 use Rattle.smt_terms.specs.Rank.{rank}
 use Rattle.smt_terms.specs.Written.{operator_named, written_rank, build}
@@ -63,19 +63,19 @@ lets =
     ∷ []
 
 lets_mean_in_one_one : meanings one_one lets ≡ true ∷ true ∷ []
-unfolding is_command_word is_reserved supported is_theory_name is_theory_sort is_reserved_for_declaring is_reserved_for_let is_reserved_for_sorts operator_named written_rank build rank op_eq op_value over_bits
+unfolding is_command_word is_syntax_word supported is_theory_name is_theory_sort is_reserved_for_declaring is_reserved_for_let is_reserved_for_sorts operator_named written_rank build rank op_eq op_value over_bits
 lets_mean_in_one_one = refl
 
 lets_are_in_one_one : values one_one lets ≡ true ∷ true ∷ []
-unfolding is_command_word is_reserved supported is_theory_name is_theory_sort is_reserved_for_declaring is_reserved_for_let is_reserved_for_sorts operator_named written_rank build rank op_eq op_value over_bits
+unfolding is_command_word is_syntax_word supported is_theory_name is_theory_sort is_reserved_for_declaring is_reserved_for_let is_reserved_for_sorts operator_named written_rank build rank op_eq op_value over_bits
 lets_are_in_one_one = refl
 
 lets_mean_in_one_two : meanings one_two lets ≡ false ∷ true ∷ []
-unfolding is_command_word is_reserved supported is_theory_name is_theory_sort is_reserved_for_declaring is_reserved_for_let is_reserved_for_sorts operator_named written_rank build rank op_eq op_value over_bits
+unfolding is_command_word is_syntax_word supported is_theory_name is_theory_sort is_reserved_for_declaring is_reserved_for_let is_reserved_for_sorts operator_named written_rank build rank op_eq op_value over_bits
 lets_mean_in_one_two = refl
 
 lets_are_in_one_two : values one_two lets ≡ false ∷ true ∷ []
-unfolding is_command_word is_reserved supported is_theory_name is_theory_sort is_reserved_for_declaring is_reserved_for_let is_reserved_for_sorts operator_named written_rank build rank op_eq op_value over_bits
+unfolding is_command_word is_syntax_word supported is_theory_name is_theory_sort is_reserved_for_declaring is_reserved_for_let is_reserved_for_sorts operator_named written_rank build rank op_eq op_value over_bits
 lets_are_in_one_two = refl
 
 -- a `let` inside a quantifier keeps what its names stood for; the second is false, and so is the third, which would be true if the inner name were caught
@@ -87,11 +87,11 @@ quantified =
     ∷ []
 
 quantified_mean_in_one_one : meanings one_one quantified ≡ true ∷ false ∷ false ∷ []
-unfolding is_command_word is_reserved supported is_theory_name is_theory_sort is_reserved_for_declaring is_reserved_for_let is_reserved_for_sorts operator_named written_rank build rank op_eq op_value over_bits
+unfolding is_command_word is_syntax_word supported is_theory_name is_theory_sort is_reserved_for_declaring is_reserved_for_let is_reserved_for_sorts operator_named written_rank build rank op_eq op_value over_bits
 quantified_mean_in_one_one = refl
 
 quantified_are_in_one_one : values one_one quantified ≡ true ∷ false ∷ false ∷ []
-unfolding is_command_word is_reserved supported is_theory_name is_theory_sort is_reserved_for_declaring is_reserved_for_let is_reserved_for_sorts operator_named written_rank build rank op_eq op_value over_bits
+unfolding is_command_word is_syntax_word supported is_theory_name is_theory_sort is_reserved_for_declaring is_reserved_for_let is_reserved_for_sorts operator_named written_rank build rank op_eq op_value over_bits
 quantified_are_in_one_one = refl
 
 -- an argument isn't caught by a quantifier of the definition: caught, the first would be false and the second true
@@ -102,11 +102,11 @@ definitions =
     ∷ []
 
 definitions_mean_in_one_one : meanings one_one definitions ≡ true ∷ false ∷ []
-unfolding is_command_word is_reserved supported is_theory_name is_theory_sort is_reserved_for_declaring is_reserved_for_let is_reserved_for_sorts operator_named written_rank build rank op_eq op_value over_bits
+unfolding is_command_word is_syntax_word supported is_theory_name is_theory_sort is_reserved_for_declaring is_reserved_for_let is_reserved_for_sorts operator_named written_rank build rank op_eq op_value over_bits
 definitions_mean_in_one_one = refl
 
 definitions_are_in_one_one : values one_one definitions ≡ true ∷ false ∷ []
-unfolding is_command_word is_reserved supported is_theory_name is_theory_sort is_reserved_for_declaring is_reserved_for_let is_reserved_for_sorts operator_named written_rank build rank op_eq op_value over_bits
+unfolding is_command_word is_syntax_word supported is_theory_name is_theory_sort is_reserved_for_declaring is_reserved_for_let is_reserved_for_sorts operator_named written_rank build rank op_eq op_value over_bits
 definitions_are_in_one_one = refl
 
 -- a definition means what its body means where it was made, whatever is bound where it is used
@@ -119,19 +119,19 @@ definitions_in_place =
     ∷ []
 
 definitions_in_place_mean_in_one_one : meanings one_one definitions_in_place ≡ true ∷ false ∷ false ∷ true ∷ []
-unfolding is_command_word is_reserved supported is_theory_name is_theory_sort is_reserved_for_declaring is_reserved_for_let is_reserved_for_sorts operator_named written_rank build rank op_eq op_value over_bits
+unfolding is_command_word is_syntax_word supported is_theory_name is_theory_sort is_reserved_for_declaring is_reserved_for_let is_reserved_for_sorts operator_named written_rank build rank op_eq op_value over_bits
 definitions_in_place_mean_in_one_one = refl
 
 definitions_in_place_are_in_one_one : values one_one definitions_in_place ≡ true ∷ false ∷ false ∷ true ∷ []
-unfolding is_command_word is_reserved supported is_theory_name is_theory_sort is_reserved_for_declaring is_reserved_for_let is_reserved_for_sorts operator_named written_rank build rank op_eq op_value over_bits
+unfolding is_command_word is_syntax_word supported is_theory_name is_theory_sort is_reserved_for_declaring is_reserved_for_let is_reserved_for_sorts operator_named written_rank build rank op_eq op_value over_bits
 definitions_in_place_are_in_one_one = refl
 
 definitions_in_place_mean_in_one_two : meanings one_two definitions_in_place ≡ false ∷ false ∷ false ∷ true ∷ []
-unfolding is_command_word is_reserved supported is_theory_name is_theory_sort is_reserved_for_declaring is_reserved_for_let is_reserved_for_sorts operator_named written_rank build rank op_eq op_value over_bits
+unfolding is_command_word is_syntax_word supported is_theory_name is_theory_sort is_reserved_for_declaring is_reserved_for_let is_reserved_for_sorts operator_named written_rank build rank op_eq op_value over_bits
 definitions_in_place_mean_in_one_two = refl
 
 definitions_in_place_are_in_one_two : values one_two definitions_in_place ≡ false ∷ false ∷ false ∷ true ∷ []
-unfolding is_command_word is_reserved supported is_theory_name is_theory_sort is_reserved_for_declaring is_reserved_for_let is_reserved_for_sorts operator_named written_rank build rank op_eq op_value over_bits
+unfolding is_command_word is_syntax_word supported is_theory_name is_theory_sort is_reserved_for_declaring is_reserved_for_let is_reserved_for_sorts operator_named written_rank build rank op_eq op_value over_bits
 definitions_in_place_are_in_one_two = refl
 
 -- a name of a term means what the term means where it stands
@@ -144,11 +144,11 @@ names_of_terms =
     ∷ []
 
 names_of_terms_mean_in_one_one : meanings one_one names_of_terms ≡ true ∷ true ∷ true ∷ false ∷ []
-unfolding is_command_word is_reserved supported is_theory_name is_theory_sort is_reserved_for_declaring is_reserved_for_let is_reserved_for_sorts operator_named written_rank build rank op_eq op_value over_bits
+unfolding is_command_word is_syntax_word supported is_theory_name is_theory_sort is_reserved_for_declaring is_reserved_for_let is_reserved_for_sorts operator_named written_rank build rank op_eq op_value over_bits
 names_of_terms_mean_in_one_one = refl
 
 names_of_terms_are_in_one_one : values one_one names_of_terms ≡ true ∷ true ∷ true ∷ false ∷ []
-unfolding is_command_word is_reserved supported is_theory_name is_theory_sort is_reserved_for_declaring is_reserved_for_let is_reserved_for_sorts operator_named written_rank build rank op_eq op_value over_bits
+unfolding is_command_word is_syntax_word supported is_theory_name is_theory_sort is_reserved_for_declaring is_reserved_for_let is_reserved_for_sorts operator_named written_rank build rank op_eq op_value over_bits
 names_of_terms_are_in_one_one = refl
 
 abbrev applications : List (List ℕ)
@@ -159,19 +159,19 @@ applications =
     ∷ []
 
 applications_mean_in_one_one : meanings one_one applications ≡ true ∷ true ∷ false ∷ []
-unfolding is_command_word is_reserved supported is_theory_name is_theory_sort is_reserved_for_declaring is_reserved_for_let is_reserved_for_sorts operator_named written_rank build rank op_eq op_value over_bits
+unfolding is_command_word is_syntax_word supported is_theory_name is_theory_sort is_reserved_for_declaring is_reserved_for_let is_reserved_for_sorts operator_named written_rank build rank op_eq op_value over_bits
 applications_mean_in_one_one = refl
 
 applications_are_in_one_one : values one_one applications ≡ true ∷ true ∷ false ∷ []
-unfolding is_command_word is_reserved supported is_theory_name is_theory_sort is_reserved_for_declaring is_reserved_for_let is_reserved_for_sorts operator_named written_rank build rank op_eq op_value over_bits
+unfolding is_command_word is_syntax_word supported is_theory_name is_theory_sort is_reserved_for_declaring is_reserved_for_let is_reserved_for_sorts operator_named written_rank build rank op_eq op_value over_bits
 applications_are_in_one_one = refl
 
 applications_mean_in_one_two : meanings one_two applications ≡ true ∷ true ∷ false ∷ []
-unfolding is_command_word is_reserved supported is_theory_name is_theory_sort is_reserved_for_declaring is_reserved_for_let is_reserved_for_sorts operator_named written_rank build rank op_eq op_value over_bits
+unfolding is_command_word is_syntax_word supported is_theory_name is_theory_sort is_reserved_for_declaring is_reserved_for_let is_reserved_for_sorts operator_named written_rank build rank op_eq op_value over_bits
 applications_mean_in_one_two = refl
 
 applications_are_in_one_two : values one_two applications ≡ true ∷ true ∷ false ∷ []
-unfolding is_command_word is_reserved supported is_theory_name is_theory_sort is_reserved_for_declaring is_reserved_for_let is_reserved_for_sorts operator_named written_rank build rank op_eq op_value over_bits
+unfolding is_command_word is_syntax_word supported is_theory_name is_theory_sort is_reserved_for_declaring is_reserved_for_let is_reserved_for_sorts operator_named written_rank build rank op_eq op_value over_bits
 applications_are_in_one_two = refl
 
 abbrev divisions_by_zero : List (List ℕ)
@@ -181,19 +181,19 @@ divisions_by_zero =
     ∷ []
 
 divisions_by_zero_mean_in_one_one : meanings one_one divisions_by_zero ≡ false ∷ true ∷ []
-unfolding is_command_word is_reserved supported is_theory_name is_theory_sort is_reserved_for_declaring is_reserved_for_let is_reserved_for_sorts operator_named written_rank build rank op_eq op_value over_bits
+unfolding is_command_word is_syntax_word supported is_theory_name is_theory_sort is_reserved_for_declaring is_reserved_for_let is_reserved_for_sorts operator_named written_rank build rank op_eq op_value over_bits
 divisions_by_zero_mean_in_one_one = refl
 
 divisions_by_zero_are_in_one_one : values one_one divisions_by_zero ≡ false ∷ true ∷ []
-unfolding is_command_word is_reserved supported is_theory_name is_theory_sort is_reserved_for_declaring is_reserved_for_let is_reserved_for_sorts operator_named written_rank build rank op_eq op_value over_bits
+unfolding is_command_word is_syntax_word supported is_theory_name is_theory_sort is_reserved_for_declaring is_reserved_for_let is_reserved_for_sorts operator_named written_rank build rank op_eq op_value over_bits
 divisions_by_zero_are_in_one_one = refl
 
 divisions_by_zero_mean_in_one_two : meanings one_two divisions_by_zero ≡ true ∷ true ∷ []
-unfolding is_command_word is_reserved supported is_theory_name is_theory_sort is_reserved_for_declaring is_reserved_for_let is_reserved_for_sorts operator_named written_rank build rank op_eq op_value over_bits
+unfolding is_command_word is_syntax_word supported is_theory_name is_theory_sort is_reserved_for_declaring is_reserved_for_let is_reserved_for_sorts operator_named written_rank build rank op_eq op_value over_bits
 divisions_by_zero_mean_in_one_two = refl
 
 divisions_by_zero_are_in_one_two : values one_two divisions_by_zero ≡ true ∷ true ∷ []
-unfolding is_command_word is_reserved supported is_theory_name is_theory_sort is_reserved_for_declaring is_reserved_for_let is_reserved_for_sorts operator_named written_rank build rank op_eq op_value over_bits
+unfolding is_command_word is_syntax_word supported is_theory_name is_theory_sort is_reserved_for_declaring is_reserved_for_let is_reserved_for_sorts operator_named written_rank build rank op_eq op_value over_bits
 divisions_by_zero_are_in_one_two = refl
 
 abbrev quantified_vectors : List (List ℕ)
@@ -204,11 +204,11 @@ quantified_vectors =
     ∷ []
 
 quantified_vectors_mean_in_one_one : meanings one_one quantified_vectors ≡ true ∷ false ∷ true ∷ []
-unfolding is_command_word is_reserved supported is_theory_name is_theory_sort is_reserved_for_declaring is_reserved_for_let is_reserved_for_sorts operator_named written_rank build rank op_eq op_value over_bits
+unfolding is_command_word is_syntax_word supported is_theory_name is_theory_sort is_reserved_for_declaring is_reserved_for_let is_reserved_for_sorts operator_named written_rank build rank op_eq op_value over_bits
 quantified_vectors_mean_in_one_one = refl
 
 quantified_vectors_are_in_one_one : values one_one quantified_vectors ≡ true ∷ false ∷ true ∷ []
-unfolding is_command_word is_reserved supported is_theory_name is_theory_sort is_reserved_for_declaring is_reserved_for_let is_reserved_for_sorts operator_named written_rank build rank op_eq op_value over_bits
+unfolding is_command_word is_syntax_word supported is_theory_name is_theory_sort is_reserved_for_declaring is_reserved_for_let is_reserved_for_sorts operator_named written_rank build rank op_eq op_value over_bits
 quantified_vectors_are_in_one_one = refl
 
 -- the operators of Core: all are true
@@ -236,11 +236,11 @@ core =
     ∷ []
 
 core_mean_in_one_one : meanings one_one core ≡ true ∷ true ∷ true ∷ true ∷ true ∷ true ∷ true ∷ true ∷ true ∷ true ∷ true ∷ true ∷ true ∷ true ∷ true ∷ true ∷ true ∷ true ∷ true ∷ []
-unfolding is_command_word is_reserved supported is_theory_name is_theory_sort is_reserved_for_declaring is_reserved_for_let is_reserved_for_sorts operator_named written_rank build rank op_eq op_value over_bits
+unfolding is_command_word is_syntax_word supported is_theory_name is_theory_sort is_reserved_for_declaring is_reserved_for_let is_reserved_for_sorts operator_named written_rank build rank op_eq op_value over_bits
 core_mean_in_one_one = refl
 
 core_are_in_one_one : values one_one core ≡ true ∷ true ∷ true ∷ true ∷ true ∷ true ∷ true ∷ true ∷ true ∷ true ∷ true ∷ true ∷ true ∷ true ∷ true ∷ true ∷ true ∷ true ∷ true ∷ []
-unfolding is_command_word is_reserved supported is_theory_name is_theory_sort is_reserved_for_declaring is_reserved_for_let is_reserved_for_sorts operator_named written_rank build rank op_eq op_value over_bits
+unfolding is_command_word is_syntax_word supported is_theory_name is_theory_sort is_reserved_for_declaring is_reserved_for_let is_reserved_for_sorts operator_named written_rank build rank op_eq op_value over_bits
 core_are_in_one_one = refl
 
 -- the operators of Ints: all are true
@@ -270,11 +270,11 @@ numbers =
     ∷ []
 
 numbers_mean_in_one_one : meanings one_one numbers ≡ true ∷ true ∷ true ∷ true ∷ true ∷ true ∷ true ∷ true ∷ true ∷ true ∷ true ∷ true ∷ true ∷ true ∷ true ∷ true ∷ true ∷ true ∷ true ∷ true ∷ true ∷ []
-unfolding is_command_word is_reserved supported is_theory_name is_theory_sort is_reserved_for_declaring is_reserved_for_let is_reserved_for_sorts operator_named written_rank build rank op_eq op_value over_bits
+unfolding is_command_word is_syntax_word supported is_theory_name is_theory_sort is_reserved_for_declaring is_reserved_for_let is_reserved_for_sorts operator_named written_rank build rank op_eq op_value over_bits
 numbers_mean_in_one_one = refl
 
 numbers_are_in_one_one : values one_one numbers ≡ true ∷ true ∷ true ∷ true ∷ true ∷ true ∷ true ∷ true ∷ true ∷ true ∷ true ∷ true ∷ true ∷ true ∷ true ∷ true ∷ true ∷ true ∷ true ∷ true ∷ true ∷ []
-unfolding is_command_word is_reserved supported is_theory_name is_theory_sort is_reserved_for_declaring is_reserved_for_let is_reserved_for_sorts operator_named written_rank build rank op_eq op_value over_bits
+unfolding is_command_word is_syntax_word supported is_theory_name is_theory_sort is_reserved_for_declaring is_reserved_for_let is_reserved_for_sorts operator_named written_rank build rank op_eq op_value over_bits
 numbers_are_in_one_one = refl
 
 -- the operators of bit vectors by place and bit: all are true
@@ -303,11 +303,11 @@ vectors =
     ∷ []
 
 vectors_mean_in_one_one : meanings one_one vectors ≡ true ∷ true ∷ true ∷ true ∷ true ∷ true ∷ true ∷ true ∷ true ∷ true ∷ true ∷ true ∷ true ∷ true ∷ true ∷ true ∷ true ∷ true ∷ true ∷ true ∷ []
-unfolding is_command_word is_reserved supported is_theory_name is_theory_sort is_reserved_for_declaring is_reserved_for_let is_reserved_for_sorts operator_named written_rank build rank op_eq op_value over_bits
+unfolding is_command_word is_syntax_word supported is_theory_name is_theory_sort is_reserved_for_declaring is_reserved_for_let is_reserved_for_sorts operator_named written_rank build rank op_eq op_value over_bits
 vectors_mean_in_one_one = refl
 
 vectors_are_in_one_one : values one_one vectors ≡ true ∷ true ∷ true ∷ true ∷ true ∷ true ∷ true ∷ true ∷ true ∷ true ∷ true ∷ true ∷ true ∷ true ∷ true ∷ true ∷ true ∷ true ∷ true ∷ true ∷ []
-unfolding is_command_word is_reserved supported is_theory_name is_theory_sort is_reserved_for_declaring is_reserved_for_let is_reserved_for_sorts operator_named written_rank build rank op_eq op_value over_bits
+unfolding is_command_word is_syntax_word supported is_theory_name is_theory_sort is_reserved_for_declaring is_reserved_for_let is_reserved_for_sorts operator_named written_rank build rank op_eq op_value over_bits
 vectors_are_in_one_one = refl
 
 -- the operators of bit vectors as numbers: all are true
@@ -341,11 +341,11 @@ vector_numbers =
     ∷ []
 
 vector_numbers_mean_in_one_one : meanings one_one vector_numbers ≡ true ∷ true ∷ true ∷ true ∷ true ∷ true ∷ true ∷ true ∷ true ∷ true ∷ true ∷ true ∷ true ∷ true ∷ true ∷ true ∷ true ∷ true ∷ true ∷ true ∷ true ∷ true ∷ true ∷ true ∷ true ∷ []
-unfolding is_command_word is_reserved supported is_theory_name is_theory_sort is_reserved_for_declaring is_reserved_for_let is_reserved_for_sorts operator_named written_rank build rank op_eq op_value over_bits
+unfolding is_command_word is_syntax_word supported is_theory_name is_theory_sort is_reserved_for_declaring is_reserved_for_let is_reserved_for_sorts operator_named written_rank build rank op_eq op_value over_bits
 vector_numbers_mean_in_one_one = refl
 
 vector_numbers_are_in_one_one : values one_one vector_numbers ≡ true ∷ true ∷ true ∷ true ∷ true ∷ true ∷ true ∷ true ∷ true ∷ true ∷ true ∷ true ∷ true ∷ true ∷ true ∷ true ∷ true ∷ true ∷ true ∷ true ∷ true ∷ true ∷ true ∷ true ∷ true ∷ []
-unfolding is_command_word is_reserved supported is_theory_name is_theory_sort is_reserved_for_declaring is_reserved_for_let is_reserved_for_sorts operator_named written_rank build rank op_eq op_value over_bits
+unfolding is_command_word is_syntax_word supported is_theory_name is_theory_sort is_reserved_for_declaring is_reserved_for_let is_reserved_for_sorts operator_named written_rank build rank op_eq op_value over_bits
 vector_numbers_are_in_one_one = refl
 
 -- all are true
@@ -358,9 +358,9 @@ arrays =
     ∷ []
 
 arrays_mean_in_one_one : meanings one_one arrays ≡ true ∷ true ∷ true ∷ true ∷ []
-unfolding is_command_word is_reserved supported is_theory_name is_theory_sort is_reserved_for_declaring is_reserved_for_let is_reserved_for_sorts operator_named written_rank build rank op_eq op_value over_bits
+unfolding is_command_word is_syntax_word supported is_theory_name is_theory_sort is_reserved_for_declaring is_reserved_for_let is_reserved_for_sorts operator_named written_rank build rank op_eq op_value over_bits
 arrays_mean_in_one_one = refl
 
 arrays_are_in_one_one : values one_one arrays ≡ true ∷ true ∷ true ∷ true ∷ []
-unfolding is_command_word is_reserved supported is_theory_name is_theory_sort is_reserved_for_declaring is_reserved_for_let is_reserved_for_sorts operator_named written_rank build rank op_eq op_value over_bits
+unfolding is_command_word is_syntax_word supported is_theory_name is_theory_sort is_reserved_for_declaring is_reserved_for_let is_reserved_for_sorts operator_named written_rank build rank op_eq op_value over_bits
 arrays_are_in_one_one = refl

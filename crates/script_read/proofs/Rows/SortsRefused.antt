@@ -1,6 +1,6 @@
 -- Worked rows: what sorts are refused for. Each text stands with its first refusal, or none.
 use Rattle.std.specs.Prelude.{◌≡◌, [], ◌∷◌, None, codes, refl}
-use Rattle.smt_lex.specs.Names.{is_command_word, is_reserved, is_theory_name, is_theory_sort, is_reserved_for_declaring, is_reserved_for_let, is_reserved_for_sorts}
+use Rattle.smt_lex.specs.Names.{is_command_word, is_syntax_word, is_theory_name, is_theory_sort, is_reserved_for_declaring, is_reserved_for_let, is_reserved_for_sorts}
 use Rattle.smt_terms.specs.Rank.{rank}
 use Rattle.smt_terms.specs.Written.{operator_named, written_rank, build}
 use Rattle.script_read.specs.declared.causes.Cause.TheVariants.{BadForm, BadIndex, IndexSort, QuantifiedSort, RealSort, UnknownName, WidthLimit}
@@ -17,7 +17,7 @@ unknown_sorts =
     ∷ []
 
 of_unknown_sorts : found unknown_sorts ≡ wanted unknown_sorts
-unfolding is_command_word is_reserved supported is_theory_name is_theory_sort is_reserved_for_declaring is_reserved_for_let is_reserved_for_sorts operator_named written_rank build rank
+unfolding is_command_word is_syntax_word supported is_theory_name is_theory_sort is_reserved_for_declaring is_reserved_for_let is_reserved_for_sorts operator_named written_rank build rank
 of_unknown_sorts = refl
 
 abbrev sorts_of_reals : Cases
@@ -28,7 +28,7 @@ sorts_of_reals =
     ∷ []
 
 of_sorts_of_reals : found sorts_of_reals ≡ wanted sorts_of_reals
-unfolding is_command_word is_reserved supported is_theory_name is_theory_sort is_reserved_for_declaring is_reserved_for_let is_reserved_for_sorts operator_named written_rank build rank
+unfolding is_command_word is_syntax_word supported is_theory_name is_theory_sort is_reserved_for_declaring is_reserved_for_let is_reserved_for_sorts operator_named written_rank build rank
 of_sorts_of_reals = refl
 
 abbrev no_sorts : Cases
@@ -48,7 +48,7 @@ no_sorts =
     ∷ []
 
 of_no_sorts : found no_sorts ≡ wanted no_sorts
-unfolding is_command_word is_reserved supported is_theory_name is_theory_sort is_reserved_for_declaring is_reserved_for_let is_reserved_for_sorts operator_named written_rank build rank
+unfolding is_command_word is_syntax_word supported is_theory_name is_theory_sort is_reserved_for_declaring is_reserved_for_let is_reserved_for_sorts operator_named written_rank build rank
 of_no_sorts = refl
 
 abbrev widths : Cases
@@ -60,7 +60,7 @@ widths =
     ∷ []
 
 of_widths : found widths ≡ wanted widths
-unfolding is_command_word is_reserved supported is_theory_name is_theory_sort is_reserved_for_declaring is_reserved_for_let is_reserved_for_sorts operator_named written_rank build rank
+unfolding is_command_word is_syntax_word supported is_theory_name is_theory_sort is_reserved_for_declaring is_reserved_for_let is_reserved_for_sorts operator_named written_rank build rank
 of_widths = refl
 
 -- the index sort is examined, then that it is no array sort, then the element sort
@@ -74,7 +74,7 @@ index_sorts =
     ∷ []
 
 of_index_sorts : found index_sorts ≡ wanted index_sorts
-unfolding is_command_word is_reserved supported is_theory_name is_theory_sort is_reserved_for_declaring is_reserved_for_let is_reserved_for_sorts operator_named written_rank build rank
+unfolding is_command_word is_syntax_word supported is_theory_name is_theory_sort is_reserved_for_declaring is_reserved_for_let is_reserved_for_sorts operator_named written_rank build rank
 of_index_sorts = refl
 
 -- a quantifier is over truth values and bit vectors
@@ -87,5 +87,5 @@ quantified_sorts =
     ∷ []
 
 of_quantified_sorts : found quantified_sorts ≡ wanted quantified_sorts
-unfolding is_command_word is_reserved supported is_theory_name is_theory_sort is_reserved_for_declaring is_reserved_for_let is_reserved_for_sorts operator_named written_rank build rank
+unfolding is_command_word is_syntax_word supported is_theory_name is_theory_sort is_reserved_for_declaring is_reserved_for_let is_reserved_for_sorts operator_named written_rank build rank
 of_quantified_sorts = refl

@@ -1,6 +1,6 @@
 -- Worked rows: what terms are refused for. Each text stands with its first refusal, or none.
 use Rattle.std.specs.Prelude.{◌≡◌, [], ◌∷◌, None, codes, refl}
-use Rattle.smt_lex.specs.Names.{is_command_word, is_reserved, is_theory_name, is_theory_sort, is_reserved_for_declaring, is_reserved_for_let, is_reserved_for_sorts}
+use Rattle.smt_lex.specs.Names.{is_command_word, is_syntax_word, is_theory_name, is_theory_sort, is_reserved_for_declaring, is_reserved_for_let, is_reserved_for_sorts}
 use Rattle.smt_terms.specs.Rank.{rank}
 use Rattle.smt_terms.specs.Written.{operator_named, written_rank, build}
 use Rattle.script_read.specs.declared.causes.Cause.TheVariants.{BadForm, BadIndex, NumberLimit, QuantifiedSort, RealSort, Redeclared, ReservedName, UnknownName, WidthLimit, WrongArity, WrongSort}
@@ -28,7 +28,7 @@ numbers_of_operands =
     ∷ []
 
 of_numbers_of_operands : found numbers_of_operands ≡ wanted numbers_of_operands
-unfolding is_command_word is_reserved supported is_theory_name is_theory_sort is_reserved_for_declaring is_reserved_for_let is_reserved_for_sorts operator_named written_rank build rank
+unfolding is_command_word is_syntax_word supported is_theory_name is_theory_sort is_reserved_for_declaring is_reserved_for_let is_reserved_for_sorts operator_named written_rank build rank
 of_numbers_of_operands = refl
 
 abbrev sorts_of_operands : Cases
@@ -51,7 +51,7 @@ sorts_of_operands =
     ∷ []
 
 of_sorts_of_operands : found sorts_of_operands ≡ wanted sorts_of_operands
-unfolding is_command_word is_reserved supported is_theory_name is_theory_sort is_reserved_for_declaring is_reserved_for_let is_reserved_for_sorts operator_named written_rank build rank
+unfolding is_command_word is_syntax_word supported is_theory_name is_theory_sort is_reserved_for_declaring is_reserved_for_let is_reserved_for_sorts operator_named written_rank build rank
 of_sorts_of_operands = refl
 
 abbrev indices_and_widths : Cases
@@ -73,7 +73,7 @@ indices_and_widths =
     ∷ []
 
 of_indices_and_widths : found indices_and_widths ≡ wanted indices_and_widths
-unfolding is_command_word is_reserved supported is_theory_name is_theory_sort is_reserved_for_declaring is_reserved_for_let is_reserved_for_sorts operator_named written_rank build rank
+unfolding is_command_word is_syntax_word supported is_theory_name is_theory_sort is_reserved_for_declaring is_reserved_for_let is_reserved_for_sorts operator_named written_rank build rank
 of_indices_and_widths = refl
 
 abbrev great_numbers : Cases
@@ -86,7 +86,7 @@ great_numbers =
     ∷ []
 
 of_great_numbers : found great_numbers ≡ wanted great_numbers
-unfolding is_command_word is_reserved supported is_theory_name is_theory_sort is_reserved_for_declaring is_reserved_for_let is_reserved_for_sorts operator_named written_rank build rank
+unfolding is_command_word is_syntax_word supported is_theory_name is_theory_sort is_reserved_for_declaring is_reserved_for_let is_reserved_for_sorts operator_named written_rank build rank
 of_great_numbers = refl
 
 abbrev reals : Cases
@@ -99,7 +99,7 @@ reals =
     ∷ []
 
 of_reals : found reals ≡ wanted reals
-unfolding is_command_word is_reserved supported is_theory_name is_theory_sort is_reserved_for_declaring is_reserved_for_let is_reserved_for_sorts operator_named written_rank build rank
+unfolding is_command_word is_syntax_word supported is_theory_name is_theory_sort is_reserved_for_declaring is_reserved_for_let is_reserved_for_sorts operator_named written_rank build rank
 of_reals = refl
 
 abbrev no_terms : Cases
@@ -122,7 +122,7 @@ no_terms =
     ∷ []
 
 of_no_terms : found no_terms ≡ wanted no_terms
-unfolding is_command_word is_reserved supported is_theory_name is_theory_sort is_reserved_for_declaring is_reserved_for_let is_reserved_for_sorts operator_named written_rank build rank
+unfolding is_command_word is_syntax_word supported is_theory_name is_theory_sort is_reserved_for_declaring is_reserved_for_let is_reserved_for_sorts operator_named written_rank build rank
 of_no_terms = refl
 
 abbrev heads : Cases
@@ -141,7 +141,7 @@ heads =
     ∷ []
 
 of_heads : found heads ≡ wanted heads
-unfolding is_command_word is_reserved supported is_theory_name is_theory_sort is_reserved_for_declaring is_reserved_for_let is_reserved_for_sorts operator_named written_rank build rank
+unfolding is_command_word is_syntax_word supported is_theory_name is_theory_sort is_reserved_for_declaring is_reserved_for_let is_reserved_for_sorts operator_named written_rank build rank
 of_heads = refl
 
 abbrev unknown_names : Cases
@@ -162,7 +162,7 @@ unknown_names =
     ∷ []
 
 of_unknown_names : found unknown_names ≡ wanted unknown_names
-unfolding is_command_word is_reserved supported is_theory_name is_theory_sort is_reserved_for_declaring is_reserved_for_let is_reserved_for_sorts operator_named written_rank build rank
+unfolding is_command_word is_syntax_word supported is_theory_name is_theory_sort is_reserved_for_declaring is_reserved_for_let is_reserved_for_sorts operator_named written_rank build rank
 of_unknown_names = refl
 
 abbrev binders : Cases
@@ -183,7 +183,7 @@ binders =
     ∷ []
 
 of_binders : found binders ≡ wanted binders
-unfolding is_command_word is_reserved supported is_theory_name is_theory_sort is_reserved_for_declaring is_reserved_for_let is_reserved_for_sorts operator_named written_rank build rank
+unfolding is_command_word is_syntax_word supported is_theory_name is_theory_sort is_reserved_for_declaring is_reserved_for_let is_reserved_for_sorts operator_named written_rank build rank
 of_binders = refl
 
 abbrev annotations : Cases
@@ -201,7 +201,7 @@ annotations =
     ∷ []
 
 of_annotations : found annotations ≡ wanted annotations
-unfolding is_command_word is_reserved supported is_theory_name is_theory_sort is_reserved_for_declaring is_reserved_for_let is_reserved_for_sorts operator_named written_rank build rank
+unfolding is_command_word is_syntax_word supported is_theory_name is_theory_sort is_reserved_for_declaring is_reserved_for_let is_reserved_for_sorts operator_named written_rank build rank
 of_annotations = refl
 
 -- a name's term mentions no quantified name and no parameter
@@ -217,7 +217,7 @@ names_of_open_terms =
     ∷ []
 
 of_names_of_open_terms : found names_of_open_terms ≡ wanted names_of_open_terms
-unfolding is_command_word is_reserved supported is_theory_name is_theory_sort is_reserved_for_declaring is_reserved_for_let is_reserved_for_sorts operator_named written_rank build rank
+unfolding is_command_word is_syntax_word supported is_theory_name is_theory_sort is_reserved_for_declaring is_reserved_for_let is_reserved_for_sorts operator_named written_rank build rank
 of_names_of_open_terms = refl
 
 -- the earlier step counts: the list, the head, the operands from the left, their number, their sorts, an index, the width
@@ -242,5 +242,5 @@ orders =
     ∷ []
 
 of_orders : found orders ≡ wanted orders
-unfolding is_command_word is_reserved supported is_theory_name is_theory_sort is_reserved_for_declaring is_reserved_for_let is_reserved_for_sorts operator_named written_rank build rank
+unfolding is_command_word is_syntax_word supported is_theory_name is_theory_sort is_reserved_for_declaring is_reserved_for_let is_reserved_for_sorts operator_named written_rank build rank
 of_orders = refl

@@ -1,6 +1,6 @@
 -- Worked rows: the terms that written operators are made into.
 use Rattle.std.specs.Prelude.{◌≡◌, ℕ, List, [], ◌∷◌, pos, codes, refl}
-use Rattle.smt_lex.specs.Names.{is_command_word, is_reserved, is_theory_name, is_theory_sort, is_reserved_for_declaring, is_reserved_for_let, is_reserved_for_sorts}
+use Rattle.smt_lex.specs.Names.{is_command_word, is_syntax_word, is_theory_name, is_theory_sort, is_reserved_for_declaring, is_reserved_for_let, is_reserved_for_sorts}
 use Rattle.smt_terms.specs.Equal.{op_eq}
 use Rattle.smt_terms.specs.Rank.{rank}
 use Rattle.smt_terms.specs.Written.{operator_named, written_rank, build}
@@ -50,7 +50,7 @@ all_operands : asserted (codes "(declare-const a Bool)(declare-const b Bool)(dec
     ∷ a
     ∷ b
     ∷ []
-unfolding is_command_word is_reserved supported is_theory_name is_theory_sort is_reserved_for_declaring is_reserved_for_let is_reserved_for_sorts operator_named written_rank build rank op_eq
+unfolding is_command_word is_syntax_word supported is_theory_name is_theory_sort is_reserved_for_declaring is_reserved_for_let is_reserved_for_sorts operator_named written_rank build rank op_eq
 all_operands = refl
 
 -- from the left, and from the right
@@ -59,7 +59,7 @@ associations : asserted (codes "(declare-const a Bool)(declare-const b Bool)(dec
     ∷ over_two Implies a (over_two Implies b c)
     ∷ over_two Implies a b
     ∷ []
-unfolding is_command_word is_reserved supported is_theory_name is_theory_sort is_reserved_for_declaring is_reserved_for_let is_reserved_for_sorts operator_named written_rank build rank op_eq
+unfolding is_command_word is_syntax_word supported is_theory_name is_theory_sort is_reserved_for_declaring is_reserved_for_let is_reserved_for_sorts operator_named written_rank build rank op_eq
 associations = refl
 
 -- neighbours
@@ -68,7 +68,7 @@ chains : asserted (codes "(declare-const a Bool)(declare-const b Bool)(declare-c
     ∷ over_two And (over_two Equal a b) (over_two Equal b c)
     ∷ apply (op And) (over_two Equal a b ⨾ over_two Equal b c ⨾ over_two Equal c a ⨾ none)
     ∷ []
-unfolding is_command_word is_reserved supported is_theory_name is_theory_sort is_reserved_for_declaring is_reserved_for_let is_reserved_for_sorts operator_named written_rank build rank op_eq
+unfolding is_command_word is_syntax_word supported is_theory_name is_theory_sort is_reserved_for_declaring is_reserved_for_let is_reserved_for_sorts operator_named written_rank build rank op_eq
 chains = refl
 
 sums : asserted (codes "(declare-const x Int)(declare-const y Int)(declare-const z Int)(assert (= (+ x y z) (+ x)))(assert (= (* x 2) (- x y z)))(assert (= (- x) (div x y z) (mod x y) (abs x)))")
@@ -76,7 +76,7 @@ sums : asserted (codes "(declare-const x Int)(declare-const y Int)(declare-const
     ∷ over_two Equal (over_two Mul x (whole (pos 2))) (over_two Sub (over_two Sub x y) z)
     ∷ apply (op And) (over_two Equal (over_one Neg x) (over_two Div (over_two Div x y) z) ⨾ over_two Equal (over_two Div (over_two Div x y) z) (over_two Mod x y) ⨾ over_two Equal (over_two Mod x y) (over_one Abs x) ⨾ none)
     ∷ []
-unfolding is_command_word is_reserved supported is_theory_name is_theory_sort is_reserved_for_declaring is_reserved_for_let is_reserved_for_sorts operator_named written_rank build rank op_eq
+unfolding is_command_word is_syntax_word supported is_theory_name is_theory_sort is_reserved_for_declaring is_reserved_for_let is_reserved_for_sorts operator_named written_rank build rank op_eq
 sums = refl
 
 -- `>=` and `>` exchange each pair
@@ -87,7 +87,7 @@ comparisons : asserted (codes "(declare-const x Int)(declare-const y Int)(declar
     ∷ over_two And (over_two Lt y x) (over_two Lt z y)
     ∷ over_two Equal (over_two Mod x (whole (pos 3))) (whole (pos 0))
     ∷ []
-unfolding is_command_word is_reserved supported is_theory_name is_theory_sort is_reserved_for_declaring is_reserved_for_let is_reserved_for_sorts operator_named written_rank build rank op_eq
+unfolding is_command_word is_syntax_word supported is_theory_name is_theory_sort is_reserved_for_declaring is_reserved_for_let is_reserved_for_sorts operator_named written_rank build rank op_eq
 comparisons = refl
 
 vectors : asserted (codes "(declare-const u (_ BitVec 4))(declare-const v (_ BitVec 4))(assert (= (bvand u v u) (bvnand u v)))(assert (= (bvnor u v) (bvxnor u v)))(assert (bvugt u v))(assert (bvsge u v))(assert (= (bvcomp u v) ((_ extract 2 2) u)))")
@@ -97,7 +97,7 @@ vectors : asserted (codes "(declare-const u (_ BitVec 4))(declare-const v (_ Bit
     ∷ over_two BvSle v u
     ∷ over_two Equal (over_two BvComp u v) (over_one (Extract 2 2) u)
     ∷ []
-unfolding is_command_word is_reserved supported is_theory_name is_theory_sort is_reserved_for_declaring is_reserved_for_let is_reserved_for_sorts operator_named written_rank build rank op_eq
+unfolding is_command_word is_syntax_word supported is_theory_name is_theory_sort is_reserved_for_declaring is_reserved_for_let is_reserved_for_sorts operator_named written_rank build rank op_eq
 vectors = refl
 
 -- rotations by the number modulo the width
@@ -106,12 +106,12 @@ indexed : asserted (codes "(declare-const u (_ BitVec 4))(declare-const v (_ Bit
     ∷ over_two And (over_two Equal (over_two Concat u (over_two Concat u u)) (over_one (ZeroExt 8) v)) (over_two Equal (over_one (ZeroExt 8) v) (over_one (SignExt 8) v))
     ∷ over_two Equal (over_one (RotR 3) u) (bits 4 10)
     ∷ []
-unfolding is_command_word is_reserved supported is_theory_name is_theory_sort is_reserved_for_declaring is_reserved_for_let is_reserved_for_sorts operator_named written_rank build rank op_eq
+unfolding is_command_word is_syntax_word supported is_theory_name is_theory_sort is_reserved_for_declaring is_reserved_for_let is_reserved_for_sorts operator_named written_rank build rank op_eq
 indexed = refl
 
 arrays : asserted (codes "(declare-const m (Array Int Bool))(declare-const x Int)(assert (select (store m x (= x 1)) 1))(assert (= m ((as const (Array Int Bool)) (ite (= x 1) (= x 2) (= x 3)))))")
     ≡ over_two Select (over_three Store m x (over_two Equal x (whole (pos 1)))) (whole (pos 1))
     ∷ over_two Equal m (apply (const_array (array int bool)) (over_three Ite (over_two Equal x (whole (pos 1))) (over_two Equal x (whole (pos 2))) (over_two Equal x (whole (pos 3))) ⨾ none))
     ∷ []
-unfolding is_command_word is_reserved supported is_theory_name is_theory_sort is_reserved_for_declaring is_reserved_for_let is_reserved_for_sorts operator_named written_rank build rank op_eq
+unfolding is_command_word is_syntax_word supported is_theory_name is_theory_sort is_reserved_for_declaring is_reserved_for_let is_reserved_for_sorts operator_named written_rank build rank op_eq
 arrays = refl
