@@ -1,0 +1,7 @@
+mod Agreement
+mod Bindings
+mod Builds
+mod Outcomes
+mod Points
+mod Rows
+mod Shown

@@ -1,0 +1,61 @@
+-- Statements of the laws of reading.
+use Rattle.std.specs.Prelude.{◌≡◌, ◌↔◌, ℕ, List, map, length, None, Result, Ok, Err, is_ok, IsTrue, ⊤}
+use Rattle.smt_lex.specs.Forms.{Form}
+use Rattle.smt_terms.specs.Fresh.{Supply}
+use Rattle.smt_terms.specs.Models.{Model}
+use Rattle.smt_terms.specs.Rank.{sort_of}
+use Rattle.smt_terms.specs.Term.{Term}
+use Rattle.smt_terms.specs.Val.{Env, val}
+use Rattle.smt_terms.specs.Written.{Written, build}
+use Rattle.script_read.specs.Commands.{Command, with_asserted, kinds, live, signature}
+use Rattle.script_read.specs.Heads.{term_algebra}
+use Rattle.script_read.specs.Mean.{Denoted, value_algebra}
+use Rattle.script_read.specs.Refusals.{Refused}
+use Rattle.script_read.specs.Read.{Context, read}
+use Rattle.script_read.specs.Reading.{as_local, as_bindings, Sofar}
+use Rattle.script_read.specs.Scenes.{naming, forms_script}
+use Rattle.script_read.specs.Scope.{Binding}
+use Rattle.script_read.specs.Script.{script, fault}
+
+-- what is known after a reading, if it gives something, are these bindings
+abbrev pub LeadsTo : {A : Type 0} → Result (A × Sofar) Refused → List Binding → Type 0
+LeadsTo (Ok p) bs = as_bindings p.1.live ≡ bs
+LeadsTo (Err refused) bs = ⊤
+
+-- reading a term binds the names that its form gives, and nothing else
+abbrev pub ReadingNames : Type 0
+ReadingNames = (f : Form) (c : Context) (s : Sofar) → LeadsTo (read f c s) (naming f (map as_local c.locals) (as_bindings s.live))
+
+abbrev pub blank : {A : Type 0} → A → ⊤
+blank a = tt
+
+-- commands without what they assert and assume
+abbrev pub bare : {A : Type 0} → List (Command A) → List (Command ⊤)
+bare cs = map (with_asserted blank) cs
+
+-- the commands with terms of an accepted text are those with forms, one by one
+abbrev pub SameCommands : Type 0
+SameCommands = (b : List ℕ) (r : List (Command Term) × Supply) → script b ≡ Ok r → bare r.0 ≡ bare (forms_script b)
+
+-- and so they have the same points, with the same signatures and as many live assertions
+pub record SamePoints (b : List ℕ) (cs : List (Command Term)) : Type 0 where
+  pub kinds : kinds cs ≡ kinds (forms_script b)
+  pub signatures : (k : ℕ) → signature cs k ≡ signature (forms_script b) k
+  pub live : (k : ℕ) → length (live cs k) ≡ length (live (forms_script b) k)
+
+abbrev pub PointsAgree : Type 0
+PointsAgree = (b : List ℕ) (r : List (Command Term) × Supply) → script b ≡ Ok r → SamePoints b r.0
+
+-- a text is accepted, or there is a reason why it isn't
+abbrev pub ReadingAnswers : Type 0
+ReadingAnswers = (b : List ℕ) → IsTrue (is_ok (script b)) ↔ (fault b ≡ None)
+
+-- ---- written operators
+
+-- what a term denotes under values of the quantified variables
+abbrev pub denoted : Model → Env → Term → Denoted
+denoted m e t = (val m t e, sort_of t)
+
+-- a written operator means over values what the term means that it is made into
+abbrev pub WrittenMeaning : Type 0
+WrittenMeaning = (m : Model) (e : Env) (w : Written) (ts : List Term) → build (value_algebra m) w (map (denoted m e) ts) ≡ denoted m e (build term_algebra w ts)

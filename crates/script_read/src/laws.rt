@@ -1,0 +1,26 @@
+//! The laws of reading, each the contract of a function that does nothing.
+
+ghost use Rattle.script_read.specs.Laws.{ReadingNames, SameCommands, PointsAgree, ReadingAnswers, WrittenMeaning};
+
+/// A text is accepted exactly where there is no reason against it.
+pub fn reading_answers()
+    ensures { ReadingAnswers }
+{}
+
+/// Reading a term binds the names that its form gives, and nothing else.
+pub fn reading_binds_names()
+    ensures { ReadingNames }
+{}
+
+/// The commands with terms of an accepted text are those with its forms, one by one; so they have the same points, with
+/// the same signatures and as many live assertions.
+pub fn terms_and_forms_agree()
+    ensures commands { SameCommands }
+    ensures points { PointsAgree }
+{}
+
+/// A written operator means over values what the term means that reading makes of it: chains, sequences from the left or
+/// the right, exchanged operands, repetitions and rotations included.
+pub fn written_operators_keep_meaning()
+    ensures { WrittenMeaning }
+{}

@@ -1,0 +1,12 @@
+//! Reads scripts of SMT-LIB 2.6: commands with their terms, in which `let`, definitions and names of terms are
+//! replaced, or the first refusal with its cause and place.
+
+#![tactic(auto)]
+
+mod causes;
+mod laws;
+
+pub use causes::Cause;
+pub use laws::{
+    reading_answers, reading_binds_names, terms_and_forms_agree, written_operators_keep_meaning,
+};
