@@ -1,0 +1,3 @@
+pub mod Compounds
+pub mod Derived
+pub mod SortIds
