@@ -4,7 +4,13 @@
 
 #![tactic(auto)]
 
+pub mod scalar;
+pub mod sizes;
 pub mod sort_table;
+pub mod value;
 
+pub use scalar::Scalar;
+pub use sizes::Sizes;
 pub use smt_terms::{Op, SortId, SymId};
 pub use sort_table::SortTable;
+pub use value::{ArrayValue, Value};
