@@ -1,5 +1,9 @@
+pub mod Alike
+pub mod Bits
 pub mod Compounds
 pub mod Derived
+pub mod Numbered
 pub mod Pairs
+pub mod Sameness
 pub mod SizeTable
 pub mod SortIds

@@ -15,10 +15,10 @@ pub sort_stays : (ss ts : List Sort) (n : ℕ) → n < 130 + length ss → sort_
 sort_stays ss ts n lt = grind (arith, get_or_append_left)
 
 -- a number of a basic sort
-basic : ℕ → Sort
+unfoldable pub basic : ℕ → Sort
 basic n = if n == 0 then bool else if n == 1 then int else bit_vector (n - 1)
 
-sort_basic : (ss : List Sort) (n : ℕ) → n < 130 → sort_numbered ss n ≡ basic n
+pub sort_basic : (ss : List Sort) (n : ℕ) → n < 130 → sort_numbered ss n ≡ basic n
 unfolding basic
 sort_basic ss n lt = grind (arith, nat_tests)
 
@@ -40,7 +40,7 @@ basic_sort : (n : ℕ) → n < 130 → is_sort (basic n) ≡ true
 unfolding basic
 basic_sort n lt = grind (arith, nat_tests)
 
-placed : (n : ℕ) → (n < 130) ⊎ ((k : ℕ) × (n ≡ 130 + k))
+pub placed : (n : ℕ) → (n < 130) ⊎ ((k : ℕ) × (n ≡ 130 + k))
 placed n = by (nat_lt n 130) refl
   where
     by : (b : Bool) → nat_lt n 130 ≡ b → (n < 130) ⊎ ((k : ℕ) × (n ≡ 130 + k))

@@ -19,6 +19,16 @@ pair_at no_pairs i = None
 pair_at (pair k v ps) zero = Some (k, v)
 pair_at (pair k v ps) (suc i) = pair_at ps i
 
+-- the pairs with another value at a place, and with one more pair behind them
+abbrev pub with_value_at : Pairs → ℕ → Value → Pairs
+with_value_at no_pairs i u = no_pairs
+with_value_at (pair k v ps) zero u = pair k u ps
+with_value_at (pair k v ps) (suc i) u = pair k v (with_value_at ps i u)
+
+abbrev pub with_pair : Pairs → Value → Value → Pairs
+with_pair no_pairs k v = pair k v no_pairs
+with_pair (pair j u ps) k v = pair j u (with_pair ps k v)
+
 -- how deep arrays are nested
 abbrev mutual
   pub value_depth : Value → ℕ

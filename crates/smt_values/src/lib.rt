@@ -4,11 +4,13 @@
 
 #![tactic(auto)]
 
+pub mod array;
 pub mod scalar;
 pub mod sizes;
 pub mod sort_table;
 pub mod value;
 
+pub use array::{same, select, store};
 pub use scalar::Scalar;
 pub use sizes::Sizes;
 pub use smt_terms::{Op, SortId, SymId};

@@ -103,7 +103,9 @@ impl SortTable {
         ensures basic { IfNone result (sort.0 < 130) }
         ensures compound { IfSome result (λ c. sort_at self.now sort ≡ compound_sort self.now c.now) }
         ensures below { IfSome result (λ c. IsBelow sort.0 c.now) }
+        ensures table { IsSortList self.now }
     {
+        prove!(self.compounds.len() < 0x8000_0000_0000_0000);
         if sort.0 < FIRST_COMPOUND {
             return None;
         }
@@ -116,6 +118,7 @@ impl SortTable {
         ensures parts { MatchOption result (is_array (sort_at self.now sort) ≡ false) (λ p. sort_at self.now sort ≡ array (sort_at self.now p.0) (sort_at self.now p.1)) }
         ensures index { IfSome result (λ p. p.0.0 < sort.0) }
         ensures element { IfSome result (λ p. p.1.0 < sort.0) }
+        ensures table { IsSortList self.now }
     {
         match self.compound(sort) {
             Some(Compound::Array(index, element)) => Some((*index, *element)),
@@ -127,6 +130,7 @@ impl SortTable {
     pub fn name(&self, sort: SortId) -> Option<&[u8]>
         requires { IsSortId self.now sort }
         ensures name { MatchOption result (is_free (sort_at self.now sort) ≡ false) (λ n. sort_at self.now sort ≡ free_sort n.now) }
+        ensures table { IsSortList self.now }
     {
         match self.compound(sort) {
             Some(Compound::Declared(name)) => Some(name.as_slice()),

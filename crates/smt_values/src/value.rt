@@ -1,19 +1,19 @@
 //! Values: scalars, elements of declared sorts, and arrays.
 
-ghost use Rattle.std.specs.Prelude.{◌≡◌, ◌<◌, IfSome, Some};
+ghost use Rattle.std.specs.Prelude.{◌≡◌, ◌<◌, IfSome, OnOk, Some};
 ghost use Rattle.smt_terms.specs.Values.{no_pairs};
-ghost use Rattle.smt_values.specs.Tables.{count, pair_at};
+ghost use Rattle.smt_values.specs.Tables.{count, pair_at, with_value_at, with_pair};
 
 use crate::scalar::Scalar;
-use std::alloc::Global;
+use std::alloc::{AllocError, Global};
 use std::marker::Model;
 
 /// An array: a default value, and pairs of a key and the value there, in an order that is kept.
 #[cycle(values)]
 #[derive(Drop)]
 pub struct ArrayValue {
-    fallback: Value,
-    pairs: Vec<Pair>,
+    pub(crate) fallback: Value,
+    pub(crate) pairs: Vec<Pair>,
 }
 
 /// A value of a sort: a scalar, the element of a declared sort by its number, or an array.
@@ -27,9 +27,9 @@ pub enum Value {
 
 #[cycle(values)]
 #[derive(Drop)]
-struct Pair {
-    key: Value,
-    value: Value,
+pub(crate) struct Pair {
+    pub(crate) key: Value,
+    pub(crate) value: Value,
 }
 
 impl Model for ArrayValue {
@@ -54,7 +54,7 @@ impl Model for ArrayValue {
 }
 
 impl ArrayValue {
-    ghost use Rattle.smt_values.specs.Meaning.{meaning, IsHeld};
+    ghost use Rattle.smt_values.specs.Meaning.{meaning, pairs_of, IsHeld, AreHeld};
 
     /// The array that has this value everywhere. It takes no memory.
     pub fn new(alloc: Global, value: Value) -> ArrayValue
@@ -91,5 +91,31 @@ impl ArrayValue {
     {
         let pair = &self.pairs[i];
         (&pair.key, &pair.value)
+    }
+
+    pub(crate) fn pairs(&self) -> &[Pair]
+        ensures pairs { pairs_of result.now ≡ self.now.pairs }
+        ensures held { AreHeld result.now }
+    {
+        self.pairs.as_slice()
+    }
+
+    // Puts another value at the key of a pair.
+    pub(crate) fn set_value(&mut self, i: usize, value: Value)
+        requires within { i < count self.old.pairs }
+        requires held { IsHeld value }
+        ensures { self.new ≡ record self.old { pairs = with_value_at self.old.pairs i (meaning value) } }
+    {
+        self.pairs[i].value = value;
+    }
+
+    // Puts a pair behind the others.
+    pub(crate) fn push(&mut self, key: Value, value: Value) -> Result<(), AllocError>
+        requires key { IsHeld key }
+        requires value { IsHeld value }
+        ensures { OnOk result (self.new ≡ record self.old { pairs = with_pair self.old.pairs (meaning key) (meaning value) }) }
+    {
+        self.pairs.push(Pair { key, value })?;
+        Ok(())
     }
 }
