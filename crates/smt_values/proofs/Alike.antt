@@ -28,7 +28,7 @@ bits_alike w v u m n e f a b =
     alike_from ((v == u) && (m == n)) (bits_eq (nat2bv v m) (nat2bv u n))
     (λ h. (Decides-bits_eq (nat2bv v m) (nat2bv u n)).1 (λ i. nat2bv (same i) ((Decides-eqb m n).0 (both_true (v == u) (m == n) h).1 i)))
     (λ h. and_true (v == u) (m == n) ((Decides-eqb v u).1 same)
-      ((Decides-eqb m n).1 (nat2bv_one v m n a (subst (λ k. n < 2 ^ k) (sym same) b) ((Decides-bits_eq (nat2bv v m) (nat2bv u n)).0 h ∙ ap (λ k. nat2bv k n) (sym same)))))
+    ((Decides-eqb m n).1 (nat2bv_one v m n a (subst (λ k. n < 2 ^ k) (sym same) b) ((Decides-bits_eq (nat2bv v m) (nat2bv u n)).0 h ∙ ap (λ k. nat2bv k n) (sym same)))))
 
 width_is : (w v n : ℕ) → (length (nat2bv v n) == w) ≡ true → v ≡ w
 width_is w v n h = sym (length-nat2bv v n) ∙ (Decides-eqb (length (nat2bv v n)) w).0 h

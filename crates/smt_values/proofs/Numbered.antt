@@ -10,8 +10,8 @@ use Rattle.smt_terms.specs.declared.ids.SortId.{SortId}
 use Rattle.smt_terms.specs.Sorts.{Name, Sort, bool, int, bit_vector, array, free_sort}
 use Rattle.smt_terms.specs.Term.{universal}
 use Rattle.smt_terms.specs.Equal.{sort_eq}
-use Rattle.smt_terms.specs.BitVectors.{BitVector, nat2bv, bv2nat}
-use Rattle.smt_terms.specs.Values.{Value, truth, bits, element, Sizes, over_bits, over_elements, over_values, is_value}
+use Rattle.smt_terms.specs.BitVectors.{BitVector, nat2bv, bv2nat, zeros}
+use Rattle.smt_terms.specs.Values.{Value, truth, bits, element, Sizes, over_bits, over_elements, over_values, is_value, default_value}
 use Rattle.smt_terms.proofs.Equal.{Decides-sort_eq}
 use Rattle.smt_terms.proofs.Tests.{both_true, and_true}
 use Rattle.smt_values.specs.SortIds.{sort_numbered, sort_at, IsSortId, IsSortList, is_composed, is_free}
@@ -148,7 +148,6 @@ last-word ss sizes n low high =
     let sort : basic n ≡ bit_vector (n - 1) = grind (arith, nat_tests) in
     ap Some (ones_shr 128 (129 - n) k ∙ ap (λ w. 2 ^ w - 1) width) ∙ sym (ap (λ s. last_number s sizes) (sort_basic ss n lt ∙ sort))
 
-
 -- what holds of the numbers of a finite sort
 pub record Numbers (ss : List Sort) (sizes : Sizes) (s last : ℕ) : Type 0 where
   pub numbers : (n : ℕ) → n ≤ last → IsNumberAt s n
@@ -210,3 +209,15 @@ unfolding basic
 not_declared ss s name lt e =
     let plain : is_free (basic s) ≡ false = grind (arith, nat_tests) in
     true≢false (sym (ap is_free (sym (sort_basic ss s lt) ∙ e)) ∙ plain)
+
+zero_bits : (w : ℕ) → nat2bv w 0 ≡ zeros w
+zero_bits zero = refl
+zero_bits (suc w) = ap (λ bs. false ∷ bs) (zero_bits w)
+
+-- the zero bits of a bit-vector sort are its default value
+pub default_word : (ss : List Sort) (n : ℕ) → 2 ≤ n → n ≤ 129 → bits (nat2bv (n - 1) 0) ≡ default_value (sort_numbered ss n)
+unfolding basic
+default_word ss n low high =
+    let lt : n < 130 = omega arith in
+    let sort : basic n ≡ bit_vector (n - 1) = grind (arith, nat_tests) in
+    ap bits (zero_bits (n - 1)) ∙ sym (ap default_value (sort_basic ss n lt ∙ sort))

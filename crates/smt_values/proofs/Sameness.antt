@@ -93,7 +93,7 @@ pub uncovered : (s : Sort) (sizes : Sizes) (a b : Table) (last n : ℕ) → ((na
 unfolding cover_at
 uncovered s sizes a b last n some e le none =
     sym (false_from_ne_true (plain.over_values universal s sizes (λ k. is_key (plain.same s sizes) k a.pairs || is_key (plain.same s sizes) k b.pairs))
-      (λ all. true≢false (sym (over_numbers s sizes (λ k. is_key (plain.same s sizes) k a.pairs || is_key (plain.same s sizes) k b.pairs) last n some e all le) ∙ none)))
+    (λ all. true≢false (sym (over_numbers s sizes (λ k. is_key (plain.same s sizes) k a.pairs || is_key (plain.same s sizes) k b.pairs) last n some e all le) ∙ none)))
 
 -- ---- two arrays
 

@@ -1,7 +1,6 @@
 -- Valid values: of a sort, with every scalar in range.
 use Rattle.std.specs.Prelude.{ℕ, Bool, ◌&&◌, ◌||◌, IsTrue}
 use Rattle.smt_terms.specs.Sorts.{Sort}
-
 use Rattle.smt_terms.specs.Values.{Sizes, Pairs, every_pair, is_value, same, agree, cover, is_key}
 use Rattle.smt_values.specs.Numbered.{numbered}
 use Rattle.smt_values.specs.Tables.{Table, as_value}

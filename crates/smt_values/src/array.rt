@@ -96,13 +96,7 @@ fn agree(
 // Whether the keys of two arrays are all values of the index sort: the first value that is no key ends the search, so
 // that there are at most as many turns as keys and one more.
 #[cycle(sameness)]
-fn cover(
-    a: &ArrayValue,
-    b: &ArrayValue,
-    index: SortId,
-    sorts: &SortTable,
-    sizes: &Sizes,
-) -> bool
+fn cover(a: &ArrayValue, b: &ArrayValue, index: SortId, sorts: &SortTable, sizes: &Sizes) -> bool
     requires index { IsSortId sorts.now index }
     requires a { HasKeys (sort_at sorts.now index) (sizes_by sorts.now sizes.now) a.now.pairs }
     requires b { HasKeys (sort_at sorts.now index) (sizes_by sorts.now sizes.now) b.now.pairs }
@@ -144,13 +138,7 @@ fn has_number(
 }
 
 #[cycle(sameness)]
-fn has_key(
-    array: &ArrayValue,
-    key: &Value,
-    index: SortId,
-    sorts: &SortTable,
-    sizes: &Sizes,
-) -> bool
+fn has_key(array: &ArrayValue, key: &Value, index: SortId, sorts: &SortTable, sizes: &Sizes) -> bool
     requires index { IsSortId sorts.now index }
     requires key { IsValue (sort_at sorts.now index) (sizes_by sorts.now sizes.now) key.now }
     requires keys { HasKeys (sort_at sorts.now index) (sizes_by sorts.now sizes.now) array.now.pairs }
@@ -258,8 +246,69 @@ pub fn store(
 {
     let mut array = array;
     match find(array.pairs(), &key, index, sorts, sizes) {
-        Some(i) => array.set_value(i, value),
-        None => array.push(key, value)?,
+        Some(i) => {
+            array.set_value(i, value);
+            Ok(array)
+        }
+        None => {
+            array.push(key, value)?;
+            Ok(array)
+        }
     }
-    Ok(array)
+}
+
+/// The default value of a sort: false, 0, zero bits, element 0, or the array that has its element's default everywhere.
+pub fn default_value(alloc: Global, sorts: &SortTable, sort: SortId) -> Result<Value, AllocError>
+    requires { IsSortId sorts.now sort }
+    ensures value { IfOk result (λ v. meaning v ≡ plain.default_value (sort_at sorts.now sort)) }
+    ensures held { IfOk result IsHeld }
+{
+    match sort.0 {
+        0 => Ok(Value::Scalar(Scalar::Truth(false))),
+        1 => Ok(Value::Scalar(Scalar::Whole(0))),
+        2..=129 => Ok(Value::Scalar(Scalar::Bits {
+            width: sort.0 as u32 - 1,
+            bits: 0,
+        })),
+        _ => match sorts.parts(sort) {
+            Some((_, element)) => {
+                let value = default_value(alloc, sorts, element)?;
+                let array = Box::new(alloc, ArrayValue::new(alloc, value))?;
+                Ok(Value::Array(array))
+            }
+            None => Ok(Value::Element(0)),
+        },
+    }
+}
+
+/// An equal value, with the pairs of arrays in the same order.
+#[cycle(copying)]
+pub fn copy_value(alloc: Global, value: &Value) -> Result<Value, AllocError>
+    requires { IsHeld value.now }
+    ensures value { IfOk result (λ v. meaning v ≡ meaning value.now) }
+    ensures held { IfOk result IsHeld }
+{
+    match value {
+        Value::Scalar(scalar) => Ok(Value::Scalar(*scalar)),
+        Value::Element(i) => Ok(Value::Element(*i)),
+        Value::Array(array) => {
+            let copy = copy_array(alloc, array)?;
+            Ok(Value::Array(Box::new(alloc, copy)?))
+        }
+    }
+}
+
+#[cycle(copying)]
+fn copy_array(alloc: Global, array: &ArrayValue) -> Result<ArrayValue, AllocError>
+    ensures { IfOk result (λ a. a ≡ array.now) }
+{
+    let fallback = copy_value(alloc, array.fallback())?;
+    let mut copy = ArrayValue::new(alloc, fallback);
+    let pairs = array.pairs();
+    for pair in pairs {
+        let key = copy_value(alloc, &pair.key)?;
+        let value = copy_value(alloc, &pair.value)?;
+        copy.push(key, value)?;
+    }
+    Ok(copy)
 }

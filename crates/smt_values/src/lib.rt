@@ -10,7 +10,7 @@ pub mod sizes;
 pub mod sort_table;
 pub mod value;
 
-pub use array::{same, select, store};
+pub use array::{copy_value, default_value, same, select, store};
 pub use scalar::Scalar;
 pub use sizes::Sizes;
 pub use smt_terms::{Op, SortId, SymId};
