@@ -1,7 +1,5 @@
 -- Values that are equal as a program's are the same.
-use Rattle.std.proofs.Common.{◌≡◌, ℕ, ◌^◌, ◌<◌, ◌≤◌, Bool, true, false, ◌==◌, ◌&&◌, ℤ, List, length, refl, ap, sym, ◌∙◌, subst, arith, nat_eq, Bor, true≢false}
-use Rattle.std.specs.Bool.{beq, Decides}
-use Rattle.std.specs.Ordering.{int_eq}
+use Rattle.std.proofs.Common.{◌≡◌, ℕ, ◌^◌, ◌<◌, Bool, true, ◌==◌, ◌&&◌, length, refl, ap, sym, ◌∙◌, subst, nat_eq, true≢false}
 use Rattle.std.proofs.lemmas.Bool.Decides.{Decides-eqb}
 use Rattle.smt_terms.specs.Sorts.{Name, Sort, bool, int, bit_vector, array, free_sort}
 use Rattle.smt_terms.specs.BitVectors.{nat2bv, bits_eq}

@@ -1,7 +1,7 @@
 -- Bits of a word and lists of bits.
-use Rattle.std.proofs.Common.{◌≡◌, ℕ, zero, suc, ◌+◌, ◌-◌, ◌*◌, ◌/◌, ◌%◌, ◌^◌, ◌<◌, ◌≤◌, Bool, true, false, cond, ◌==◌, List, [], ◌∷◌, length, refl, ap, sym, ◌∙◌, subst, arith}
+use Rattle.std.proofs.Common.{◌≡◌, ℕ, zero, suc, ◌+◌, ◌*◌, ◌/◌, ◌%◌, ◌^◌, ◌<◌, true, false, ◌==◌, [], ◌∷◌, length, refl, ap, sym, ◌∙◌, arith}
 use Rattle.std.proofs.Math.Nat.{pow-succ', mod-eq_of_lt}
-use Rattle.std.proofs.lemmas.Nat.{pow_pos, mod-pow-add, mod_below}
+use Rattle.std.proofs.lemmas.Nat.{mod-pow-add, mod_below}
 use Rattle.std.proofs.lemmas.Bool.Decides.{nat_tests}
 use Rattle.smt_terms.specs.BitVectors.{BitVector, bv2nat, nat2bv, bit_number}
 use Rattle.smt_terms.proofs.BitLengths.{length-nat2bv}

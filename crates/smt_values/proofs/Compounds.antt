@@ -1,22 +1,22 @@
 -- What a sort table gains when a sort is asked for.
-use Rattle.std.proofs.Common.{◌≡◌, ℕ, ◌+◌, ◌-◌, ◌<◌, ◌≤◌, nat_lt, Bool, true, false, cond, not, ◌&&◌, if◌then◌else◌, ◌⊎◌, inl, inr, List, [], ◌∷◌, ◌++◌, length, get_or, slice_get, Option, Some, None, refl, ap, sym, ◌∙◌, subst, arith, true≢false, length-append, Contains, IfSome, Bor}
+use Rattle.std.proofs.Common.{◌≡◌, ℕ, ◌+◌, ◌-◌, ◌<◌, ◌≤◌, nat_lt, Bool, true, false, not, ◌&&◌, if◌then◌else◌, ◌⊎◌, inl, inr, List, [], ◌∷◌, ◌++◌, length, get_or, slice_get, Option, Some, None, refl, ap, sym, ◌∙◌, subst, arith, true≢false, length-append, IfSome, Bor}
 use Rattle.std.specs.Option.{option_copied}
 use Rattle.std.specs.List.{list_any}
 use Rattle.std.proofs.lemmas.Option.{slice_get_within, slice_get-get_or, get_or_from_slice_get, slice_get_cases}
 use Rattle.std.proofs.Math.Seq.{get_or-append_seam}
 use Rattle.std.proofs.lemmas.List.{get_or_append_left}
 use Rattle.std.proofs.lemmas.Bool.{ltb-true, ltb-false}
-use Rattle.std.proofs.lemmas.List.Folds.{Any-from_list_any, list_any-from_Any}
+use Rattle.std.proofs.lemmas.List.Folds.{list_any-from_Any}
 use Rattle.indexmap.specs.IndexSet.{insert_key}
-use Rattle.smt_terms.specs.Sorts.{Sort, bool, array, free_sort}
+use Rattle.smt_terms.specs.Sorts.{Sort, bool, array}
 use Rattle.smt_terms.specs.Rank.{is_array, is_sort}
 use Rattle.smt_terms.proofs.Tests.{and_true}
 use Rattle.smt_values.specs.declared.sort_table.Compound.{Compound}
 use Rattle.smt_values.specs.declared.sort_table.Compound.TheVariants.{Array, Declared}
-use Rattle.smt_values.specs.SortIds.{sort_at, sort_numbered, IsSortId, IsSortList, AddsSort, is_composed}
+use Rattle.smt_values.specs.SortIds.{sort_at, IsSortList, AddsSort, is_composed}
 use Rattle.smt_values.specs.Compounds.{compound_sort, sorts_after, sorts_of, Fits, IsBelow, AreSorts}
 use Rattle.smt_values.proofs.Derived.{compound_eq, compound_eq-sort, compound_eq-from_sort}
-use Rattle.smt_values.proofs.SortIds.{sort_placed, sort_stays, sort_one, sort_is}
+use Rattle.smt_values.proofs.SortIds.{sort_stays, sort_one, sort_is}
 
 sorts_after-push : (made : List Sort) (cs : List Compound) (c : Compound) → sorts_after made (cs ++ c ∷ []) ≡ sorts_after made cs ++ compound_sort (sorts_after made cs) c ∷ []
 sorts_after-push made [] c = refl

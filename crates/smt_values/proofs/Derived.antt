@@ -1,13 +1,11 @@
 -- The comparison that the derive of the sort table's rows wrote.
-use Rattle.std.proofs.Common.{◌≡◌, ℕ, ◌+◌, ◌<◌, Bool, true, false, List, length, refl, ap, arith, ◌&&◌, ◌==◌, subst, sym, ◌∙◌}
+use Rattle.std.proofs.Common.{◌≡◌, ℕ, ◌+◌, ◌<◌, Bool, true, List, length, ap, ◌==◌}
 use Rattle.std.proofs.lemmas.Bool.Decides.{Decides-eqb}
 use Rattle.std.proofs.lemmas.Slice.Eq.{bytes_eq-Decides}
-use Rattle.std.specs.Str.{bytes_eq}
 use Rattle.smt_terms.specs.Sorts.{Sort, array, free_sort}
-use Rattle.smt_terms.specs.declared.ids.SortId.{SortId}
 use Rattle.smt_terms.proofs.Tests.{both_true, and_true}
 use Rattle.smt_values.specs.Compounds.{compound_sort, IsBelow}
-use Rattle.smt_values.specs.SortIds.{sort_at, sort_numbered}
+use Rattle.smt_values.specs.SortIds.{sort_numbered}
 use Rattle.smt_values.specs.declared.sort_table.Compound.{Compound}
 use Rattle.smt_values.specs.declared.sort_table.Compound.TheVariants.{Array, Declared}
 use Rattle.smt_values.specs.contracts.sort_table.CompoundPartialEq.TheImpl.{ghosts}

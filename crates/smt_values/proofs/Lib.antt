@@ -7,3 +7,4 @@ pub mod Pairs
 pub mod Sameness
 pub mod SizeTable
 pub mod SortIds
+pub mod Words

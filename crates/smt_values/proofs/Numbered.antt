@@ -1,10 +1,8 @@
 -- A test of all values of a finite sort, by their numbers.
-use Rattle.std.proofs.Common.{◌≡◌, ℕ, zero, suc, ◌+◌, ◌-◌, ◌*◌, ◌/◌, ◌%◌, ◌^◌, ◌<◌, ◌≤◌, nat_lt, ◌==◌, Bool, true, false, cond, ◌&&◌, List, [], ◌∷◌, length, get_or, if◌then◌else◌, Option, Some, None, IfSome, refl, ap, sym, ◌∙◌, subst, arith, true≢false, ◌⊎◌, inl, inr}
+use Rattle.std.proofs.Common.{◌≡◌, ℕ, zero, suc, ◌+◌, ◌-◌, ◌/◌, ◌^◌, ◌<◌, ◌≤◌, ◌==◌, Bool, true, false, List, [], ◌∷◌, length, get_or, Some, None, refl, ap, sym, ◌∙◌, subst, arith, true≢false}
 use Rattle.std.specs.List.{position_or_len}
 use Rattle.std.proofs.lemmas.Bool.Decides.{nat_tests, Decides-eqb, Decides-ltb}
-use Rattle.std.proofs.lemmas.Bool.{ltb-true, ltb-false}
 use Rattle.std.proofs.lemmas.List.Sums.{position_or_len_is}
-use Rattle.std.proofs.Math.Nat.{pow-succ'}
 use Rattle.std.proofs.lemmas.Nat.{pow_pos}
 use Rattle.smt_terms.specs.declared.ids.SortId.{SortId}
 use Rattle.smt_terms.specs.Sorts.{Name, Sort, bool, int, bit_vector, array, free_sort}
@@ -14,14 +12,14 @@ use Rattle.smt_terms.specs.BitVectors.{BitVector, nat2bv, bv2nat, zeros}
 use Rattle.smt_terms.specs.Values.{Value, truth, bits, element, Sizes, over_bits, over_elements, over_values, is_value, default_value}
 use Rattle.smt_terms.proofs.Equal.{Decides-sort_eq}
 use Rattle.smt_terms.proofs.Tests.{both_true, and_true}
-use Rattle.smt_values.specs.SortIds.{sort_numbered, sort_at, IsSortId, IsSortList, is_composed, is_free}
-use Rattle.smt_values.specs.SizeTable.{size_at, number_of, sizes_by}
+use Rattle.smt_values.specs.SortIds.{sort_numbered, sort_at, IsSortList, is_free}
+use Rattle.smt_values.specs.SizeTable.{size_at, sizes_by}
 use Rattle.smt_values.specs.Numbered.{numbered, numbered_at, last_number, IsNumberAt}
-use Rattle.smt_values.proofs.SortIds.{placed, sort_placed, sort_basic, basic}
+use Rattle.smt_values.proofs.SortIds.{sort_placed, sort_basic, basic}
 use Rattle.std.specs.Prelude.{unwrap_or, is_some}
 use Rattle.std.proofs.lemmas.Nat.Bits.{ones_shr}
 use Rattle.smt_terms.proofs.BitLengths.{length-nat2bv}
-use Rattle.smt_values.proofs.Bits.{bv2nat-nat2bv, nat2bv-bv2nat, bv2nat_below}
+use Rattle.smt_values.proofs.Bits.{nat2bv-bv2nat, bv2nat_below}
 
 -- ---- bits by their numbers
 

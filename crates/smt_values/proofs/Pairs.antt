@@ -1,5 +1,5 @@
 -- The pairs of an array, one by one.
-use Rattle.std.proofs.Common.{◌≡◌, ℕ, zero, suc, ◌+◌, ◌<◌, Bool, true, false, cond, ◌&&◌, ◌||◌, List, [], ◌∷◌, ◌++◌, length, get_or, take, Option, Some, None, All, refl, ap, sym, ◌∙◌, subst, arith, true≢false, ◌-◌, ◌≤◌}
+use Rattle.std.proofs.Common.{◌≡◌, ℕ, zero, suc, ◌+◌, ◌<◌, Bool, true, false, cond, List, [], ◌∷◌, ◌++◌, length, get_or, take, Option, Some, None, refl, ap, sym, ◌∙◌, subst, arith, true≢false, ◌-◌, ◌≤◌}
 use Rattle.std.proofs.lemmas.List.Elements.{All-get_or}
 use Rattle.smt_terms.specs.Values as plain
 use Rattle.smt_terms.specs.Values.{Pairs, no_pairs, pair, is_key, value_at, put, every_pair}

@@ -1,5 +1,5 @@
 -- Sameness of arrays, pair by pair.
-use Rattle.std.proofs.Common.{◌≡◌, ℕ, zero, suc, ◌+◌, ◌<◌, ◌≤◌, Bool, true, false, cond, ◌&&◌, ◌||◌, List, [], ◌∷◌, length, get_or, Option, Some, None, refl, ap, sym, ◌∙◌, subst, arith, true≢false, below_more, ◌-◌}
+use Rattle.std.proofs.Common.{◌≡◌, ℕ, zero, suc, ◌+◌, ◌<◌, ◌≤◌, Bool, true, false, cond, ◌&&◌, ◌||◌, List, [], ◌∷◌, length, get_or, Option, Some, None, refl, ap, sym, ◌∙◌, arith, true≢false, below_more, ◌-◌}
 use Rattle.std.proofs.lemmas.Bool.{false_from_ne_true}
 use Rattle.smt_terms.specs.Term.{universal}
 use Rattle.std.specs.Prelude.{is_some}
@@ -7,11 +7,11 @@ use Rattle.smt_terms.specs.Sorts.{Name, Sort, array, free_sort}
 use Rattle.smt_terms.specs.Values as plain
 use Rattle.smt_terms.specs.Values.{Pairs, no_pairs, pair, is_key, value_at, every_pair, is_value, Sizes}
 use Rattle.smt_terms.proofs.Tests.{both_true, and_true}
-use Rattle.smt_terms.proofs.Same.{array_value, is_value-select}
+use Rattle.smt_terms.proofs.Same.{array_value}
 use Rattle.smt_values.specs.Tables.{Table, as_value}
 use Rattle.smt_values.specs.Places.{place_from}
 use Rattle.smt_values.specs.Meaning.{meaning, pairs_of}
-use Rattle.smt_values.specs.Numbered.{numbered, last_number}
+use Rattle.smt_values.specs.Numbered.{last_number}
 use Rattle.smt_values.specs.Valid.{HasKeys, agree_at, cover_at, has_number}
 use Rattle.smt_values.specs.declared.value.Pair.{Pair}
 use Rattle.smt_values.proofs.Numbered.{over_numbers, over_numbered, over_no_numbers}

@@ -1,10 +1,10 @@
 -- Numbers keep their sorts as a table grows, and a table of distinct sorts has one number for each.
-use Rattle.std.proofs.Common.{◌≡◌, ℕ, ◌+◌, ◌-◌, ◌<◌, ◌≤◌, nat_lt, ◌==◌, Bool, true, false, cond, if◌then◌else◌, ◌⊎◌, inl, inr, List, [], ◌∷◌, ◌++◌, length, get_or, refl, ap, sym, ◌∙◌, subst, arith, true≢false}
+use Rattle.std.proofs.Common.{◌≡◌, ℕ, ◌+◌, ◌-◌, ◌<◌, ◌≤◌, nat_lt, ◌==◌, Bool, true, false, if◌then◌else◌, ◌⊎◌, inl, inr, List, ◌++◌, length, get_or, refl, ap, sym, ◌∙◌, arith, true≢false}
 use Rattle.std.proofs.lemmas.List.{get_or_append_left}
 use Rattle.std.proofs.lemmas.Bool.{ltb-true, ltb-false}
 use Rattle.std.proofs.lemmas.Bool.Decides.{nat_tests}
 use Rattle.smt_terms.specs.Rank.{is_sort}
-use Rattle.smt_terms.specs.Sorts.{Sort, bool, int, bit_vector, array, free_sort}
+use Rattle.smt_terms.specs.Sorts.{Sort, bool, int, bit_vector}
 use Rattle.smt_values.specs.SortIds.{sort_numbered, IsSortList, is_composed}
 
 -- the sort at a place of the table has the number 130 more

@@ -1,5 +1,5 @@
 -- The values of the definitions that scalars and values of a program stand for, and what holds of each that it holds.
-use Rattle.std.specs.Prelude.{ℕ, ◌≤◌, ◌<◌, ◌^◌, ℤ, unsigned_abs, List, [], ◌∷◌, All}
+use Rattle.std.specs.Prelude.{◌≤◌, ◌<◌, ◌^◌, unsigned_abs, List, [], ◌∷◌, All}
 use Rattle.smt_terms.specs.Sorts.{Sort, bool, int, bit_vector}
 use Rattle.smt_terms.specs.Values as plain
 use Rattle.smt_terms.specs.Values.{Pairs, no_pairs, pair}

@@ -1,8 +1,8 @@
 -- The values of a finite sort by numbers: the first is the default value.
 use Rattle.std.specs.Prelude.{ℕ, ◌-◌, ◌^◌, ◌<◌, ◌==◌, nat_lt, if◌then◌else◌, Option, Some, None}
-use Rattle.smt_terms.specs.Sorts.{Sort, bool, int, bit_vector, array, free_sort}
+use Rattle.smt_terms.specs.Sorts.{Sort, bool, bit_vector, free_sort}
 use Rattle.smt_terms.specs.BitVectors.{nat2bv}
-use Rattle.smt_terms.specs.Values.{Value, truth, whole, bits, element, Sizes, default_value}
+use Rattle.smt_terms.specs.Values.{Value, truth, bits, element, Sizes, default_value}
 
 abbrev pub numbered : Sort → ℕ → Value
 numbered bool n = truth (n == 1)

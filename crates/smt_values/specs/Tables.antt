@@ -1,6 +1,6 @@
 -- What a contract sees of an array: its default value, and its pairs in order.
 use Rattle.std.specs.Prelude.{ℕ, zero, suc, ◌+◌, max, Option, Some, None}
-use Rattle.smt_terms.specs.Values.{Value, truth, whole, bits, element, table, Pairs, no_pairs, pair}
+use Rattle.smt_terms.specs.Values.{Value, table, Pairs, no_pairs, pair}
 
 pub record Table : Type 0 where
   pub fallback : Value

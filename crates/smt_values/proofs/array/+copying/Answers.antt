@@ -1,4 +1,4 @@
-use Rattle.std.proofs.Common.{rules, ◌≡◌, ◌<◌, ◌≤◌, ◌∙◌, sym, ap, arith, length, take, ◌+◌}
+use Rattle.std.proofs.Common.{rules, ◌≡◌, ◌<◌, ◌≤◌, ◌∙◌, sym, ap, arith, length}
 use Rattle.smt_terms.specs.Values.{Pairs}
 use Rattle.smt_values.specs.Meaning.{meaning, pairs_of}
 use Rattle.smt_values.specs.Tables.{Table, with_pair, value_depth, pairs_depth}

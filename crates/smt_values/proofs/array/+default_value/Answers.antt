@@ -1,4 +1,4 @@
-use Rattle.std.proofs.Common.{◌≤◌, arith}
+use Rattle.std.proofs.Common.{arith}
 use Rattle.smt_values.proofs.Numbered.{default_word}
 use Rattle.smt_values.proofs.array.+default_value.Goals as goal
 

@@ -1,4 +1,4 @@
-use Rattle.std.proofs.Common.{rules, ◌≡◌, ℕ, ◌<◌, ◌≤◌, ◌∙◌, sym, ap, subst, arith, Some, true, false, ◌-◌, length, get_or}
+use Rattle.std.proofs.Common.{rules, ◌≡◌, ◌<◌, ◌∙◌, sym, ap, subst, arith, true, ◌-◌, length, get_or}
 use Rattle.smt_values.specs.declared.value.Pair.{Pair}
 use Rattle.std.specs.Prelude.{is_some}
 use Rattle.smt_terms.specs.Values.{is_key, value_at}
@@ -11,7 +11,7 @@ use Rattle.smt_values.specs.SortIds.{sort_at}
 use Rattle.smt_values.specs.Tables.{as_value}
 use Rattle.smt_values.proofs.Pairs.{held_at}
 use Rattle.smt_values.specs.Valid.{HasKeys, agree_at, cover_at, has_number}
-use Rattle.smt_values.proofs.Sameness.{same_arrays, first_differs, second_differs, defaults_same, defaults_differ, table_keys, table_fallback, key_valid, is_key-place, value_at-nowhere, value_at-place, not_covered, covered, uncovered}
+use Rattle.smt_values.proofs.Sameness.{same_arrays, defaults_same, defaults_differ, table_keys, table_fallback, key_valid, is_key-place, value_at-nowhere, value_at-place, not_covered, covered, uncovered}
 use Rattle.smt_values.proofs.Alike.{scalar_values, element_values, no_other_scalar, no_other_element, no_other_array}
 use Rattle.smt_values.proofs.array.+sameness.Goals as goal
 

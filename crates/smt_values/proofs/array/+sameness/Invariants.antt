@@ -1,6 +1,6 @@
-use Rattle.std.proofs.Common.{◌≡◌, ◌<◌, ◌≤◌, ℕ, ◌+◌, ◌-◌, ◌*◌, max, length, drop, true}
+use Rattle.std.proofs.Common.{◌≡◌, ◌<◌, ◌≤◌, ℕ, ◌+◌, ◌-◌, ◌*◌, max, drop, true}
 use Rattle.smt_terms.specs.Values as plain
-use Rattle.smt_values.specs.Meaning.{meaning, pairs_of, IsHeld, AreHeld}
+use Rattle.smt_values.specs.Meaning.{meaning, pairs_of}
 use Rattle.smt_values.specs.Places.{place_from}
 use Rattle.smt_values.specs.SizeTable.{sizes_by}
 use Rattle.smt_values.specs.SortIds.{sort_at}

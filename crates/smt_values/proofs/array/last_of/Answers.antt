@@ -1,6 +1,6 @@
-use Rattle.std.proofs.Common.{◌≡◌, ℕ, ◌<◌, ◌≤◌, ◌∙◌, sym, ap, arith, Some, ◌-◌}
-use Rattle.smt_values.specs.SizeTable.{sizes_by, size_at}
-use Rattle.smt_values.proofs.Numbered.{last-word, word_sort-numbers, bool-numbers, free-numbers, not_declared}
+use Rattle.std.proofs.Common.{arith}
+use Rattle.smt_values.specs.SizeTable.{sizes_by}
+use Rattle.smt_values.proofs.Numbered.{last-word, word_sort-numbers, free-numbers, not_declared}
 use Rattle.smt_values.proofs.array.last_of.Goals as goal
 
 pub returns-in-2-to-129-clause-last : goal.returns-in-2-to-129-clause-last

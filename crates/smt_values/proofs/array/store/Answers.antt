@@ -1,10 +1,10 @@
 use Rattle.std.proofs.Common.{◌≡◌, ◌∙◌, ◌-◌, sym, ap, arith}
 use Rattle.smt_terms.specs.Values as plain
 use Rattle.smt_terms.specs.Values.{table, put}
-use Rattle.smt_values.specs.Meaning.{meaning, pairs_of}
+use Rattle.smt_values.specs.Meaning.{meaning}
 use Rattle.smt_values.specs.SizeTable.{sizes_by}
 use Rattle.smt_values.specs.SortIds.{sort_at}
-use Rattle.smt_values.specs.Tables.{as_value, count, with_value_at, with_pair}
+use Rattle.smt_values.specs.Tables.{as_value, count, with_value_at}
 use Rattle.smt_values.specs.Places.{place_from}
 use Rattle.smt_values.proofs.Pairs.{count-pairs_of, put-place, put-nowhere}
 use Rattle.smt_values.proofs.array.store.Goals as goal

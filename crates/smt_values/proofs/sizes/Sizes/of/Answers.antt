@@ -1,4 +1,4 @@
-use Rattle.std.proofs.Common.{◌≡◌, ℕ, List, ◌∙◌, sym, ap, subst, ◌<◌}
+use Rattle.std.proofs.Common.{ℕ, List, ◌∙◌, sym, ap, subst, ◌<◌}
 use Rattle.std.specs.Prelude.{unwrap_or}
 use Rattle.smt_terms.specs.declared.ids.SortId.{SortId}
 use Rattle.smt_values.specs.SizeTable.{size_at}

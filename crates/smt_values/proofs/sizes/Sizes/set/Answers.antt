@@ -1,4 +1,4 @@
-use Rattle.std.proofs.Common.{◌≡◌, ℕ, List, ◌∙◌, sym, ap, subst, ◌==◌, if◌then◌else◌}
+use Rattle.std.proofs.Common.{ℕ, List, ◌∙◌, sym, ap, subst, ◌==◌, if◌then◌else◌}
 use Rattle.smt_terms.specs.declared.ids.SortId.{SortId}
 use Rattle.smt_values.specs.SizeTable.{size_at, ArePositive}
 use Rattle.smt_values.proofs.SizeTable.{size_at-insert, ArePositive-insert}

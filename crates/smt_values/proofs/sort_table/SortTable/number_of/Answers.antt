@@ -1,4 +1,4 @@
-use Rattle.std.proofs.Common.{◌≡◌, ◌∙◌, subst, sym, ap, ◌+◌, ◌<◌, length, arith, List}
+use Rattle.std.proofs.Common.{◌∙◌, subst, ap, arith, List}
 use Rattle.smt_terms.specs.Sorts.{Sort}
 use Rattle.smt_values.specs.Compounds.{sorts_of, compound_sort}
 use Rattle.smt_values.specs.SortIds.{AddsSort}

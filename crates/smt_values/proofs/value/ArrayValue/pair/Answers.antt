@@ -1,4 +1,4 @@
-use Rattle.std.proofs.Common.{◌≡◌, ◌∙◌, sym, ap, arith, ◌<◌, length, Some}
+use Rattle.std.proofs.Common.{◌∙◌, sym, ap, arith, ◌<◌, length}
 use Rattle.smt_values.specs.Tables.{Table, count, pair_at}
 use Rattle.smt_values.proofs.Pairs.{count-pairs_of, pair_at-pairs_of, held_at}
 use Rattle.smt_values.proofs.value.ArrayValue.pair.Goals as goal

@@ -1,4 +1,4 @@
-use Rattle.std.proofs.Common.{◌≡◌, ◌∙◌, sym, ap, ◌++◌, ◌∷◌, []}
+use Rattle.std.proofs.Common.{◌∙◌, ap}
 use Rattle.smt_values.specs.Tables.{Table, with_pair}
 use Rattle.smt_values.specs.Meaning.{meaning, pairs_of}
 use Rattle.smt_values.proofs.Pairs.{pairs_of-push}

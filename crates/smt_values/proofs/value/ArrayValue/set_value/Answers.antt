@@ -1,6 +1,6 @@
-use Rattle.std.proofs.Common.{◌≡◌, ◌∙◌, sym, ap, arith, ◌<◌, length}
+use Rattle.std.proofs.Common.{◌∙◌, ap, arith, ◌<◌, length}
 use Rattle.smt_values.specs.Tables.{Table, count, with_value_at}
-use Rattle.smt_values.specs.Meaning.{meaning, pairs_of}
+use Rattle.smt_values.specs.Meaning.{meaning}
 use Rattle.smt_values.proofs.Pairs.{count-pairs_of, pairs_of-set}
 use Rattle.smt_values.proofs.value.ArrayValue.set_value.Goals as goal
 
