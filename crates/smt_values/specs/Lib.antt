@@ -1,0 +1,10 @@
+pub mod Codes
+pub mod Compounds
+pub mod Deep
+pub mod Meaning
+pub mod Numbered
+pub mod Places
+pub mod SizeTable
+pub mod SortIds
+pub mod Tables
+pub mod Valid

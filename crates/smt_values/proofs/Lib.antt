@@ -1,0 +1,10 @@
+pub mod Alike
+pub mod Bits
+pub mod Compounds
+pub mod Derived
+pub mod Numbered
+pub mod Pairs
+pub mod Sameness
+pub mod SizeTable
+pub mod SortIds
+pub mod Words
