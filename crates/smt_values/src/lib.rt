@@ -1,6 +1,6 @@
-//! Sorts, operators and values as a program holds them: sorts that are numbers of a table, scalars of at most 128 bits,
-//! arrays as a default with pairs, and what the operators of the theories give on them. Every answer is the one of the
-//! definitions over plain values, or says that an exact whole number needs more than 128 bits.
+//! Sorts and values as a program holds them: sorts that are numbers of a table, the sizes of declared sorts, scalars of at
+//! most 128 bits, and arrays as a default with pairs. Every answer is the one of the definitions over plain values. (What
+//! the operators of the theories give on scalars joins as the project grows.)
 
 #![tactic(auto)]
 
