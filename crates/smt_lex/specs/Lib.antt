@@ -1,0 +1,6 @@
+pub mod Lexicon
+pub mod Names
+pub mod Lex
+pub mod Forms
+pub mod Forest
+pub mod Building
