@@ -24,3 +24,4 @@ pub mod Takes
 pub mod Term
 pub mod Val
 pub mod Values
+pub mod Written

@@ -1,0 +1,5 @@
+-- Worked rows, by topics.
+mod Cases
+mod CommandsRefused
+mod SortsRefused
+mod TermsRefused

@@ -1,0 +1,15 @@
+pub mod Refusals
+pub mod Parts
+pub mod Scope
+pub mod SortForms
+pub mod Variables
+pub mod Reading
+pub mod Heads
+pub mod Read
+pub mod Commands
+pub mod Outlines
+pub mod Script
+pub mod Mean
+pub mod Scenes
+pub mod Satisfied
+pub mod Printable

@@ -1,0 +1,9 @@
+//! The table of formulas. A formula is a numbered node: an operator over nodes with smaller numbers. Equal operators
+//! over equal operands have one number, so that a formula is compared, kept and shared by its number alone.
+
+#![tactic(auto)]
+
+pub mod table;
+
+pub use smt_terms::NodeId;
+pub use table::Table;
