@@ -1,0 +1,3 @@
+//! Model texts.
+
+#![tactic(auto)]

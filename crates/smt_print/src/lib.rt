@@ -1,0 +1,3 @@
+//! Printed scripts.
+
+#![tactic(auto)]
