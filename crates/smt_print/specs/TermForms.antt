@@ -1,6 +1,6 @@
 -- Terms as forms, in two layouts: SMT-LIB 2.6, section 3.6. As a tree a term stands as it is; as a graph, each subterm that
 -- has operands is bound to a name by a `let` and stands once.
-use Rattle.std.specs.Prelude.{ℕ, Bool, true, false, ◌||◌, if◌then◌else◌, List, [], ◌∷◌, ◌++◌, map, length, codes, Option, Some, None}
+use Rattle.std.specs.Prelude.{ℕ, Bool, false, ◌||◌, if◌then◌else◌, List, [], ◌∷◌, ◌++◌, map, length, codes}
 use Rattle.smt_lex.specs.Names.{Name}
 use Rattle.smt_lex.specs.Forms.{Form}
 use Rattle.smt_terms.specs.declared.op.Op.{Op}

@@ -11,7 +11,7 @@ abbrev pub Cases : Type 0
 Cases = List (Term × List ℕ)
 
 abbrev pub printed : Layout → Cases → List (List ℕ)
-printed layout cases = map (λ c. text c.0 layout) cases
+printed layout cases = map (λ c. text layout c.0) cases
 
 abbrev pub wanted : Cases → List (List ℕ)
 wanted cases = map (λ c. c.1) cases

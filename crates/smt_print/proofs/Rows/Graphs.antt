@@ -1,7 +1,7 @@
 -- Worked rows: terms with each shared subterm written once.
 use Rattle.std.specs.Prelude.{◌≡◌, true, [], ◌∷◌, pos, neg_ℤ, codes, refl}
 use Rattle.smt_lex.specs.Names.{is_syntax_word, is_command_word}
-use Rattle.smt_terms.specs.declared.op.Op.TheVariants.{Truth, Not, And, Or, Xor, Add, Lt, Select}
+use Rattle.smt_terms.specs.declared.op.Op.TheVariants.{Truth, Not, And, Or, Xor, Lt}
 use Rattle.smt_terms.specs.Equal.{op_eq}
 use Rattle.smt_terms.specs.Sorts.{bool, int, array}
 use Rattle.smt_terms.specs.Term.{universal, existential, const_array, Term, over}
@@ -43,13 +43,18 @@ of_shared = refl
 
 -- a quantifier is one of the subterms, and what stands in it is named anew
 abbrev quantified : Cases
-quantified =
-    (of_three And (of_two Or p a) (binds universal (codes "x") bool (of_two Xor (of_two Or p a) (of_two Or x (of_two Or p a)))) (of_two Or p a),
-     codes "(let ((.def_0 (or p a))) (let ((.def_1 (forall ((x Bool)) (let ((.def_0 (or p a))) (let ((.def_1 (or x .def_0))) (let ((.def_2 (xor .def_0 .def_1))) .def_2)))))) (let ((.def_2 (and .def_0 .def_1 .def_0))) .def_2)))")
-    ∷ (binds universal (codes "x") bool (binds existential (codes "y") bool (of_two And x y)),
-       codes "(let ((.def_0 (forall ((x Bool)) (let ((.def_0 (exists ((y Bool)) (let ((.def_0 (and x y))) .def_0)))) .def_0)))) .def_0)")
-    ∷ (of_two Or (binds universal (codes "x") bool x) (of_two Or (binds universal (codes "y") bool y) (binds universal (codes "x") bool x)),
-       codes "(let ((.def_0 (forall ((x Bool)) x))) (let ((.def_1 (forall ((y Bool)) y))) (let ((.def_2 (or .def_1 .def_0))) (let ((.def_3 (or .def_0 .def_2))) .def_3))))")
+quantified = (
+  of_three And (of_two Or p a) (binds universal (codes "x") bool (of_two Xor (of_two Or p a) (of_two Or x (of_two Or p a)))) (of_two Or p a),
+  codes "(let ((.def_0 (or p a))) (let ((.def_1 (forall ((x Bool)) (let ((.def_0 (or p a))) (let ((.def_1 (or x .def_0))) (let ((.def_2 (xor .def_0 .def_1))) .def_2)))))) (let ((.def_2 (and .def_0 .def_1 .def_0))) .def_2)))",
+)
+    ∷ (
+      binds universal (codes "x") bool (binds existential (codes "y") bool (of_two And x y)),
+      codes "(let ((.def_0 (forall ((x Bool)) (let ((.def_0 (exists ((y Bool)) (let ((.def_0 (and x y))) .def_0)))) .def_0)))) .def_0)",
+    )
+    ∷ (
+      of_two Or (binds universal (codes "x") bool x) (of_two Or (binds universal (codes "y") bool y) (binds universal (codes "x") bool x)),
+      codes "(let ((.def_0 (forall ((x Bool)) x))) (let ((.def_1 (forall ((y Bool)) y))) (let ((.def_2 (or .def_1 .def_0))) (let ((.def_3 (or .def_0 .def_2))) .def_3))))",
+    )
     ∷ []
 
 of_quantified : printed Dag quantified ≡ wanted quantified

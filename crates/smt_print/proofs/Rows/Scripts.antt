@@ -1,5 +1,5 @@
 -- Worked rows: texts of scripts, as they are printed when they were read.
-use Rattle.std.specs.Prelude.{◌≡◌, ℕ, List, [], ◌∷◌, ◌++◌, map, Result, Ok, Err, codes, refl}
+use Rattle.std.specs.Prelude.{◌≡◌, ℕ, List, [], ◌∷◌, ◌++◌, Result, Ok, Err, codes, refl}
 use Rattle.smt_lex.specs.Lexicon.{line_feed}
 use Rattle.smt_lex.specs.Names.{is_syntax_word, is_command_word, is_theory_name, is_theory_sort, is_reserved_for_declaring, is_reserved_for_let, is_reserved_for_sorts}
 use Rattle.smt_terms.specs.Equal.{op_eq}
@@ -18,7 +18,7 @@ use Rattle.smt_print.specs.Text.{lines}
 
 -- what was read, printed; nothing where it is refused
 abbrev lines_of : Layout → Result (List (Command Term) × Supply) Unaccepted → List ℕ
-lines_of layout (Ok r) = lines r.0 layout
+lines_of layout (Ok r) = lines layout r.0
 lines_of layout (Err fault) = []
 
 abbrev again : Layout → List ℕ → List ℕ
