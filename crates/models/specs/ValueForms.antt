@@ -1,6 +1,6 @@
 -- Values as model texts write them: constants, elements of free sorts, and arrays that are constant but for some places.
 -- SMT-LIB 2.6, sections 3.6 (qualified identifiers) and 4.1.8 (abstract values begin with `@`).
-use Rattle.std.specs.Prelude.{ℕ, ◌^◌, ◌==◌, Bool, true, false, ◌&&◌, not, nat_lt, if◌then◌else◌, List, [], ◌∷◌, codes, ℤ, pos, neg_ℤ, Result, Ok, Option, Some, None, option_map, is_some}
+use Rattle.std.specs.Prelude.{ℕ, ◌^◌, ◌==◌, Bool, true, false, ◌&&◌, nat_lt, if◌then◌else◌, codes, ℤ, pos, neg_ℤ, Result, Ok, Option, Some, None, option_map}
 use Rattle.smt_lex.specs.Lexicon.{starts_as}
 use Rattle.smt_lex.specs.Lex.{Token, symbol_of, name_of}
 use Rattle.smt_lex.specs.Forms.{Form, atom, node, Forms, none, ◌⨾◌}
