@@ -38,7 +38,7 @@ value_form (bit_vector width) v = vector_form width (bv2nat (bits_of v))
 value_form (free_sort s) v = element_form s (element_of v)
 value_form (array i e) v =
     stores_form (value_form i) (value_form e) (pairs_of v)
-      (list_form (constant_array_form (array i e) ∷ value_form e (default_of v) ∷ []))
+    (list_form (constant_array_form (array i e) ∷ value_form e (default_of v) ∷ []))
 
 -- ---- tables
 
@@ -72,7 +72,7 @@ abbrev pub function_form : Symbol → Graph → Form
 function_form f g =
     let xs = parameters 0 f.args in
     list_form (word_form (codes "define-fun") ∷ symbol_form f.name ∷ list_form (map variable_form xs) ∷ sort_form f.result
-      ∷ rows_form xs f.result g.rows (value_form f.result g.otherwise) ∷ [])
+    ∷ rows_form xs f.result g.rows (value_form f.result g.otherwise) ∷ [])
 
 abbrev pub symbol_entry : Model → Symbol → Form
 symbol_entry m f = function_form f (unwrap_or (m.graphs f) (default_graph f.result))

@@ -46,10 +46,11 @@ number_table gs sizes n = number_graph (with_first_rows (int ∷ []) sizes (unwr
 
 abbrev pub model_over : Signature → List Given → Sizes → Model
 model_over sig gs sizes = record {
-    sizes = sizes;
-    graphs = λ f. if list_any (symbol_eq f) sig.symbols then Some (table_of gs sizes f) else None;
-    div_by_zero = number_table gs sizes division_table;
-    mod_by_zero = number_table gs sizes modulus_table }
+  sizes = sizes;
+  graphs = λ f. if list_any (symbol_eq f) sig.symbols then Some (table_of gs sizes f) else None;
+  div_by_zero = number_table gs sizes division_table;
+  mod_by_zero = number_table gs sizes modulus_table;
+}
 
 -- ---- the parts of a text: a word `sat` or none, and one list of a word `model` or none and the entries
 

@@ -87,9 +87,9 @@ side_value s (written f) = value_in f s
 abbrev pub keys_of : List Equation → Reading (List Key)
 keys_of [] = gives []
 keys_of (e ∷ es) = do
-    v ← side_value e.parameter.sort e.side
-    ks ← keys_of es
-    gives (record { name = e.parameter.name; value = v } ∷ ks)
+  v ← side_value e.parameter.sort e.side
+  ks ← keys_of es
+  gives (record { name = e.parameter.name; value = v } ∷ ks)
 
 abbrev pub key_named : List Key → Name → Value
 key_named [] n = truth false
@@ -114,10 +114,10 @@ value_everywhere value = value >>= λ v. gives (record { rows = []; otherwise = 
 
 abbrev pub row_first : Reading (List Value) → Reading Value → Reading Graph → Reading Graph
 row_first keys result body = do
-    ks ← keys
-    v ← result
-    g ← body
-    gives (record { rows = record { keys = ks; result = v } ∷ g.rows; otherwise = g.otherwise })
+  ks ← keys
+  v ← result
+  g ← body
+  gives (record { rows = record { keys = ks; result = v } ∷ g.rows; otherwise = g.otherwise })
 
 abbrev pub body_in : Form → List Variable → Sort → Reading Graph
 body_in (node place (f ⨾ c ⨾ v ⨾ b ⨾ none)) xs s =

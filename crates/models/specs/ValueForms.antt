@@ -119,10 +119,10 @@ negative_or_filled place s None None next = refuses not_a_table place
 -- an array.
 abbrev pub stored : ℕ → Sort → (Sort → Reading Value) → (Sort → Reading Value) → (Sort → Reading Value) → Reading Value
 stored place (array i e) old key new = do
-    a ← old (array i e)
-    k ← key i
-    v ← new e
-    gives (store i (λ _. 1) a k v)
+  a ← old (array i e)
+  k ← key i
+  v ← new e
+  gives (store i (λ _. 1) a k v)
 stored place s old key new = refuses model_sort place
 
 -- ---- the value that a form is, at the sort that is wanted
