@@ -150,7 +150,7 @@ numeral_begins n some =
     tenth : (n : ℕ) → 10 ≤ n → 0 < n / 10
     tenth n many = let whole = div-add-mod' n 10 in let below = mod-lt n {m = 10} (omega arith) in omega arith
 
-numeral_some : (n : ℕ) → 0 < length (numeral n)
+pub numeral_some : (n : ℕ) → 0 < length (numeral n)
 numeral_some n =
     by_numeral (λ n after digits. 0 < length digits) (λ n after h. omega arith) (λ n after digits many is. is) n
 

@@ -1,3 +1,4 @@
 pub mod Digits
 pub mod FormTexts
 mod Rows
+pub mod Writable
