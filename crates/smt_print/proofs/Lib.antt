@@ -2,3 +2,4 @@ pub mod Digits
 pub mod FormTexts
 mod Rows
 pub mod Writable
+pub mod WritableTerms

@@ -17,7 +17,7 @@ use Rattle.smt_print.specs.Basics.{word_form, symbol_form, numeral_form, indexed
 use Rattle.smt_print.proofs.Digits.{last_digits_length, last_digits_pass, binary_digit, hex_digit, numeral_digits, numeral_some, numeral_is_numeral}
 use Rattle.smt_print.proofs.FormTexts.{IsWritten, AreWritten}
 
-tell : (b : Bool) → (b ≡ true) ⊎ (b ≡ false)
+pub tell : (b : Bool) → (b ≡ true) ⊎ (b ≡ false)
 tell true = inl refl
 tell false = inr refl
 
@@ -29,7 +29,7 @@ and_second : (a b : Bool) → (a && b) ≡ true → b ≡ true
 and_second true b h = h
 and_second false b h = absurd (cc)
 
-all_weaker : (p q : ℕ → Bool) → ((b : ℕ) → p b ≡ true → q b ≡ true) → (bs : List ℕ) → list_all p bs ≡ true → list_all q bs ≡ true
+pub all_weaker : (p q : ℕ → Bool) → ((b : ℕ) → p b ≡ true → q b ≡ true) → (bs : List ℕ) → list_all p bs ≡ true → list_all q bs ≡ true
 all_weaker p q weaker [] all = refl
 all_weaker p q weaker (b ∷ bs) all = rw (weaker b (and_first (p b) (list_all p bs) all)) (all_weaker p q weaker bs (and_second (p b) (list_all p bs) all))
 
