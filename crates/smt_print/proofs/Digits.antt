@@ -1,5 +1,5 @@
 -- Printed numbers are read as these numbers.
-use Rattle.std.proofs.Common.{◌≡◌, ℕ, zero, suc, ◌+◌, ◌-◌, ◌*◌, ◌/◌, ◌%◌, ◌^◌, ◌<◌, ◌≤◌, nat_lt, Bool, true, false, eqb, Some, List, [], ◌∷◌, ◌++◌, length, refl, ap, sym, ◌∙◌, arith}
+use Rattle.std.proofs.Common.{◌≡◌, ℕ, zero, suc, ◌+◌, ◌-◌, ◌*◌, ◌/◌, ◌%◌, ◌^◌, ◌<◌, ◌≤◌, nat_lt, Bool, true, false, eqb, Some, List, [], ◌∷◌, ◌++◌, length, refl, ap, ◌∙◌, arith}
 use Rattle.std.specs.Prelude.{codes, nat_eq}
 use Rattle.std.specs.Char.{digit_char, digit_value, is_ascii_digit, is_ascii_hexdigit}
 use Rattle.std.specs.List.{list_all, starts_with}
@@ -126,23 +126,23 @@ numeral_value_behind n after digits many is =
 pub numeral_value : (n : ℕ) → digits_value 10 (numeral n) ≡ n
 numeral_value n =
     by_numeral (λ n after digits. digits_value_after 10 0 digits ≡ digits_value_after 10 n after)
-      (λ n after h. ap (λ d. digits_value_after 10 d after) (ap (λ d. 0 * 10 + d) (decimal_value n h) ∙ omega arith))
-      numeral_value_behind n
+    (λ n after h. ap (λ d. digits_value_after 10 d after) (ap (λ d. 0 * 10 + d) (decimal_value n h) ∙ omega arith))
+    numeral_value_behind n
 
 pub numeral_digits : (n : ℕ) → list_all is_ascii_digit (numeral n) ≡ true
 numeral_digits n =
     by_numeral (λ n after digits. list_all is_ascii_digit after ≡ true → list_all is_ascii_digit digits ≡ true)
-      (λ n after h all. rw (decimal_digit n h) all)
-      (λ n after digits many is all. is (rw (decimal_digit (n % 10) (mod-lt n (omega arith))) all))
-      n refl
+    (λ n after h all. rw (decimal_digit n h) all)
+    (λ n after digits many is all. is (rw (decimal_digit (n % 10) (mod-lt n (omega arith))) all))
+    n refl
 
 -- no zero stands first but in `0`
 numeral_begins : (n : ℕ) → 0 < n → starts_with nat_eq (numeral n) (codes "0") ≡ false
 numeral_begins n some =
     by_numeral (λ n after digits. 0 < n → starts_with nat_eq digits (codes "0") ≡ false)
-      (λ n after h some. rw (other_digit n some) refl)
-      (λ n after digits many is some. is (tenth n many))
-      n some
+    (λ n after h some. rw (other_digit n some) refl)
+    (λ n after digits many is some. is (tenth n many))
+    n some
   where
     other_digit : (n : ℕ) → 0 < n → nat_eq 48 (48 + n) ≡ false
     other_digit n some = ne_eqb 48 (48 + n) (λ same. omega (arith, same))

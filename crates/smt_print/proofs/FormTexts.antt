@@ -1,10 +1,10 @@
 -- The text of a form whose tokens are tokens is read as this form, with the places that it has in the text.
-use Rattle.std.proofs.Common.{◌≡◌, ℕ, zero, suc, ◌+◌, Bool, true, false, List, [], ◌∷◌, ◌++◌, length, Ok, refl, ap, sym, ◌∙◌, subst, arith, append_assoc, append-nil}
+use Rattle.std.proofs.Common.{◌≡◌, ℕ, zero, suc, ◌+◌, List, [], ◌∷◌, ◌++◌, length, Ok, refl, ap, sym, ◌∙◌, arith, append_assoc, append-nil}
 use Rattle.std.specs.Prelude.{Result}
 use Rattle.std.proofs.lemmas.Bool.{ne_eqb}
 use Rattle.smt_lex.specs.declared.items.Item.{Item}
-use Rattle.smt_lex.specs.declared.items.Item.TheVariants.{Left, Right, Numeral, Decimal, Hex, Bin, Text, Word, Quoted, Keyword}
-use Rattle.smt_lex.specs.Lexicon.{left_parenthesis, right_parenthesis, space}
+use Rattle.smt_lex.specs.declared.items.Item.TheVariants.{Left, Right}
+use Rattle.smt_lex.specs.Lexicon.{left_parenthesis, right_parenthesis}
 use Rattle.smt_lex.specs.Lex.{Token, Fault, Lexed, ended, next, lex_from, lex}
 use Rattle.smt_lex.specs.Forms.{Form, atom, node, Forms, none, ◌⨾◌, with_token, balanced, before, rest, as_forms, forms}
 use Rattle.smt_lex.proofs.Joining.{Stops, IsLexeme, lex_lexeme_before}
@@ -151,7 +151,7 @@ mutual
       let closed : balanced (suc depth) (next right ts) ≡ Ok (right ∷ us) = right_balanced (end_in (suc p) fs) depth ts ∙ with_ok right (balanced depth ts) us behind in
       left_balanced p depth (lexed_in (suc p) fs (next right ts))
       ∙ with_ok (left_at p) (balanced (suc depth) (lexed_in (suc p) fs (next right ts))) (listed_in (suc p) fs (right ∷ us))
-        (forms_balanced fs (suc p) (suc depth) (next right ts) (right ∷ us) are closed)
+      (forms_balanced fs (suc p) (suc depth) (next right ts) (right ∷ us) are closed)
 
   forms_balanced : (fs : Forms) (p depth : ℕ) (ts : Lexed) (us : List Token) → AreWritten fs → balanced depth ts ≡ Ok us
       → balanced depth (lexed_in p fs ts) ≡ Ok (listed_in p fs us)
@@ -164,7 +164,7 @@ mutual
   behind_balanced none p depth ts us are behind = behind
   behind_balanced (f ⨾ fs) p depth ts us are behind =
       form_balanced f (suc p) depth (lexed_behind (end_of (suc p) f) fs ts) (listed_behind (end_of (suc p) f) fs us) are.0
-        (behind_balanced fs (end_of (suc p) f) depth ts us are.1 behind)
+      (behind_balanced fs (end_of (suc p) f) depth ts us are.1 behind)
 
 -- ---- from tokens to forms
 
@@ -199,6 +199,6 @@ mutual
 pub forms_of_text : (f : Form) → IsWritten f → forms (form_text f) ≡ Ok (placed 0 f ⨾ none)
 forms_of_text f is =
     let tokens : lex (form_text f) ≡ lexed_form 0 f (ended (end_of 0 f)) =
-        ap (lex_from 0 0) (sym (append-nil (form_text f))) ∙ lex_form f 0 [] is refl in
+    ap (lex_from 0 0) (sym (append-nil (form_text f))) ∙ lex_form f 0 [] is refl in
     let matched : balanced 0 (lex (form_text f)) ≡ Ok (listed 0 f []) = ap (balanced 0) tokens ∙ form_balanced f 0 0 (ended (end_of 0 f)) [] is refl in
     ap as_forms matched ∙ ap (λ r. Ok r.0) (form_rest f 0 [] is)

@@ -1,19 +1,18 @@
 -- Printed terms are forms that can be written: each of their tokens is one.
-use Rattle.std.proofs.Common.{◌≡◌, ℕ, zero, suc, ◌+◌, ◌-◌, ◌*◌, ◌/◌, ◌%◌, ◌<◌, ◌≤◌, ◌⊎◌, inl, inr, Bool, true, false, eqb, not, Some, List, [], ◌∷◌, ◌++◌, length, map, refl, ap, sym, ◌∙◌, subst, arith}
-use Rattle.std.specs.Prelude.{◌&&◌, ◌||◌, codes, ℤ, pos, int_lt, unsigned_abs}
+use Rattle.std.proofs.Common.{◌≡◌, ℕ, zero, suc, ◌/◌, ◌%◌, ◌<◌, ◌⊎◌, inl, inr, Bool, true, false, eqb, not, Some, List, [], ◌∷◌, ◌++◌, length, map, refl, arith}
+use Rattle.std.specs.Prelude.{◌&&◌, codes, ℤ, pos, int_lt, unsigned_abs}
 use Rattle.std.specs.Char.{digit_char, is_ascii_digit, is_ascii_hexdigit}
 use Rattle.std.specs.List.{list_all}
 use Rattle.std.proofs.lemmas.Bool.{ne_eqb, eqb-true}
 use Rattle.std.proofs.lemmas.Nat.{div-add-mod'}
-use Rattle.std.proofs.Math.Nat.{mod-lt}
-use Rattle.smt_lex.specs.declared.items.Item.TheVariants.{Numeral, Hex, Bin, Word}
-use Rattle.smt_lex.specs.Lexicon.{is_symbol_byte, is_run_byte, is_binary_digit, is_word, is_numeral, run_item}
-use Rattle.smt_lex.specs.Names.{Name, IsName, is_simple, is_reserved, is_syntax_word, is_command_word}
+use Rattle.smt_lex.specs.declared.items.Item.TheVariants.{Numeral, Hex, Bin}
+use Rattle.smt_lex.specs.Lexicon.{is_run_byte, is_binary_digit, is_word, is_numeral, run_item}
+use Rattle.smt_lex.specs.Names.{Name, IsName, is_simple, is_reserved}
 use Rattle.smt_lex.specs.Forms.{Form, forms_of_list}
-use Rattle.smt_lex.proofs.Joining.{IsLexeme, word_lexeme, run_lexeme, quoted_lexeme}
+use Rattle.smt_lex.proofs.Joining.{word_lexeme, run_lexeme, quoted_lexeme}
 use Rattle.smt_terms.specs.Numeral.{numeral}
 use Rattle.smt_terms.specs.Sorts.{Sort, bool, int, bit_vector, array, free_sort, Variable}
-use Rattle.smt_print.specs.Basics.{word_form, symbol_form, numeral_form, indexed_form, truth_form, integer_form, last_digits, vector_form, sort_form, constant_array_form, variable_form, list_form}
+use Rattle.smt_print.specs.Basics.{word_form, symbol_form, numeral_form, indexed_form, truth_form, integer_form, last_digits, vector_form, sort_form, constant_array_form, variable_form}
 use Rattle.smt_print.proofs.Digits.{last_digits_length, last_digits_pass, binary_digit, hex_digit, numeral_digits, numeral_some, numeral_is_numeral}
 use Rattle.smt_print.proofs.FormTexts.{IsWritten, AreWritten}
 
@@ -60,9 +59,11 @@ digits_item (b ∷ bs) some all is =
     rw (no_word, is) refl
 
 pub numeral_written : (n : ℕ) → IsWritten (numeral_form n)
-numeral_written n =
-    (tt, run_lexeme (numeral n) Numeral (numeral_some n) (all_weaker is_ascii_digit is_run_byte digit_in_run (numeral n) (numeral_digits n))
-      (digits_item (numeral n) (numeral_some n) (numeral_digits n) (numeral_is_numeral n)))
+numeral_written n = (
+  tt,
+  run_lexeme (numeral n) Numeral (numeral_some n) (all_weaker is_ascii_digit is_run_byte digit_in_run (numeral n) (numeral_digits n))
+      (digits_item (numeral n) (numeral_some n) (numeral_digits n) (numeral_is_numeral n)),
+)
 
 pub integer_written : (n : ℤ) → IsWritten (integer_form n)
 integer_written n = elim (tell (int_lt n (pos 0))) [
@@ -113,14 +114,14 @@ vector_written width n some = elim (tell (eqb (width % 4) 0)) [
       rw four (
         tt,
         run_lexeme (codes "#x" ++ digits) Hex (omega arith) (last_digits_pass is_run_byte 16 (width / 4) n [] (omega arith) hex_in_run refl)
-          (hex_item digits (some_digits 16 (width / 4) n more) (last_digits_pass is_ascii_hexdigit 16 (width / 4) n [] (omega arith) hex_digit refl)),
+            (hex_item digits (some_digits 16 (width / 4) n more) (last_digits_pass is_ascii_hexdigit 16 (width / 4) n [] (omega arith) hex_digit refl)),
       )
   | inr other ↦
       let digits = last_digits 2 width n [] in
       rw other (
         tt,
         run_lexeme (codes "#b" ++ digits) Bin (omega arith) (last_digits_pass is_run_byte 2 width n [] (omega arith) binary_in_run refl)
-          (binary_item digits (some_digits 2 width n some) (last_digits_pass is_binary_digit 2 width n [] (omega arith) binary_digit refl)),
+            (binary_item digits (some_digits 2 width n some) (last_digits_pass is_binary_digit 2 width n [] (omega arith) binary_digit refl)),
       )
 ]
 

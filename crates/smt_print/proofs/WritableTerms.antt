@@ -1,8 +1,7 @@
 -- Printed terms are forms that can be written, in both layouts.
-use Rattle.std.proofs.Common.{◌≡◌, ℕ, suc, ◌<◌, inl, inr, ◌⊎◌, Bool, true, false, not, List, [], ◌∷◌, ◌++◌, length, map, refl, ap, arith}
+use Rattle.std.proofs.Common.{◌≡◌, ℕ, ◌<◌, inl, inr, true, not, List, [], ◌∷◌, length, map, refl, ap, arith}
 use Rattle.std.specs.Prelude.{codes}
 use Rattle.std.specs.Char.{is_ascii_digit}
-use Rattle.std.specs.List.{list_all}
 use Rattle.std.proofs.lemmas.Bool.{ne_eqb}
 use Rattle.smt_lex.specs.Lexicon.{is_symbol_byte, is_word}
 use Rattle.smt_lex.specs.Forms.{Form, forms_of_list}
@@ -168,13 +167,13 @@ in_application : (h : Head) (ts : Terms) (ds : List Definition) → IsWritableHe
 in_application h none ds is are defined = defined
 in_application h (t ⨾ ts) ds is are defined =
     definition_written (apply h (t ⨾ ts)) (application_form (head_form h) (references ds (t ⨾ ts))) ds
-      (application_written (head_form h) (references ds (t ⨾ ts)) (head_written h is) (references_written ds (t ⨾ ts) are)) defined
+    (application_written (head_form h) (references ds (t ⨾ ts)) (head_written h is) (references_written ds (t ⨾ ts) are)) defined
 
 lets_written : (ds : List Definition) (f : Form) → AreDefined ds → IsWritten f → IsWritten (below_lets ds f)
 lets_written [] f are is = is
 lets_written (d ∷ ds) f are is =
     lets_written ds (let_form (definition_name (length ds)) d.form f) are.1
-      (word_written (codes "let") refl, (((word_written (definition_name (length ds)) (name_is_word (length ds)), (are.0, tt)), tt), (is, tt)))
+    (word_written (codes "let") refl, (((word_written (definition_name (length ds)) (name_is_word (length ds)), (are.0, tt)), tt), (is, tt)))
 
 defined_written : (ds : List Definition) (t : Term) → AreDefined ds → IsWritable t → IsWritten (defined_form ds t)
 defined_written ds t are is = lets_written ds (reference ds t) are (reference_written ds t is)
@@ -184,7 +183,7 @@ mutual
   definitions_written (apply h ts) ds is are = in_application h ts (definitions_in ts ds) is.0 is.1 (each_defined ts ds is.1 are)
   definitions_written (quantified q xs t) ds is are =
       definition_written (quantified q xs t) (quantified_form q xs (defined_form (definitions t []) t)) ds
-        (quantified_written q xs (defined_form (definitions t []) t) is.0 (defined_written (definitions t []) t (definitions_written t [] is.1 tt) is.1)) are
+      (quantified_written q xs (defined_form (definitions t []) t) is.0 (defined_written (definitions t []) t (definitions_written t [] is.1 tt) is.1)) are
 
   each_defined : (ts : Terms) (ds : List Definition) → AreWritable ts → AreDefined ds → AreDefined (definitions_in ts ds)
   each_defined none ds are defined = defined
