@@ -1,0 +1,3 @@
+//! Lists of passes.
+
+#![tactic(auto)]
