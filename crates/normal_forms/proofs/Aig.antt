@@ -1,19 +1,18 @@
 -- And-inverter form says what the formula says.
-use Rattle.std.proofs.Common.{◌≡◌, ℕ, zero, suc, ◌+◌, ◌<◌, ◌≤◌, Bool, true, false, not, cond, ◌&&◌, ◌||◌, List, [], ◌∷◌, map, length, replicate, Option, Some, None, refl, ap, sym, ◌∙◌, subst, arith}
-use Rattle.std.specs.Prelude.{⊤}
+use Rattle.std.proofs.Common.{◌≡◌, ℕ, Bool, true, false, not, cond, ◌&&◌, ◌||◌, List, [], ◌∷◌, map, length, Some, refl, ap, sym, ◌∙◌, arith}
 use Rattle.std.specs.Bool.{beq}
-use Rattle.smt_terms.specs.Sorts.{Sort, bool, Variable}
+use Rattle.smt_terms.specs.Sorts.{bool, Variable}
 use Rattle.smt_terms.specs.Term.{Quantifier, Head, Term, apply, quantified, Terms, none, ◌⨾◌, list}
-use Rattle.smt_terms.specs.Rank.{sort_of, sorts_of}
-use Rattle.smt_terms.specs.Values.{truth, is_true}
+use Rattle.smt_terms.specs.Rank.{sort_of}
+use Rattle.smt_terms.specs.Values.{is_true}
 use Rattle.smt_terms.specs.Models.{Model}
-use Rattle.smt_terms.specs.Val.{Env, runs, val, vals}
+use Rattle.smt_terms.specs.Val.{Env, runs, vals}
 use Rattle.smt_terms.specs.Connectives.{Kind, truth_value, negation, conjunction, disjunction, exclusive, implication, equivalence, difference, conditional, atom, kind_of, truth_term, all_of, both, opposite}
-use Rattle.smt_terms.proofs.Sorted.{sorted, quantified_sort, sort_of-quantified, length-sorts_of}
+use Rattle.smt_terms.proofs.Sorted.{quantified_sort, sort_of-quantified}
 use Rattle.smt_terms.proofs.Connected.{is_logical, Count, Connected, connected, connective-value, kind_value, all_bits, any_bit}
 use Rattle.smt_terms.proofs.BoolOperands.{IfBool, Each, each-bool, operand-number, map-same}
-use Rattle.smt_terms.proofs.Built.{Sense, sense, Means, means-same, means-itself, means-truth, means-both, means-opposite, MeanEach, means-all}
-use Rattle.normal_forms.specs.Aig.{same_sides, aig_distinct, inverted, aig, aig_each}
+use Rattle.smt_terms.proofs.Built.{sense, Means, means-same, means-itself, means-truth, means-both, means-opposite, MeanEach, means-all}
+use Rattle.normal_forms.specs.Aig.{same_sides, inverted, aig, aig_each}
 
 abbrev Form : Term → Type 0
 Form t = Means (aig t) (sense t)
@@ -62,8 +61,8 @@ same-means : (t u : Term) → Known (t ⨾ u ⨾ none) → Means (same_sides (ai
 same-means t u known =
     means-same (same_sides (aig_each (t ⨾ u ⨾ none))) _ _ (λ m e. same-bits (sense t m e) (sense u m e))
     (means-both (opposite (both (aig t) (opposite (aig u)))) (opposite (both (opposite (aig t)) (aig u))) _ _
-        (means-opposite (both (aig t) (opposite (aig u))) _ (means-both (aig t) (opposite (aig u)) _ _ known.0 (means-opposite (aig u) _ known.1.0)))
-        (means-opposite (both (opposite (aig t)) (aig u)) _ (means-both (opposite (aig t)) (aig u) _ _ (means-opposite (aig t) _ known.0) known.1.0)))
+    (means-opposite (both (aig t) (opposite (aig u))) _ (means-both (aig t) (opposite (aig u)) _ _ known.0 (means-opposite (aig u) _ known.1.0)))
+    (means-opposite (both (opposite (aig t)) (aig u)) _ (means-both (opposite (aig t)) (aig u) _ _ (means-opposite (aig t) _ known.0) known.1.0)))
 
 differ-means : (t u : Term) → Known (t ⨾ u ⨾ none) → Means (opposite (same_sides (aig_each (t ⨾ u ⨾ none)))) (λ m e. not (beq (sense t m e) (sense u m e)))
 differ-means t u known = means-opposite (same_sides (aig_each (t ⨾ u ⨾ none))) _ (same-means t u known)
@@ -123,8 +122,8 @@ unfolding Said
 ite-line x (c ⨾ t ⨾ u ⨾ none) n len count has said known =
     means-same (both (opposite (both (aig c) (opposite (aig t)))) (opposite (both (opposite (aig c)) (opposite (aig u))))) _ _ (λ m e. choice-bits (sense c m e) (sense t m e) (sense u m e) ∙ sym (said m e))
     (means-both (opposite (both (aig c) (opposite (aig t)))) (opposite (both (opposite (aig c)) (opposite (aig u)))) _ _
-        (means-opposite (both (aig c) (opposite (aig t))) _ (means-both (aig c) (opposite (aig t)) _ _ known.0 (means-opposite (aig t) _ known.1.0)))
-        (means-opposite (both (opposite (aig c)) (opposite (aig u))) _ (means-both (opposite (aig c)) (opposite (aig u)) _ _ (means-opposite (aig c) _ known.0) (means-opposite (aig u) _ known.1.1.0))))
+    (means-opposite (both (aig c) (opposite (aig t))) _ (means-both (aig c) (opposite (aig t)) _ _ known.0 (means-opposite (aig t) _ known.1.0)))
+    (means-opposite (both (opposite (aig c)) (opposite (aig u))) _ (means-both (opposite (aig c)) (opposite (aig u)) _ _ (means-opposite (aig c) _ known.0) (means-opposite (aig u) _ known.1.1.0))))
 ite-line x none n len count has said known = absurd (omega arith)
 ite-line x (c ⨾ none) n len count has said known = absurd (omega arith)
 ite-line x (c ⨾ t ⨾ none) n len count has said known = absurd (omega arith)
@@ -159,7 +158,7 @@ by_kind h ts has waiting false other = atom_kind (kind_of h ts) other
 quantified-form : (q : Quantifier) (xs : List Variable) (body : Term) → sort_of (quantified q xs body) ≡ Some bool → Form body → Form (quantified q xs body)
 quantified-form q xs body has form = record {
   sort = sort_of-quantified q xs (aig body) (quantified_sort q xs body bool has).bindable form.sort;
-  value = λ m e. ap (λ (A : Env → Bool). runs q xs m.sizes A e) (λ i d. form.value m d i)
+  value = λ m e. ap (λ (A : Env → Bool). runs q xs m.sizes A e) (λ i d. form.value m d i);
 }
 
 mutual

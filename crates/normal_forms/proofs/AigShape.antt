@@ -1,11 +1,15 @@
 -- And-inverter form has its shape: `and` and `not` alone, and no `not` over a `not`.
 use Rattle.std.proofs.Common.{◌≡◌, ℕ, zero, suc, Bool, true, false, not, ◌&&◌, List, [], ◌∷◌, map, refl, ap, sym, ◌∙◌, subst}
 use Rattle.std.specs.Prelude.{⊤}
-use Rattle.smt_terms.specs.declared.op.Op.TheVariants.{Not}
-use Rattle.smt_terms.specs.Term.{Quantifier, Head, op, Term, apply, quantified, Terms, none, ◌⨾◌, list, terms}
+use Rattle.std.specs.List.{list_all}
+use Rattle.smt_terms.specs.declared.op.Op.TheVariants.{Truth, And, Not}
+use Rattle.smt_terms.specs.Rank.{is_sort, has_sorts, is_minus, is_minus_of, is_regular, are_regular}
+use Rattle.smt_terms.specs.Term.{Head, op, Term, apply, quantified, Terms, none, ◌⨾◌, list, terms}
 use Rattle.smt_terms.specs.Connectives.{Kind, truth_value, negation, conjunction, disjunction, exclusive, implication, equivalence, difference, conditional, atom, operator_kind, kind_of, truth_term, negated, all_of, both, opposite, nth}
 use Rattle.smt_terms.specs.Shapes.{is_negation_kind, is_negation, aig_node, is_aig, are_aig}
 use Rattle.smt_terms.proofs.Tests.{both_true, and_true, not_true}
+use Rattle.normal_forms.proofs.Inherited.{All, nth-inherits}
+use Rattle.normal_forms.proofs.NnfShape.{regular-over}
 use Rattle.normal_forms.specs.Aig.{same_sides, aig_distinct, inverted, aig, aig_each}
 
 -- of the shape; and a `not` has one operand
@@ -51,7 +55,7 @@ negated-form : (t : Term) → InForm t → is_negation t ≡ false → InForm (n
 unfolding operator_kind
 negated-form t a other = record {
   form = and_true (not (is_negation t)) (is_aig t && true) (ap not other) (and_true (is_aig t) true a.form refl);
-  single = λ e. (t, refl)
+  single = λ e. (t, refl);
 }
 
 opposite-other : (t : Term) → is_negation t ≡ false → opposite t ≡ negated t
@@ -114,3 +118,85 @@ mutual
 
 pub aig-form : (t : Term) → is_aig (aig t) ≡ true
 aig-form t = (in-form t).form
+
+-- ---- regular terms
+
+abbrev Regular : Term → Type 0
+Regular t = is_regular t ≡ true
+
+all-regular : (ts : List Term) → All Regular ts → are_regular (terms ts) ≡ true
+all-regular [] all = refl
+all-regular (t ∷ ts) all = and_true (is_regular t) (are_regular (terms ts)) all.0 (all-regular ts all.1)
+
+truth-regular : (b : Bool) → Regular (truth_term b)
+unfolding is_minus
+truth-regular b = regular-over (Truth b) none refl refl
+
+and-regular : (ts : List Term) → All Regular ts → Regular (all_of ts)
+unfolding is_minus
+and-regular ts all = regular-over And (terms ts) refl (all-regular ts all)
+
+both-regular : (s t : Term) → Regular s → Regular t → Regular (both s t)
+both-regular s t a b = and-regular (s ∷ t ∷ []) (a, (b, tt))
+
+negated-regular : (t : Term) → Regular t → Regular (negated t)
+unfolding is_minus
+negated-regular t a = regular-over Not (t ⨾ none) refl (all-regular (t ∷ []) (a, tt))
+
+below-regular : (t : Term) → Regular (negated t) → Regular t
+below-regular t a = (both_true (is_regular t) true (both_true (not (is_minus_of (op Not) (t ⨾ none))) (is_regular t && true) a).1).0
+
+opposite-added : (t : Term) → Regular t → opposite t ≡ negated t → Regular (opposite t)
+opposite-added t a e = ap is_regular e ∙ negated-regular t a
+
+opposite-regular : (t : Term) → Regular t → Regular (opposite t)
+opposite-regular (apply (op Not) (t ⨾ none)) a = below-regular t a
+opposite-regular t a = opposite-added t a refl
+
+opposites-regular : (ts : List Term) → All Regular ts → All Regular (map opposite ts)
+opposites-regular [] all = tt
+opposites-regular (t ∷ ts) all = (opposite-regular t all.0, opposites-regular ts all.1)
+
+place : (ts : List Term) (i : ℕ) → All Regular ts → Regular (nth ts i)
+place = nth-inherits Regular (truth-regular false)
+
+sides-regular : (rs : List Term) → All Regular rs → Regular (same_sides rs)
+sides-regular rs a =
+    both-regular (opposite (both (nth rs 0) (opposite (nth rs 1)))) (opposite (both (opposite (nth rs 0)) (nth rs 1)))
+    (opposite-regular (both (nth rs 0) (opposite (nth rs 1))) (both-regular (nth rs 0) (opposite (nth rs 1)) (place rs 0 a) (opposite-regular (nth rs 1) (place rs 1 a))))
+    (opposite-regular (both (opposite (nth rs 0)) (nth rs 1)) (both-regular (opposite (nth rs 0)) (nth rs 1) (opposite-regular (nth rs 0) (place rs 0 a)) (place rs 1 a)))
+
+distinct-regular : (rs : List Term) → All Regular rs → Regular (aig_distinct rs)
+distinct-regular [] a = opposite-regular (same_sides []) (sides-regular [] a)
+distinct-regular (r ∷ []) a = opposite-regular (same_sides (r ∷ [])) (sides-regular (r ∷ []) a)
+distinct-regular (r ∷ s ∷ []) a = opposite-regular (same_sides (r ∷ s ∷ [])) (sides-regular (r ∷ s ∷ []) a)
+distinct-regular (r ∷ s ∷ t ∷ rs) a = truth-regular false
+
+regular-of : (x : Term) (rs : List Term) → Regular x → All Regular rs → (k : Kind) → Regular (inverted k x rs)
+regular-of x rs given a (truth_value b) = given
+regular-of x rs given a atom = given
+regular-of x rs given a negation = opposite-regular (nth rs 0) (place rs 0 a)
+regular-of x rs given a conjunction = and-regular rs a
+regular-of x rs given a disjunction = opposite-regular (all_of (map opposite rs)) (and-regular (map opposite rs) (opposites-regular rs a))
+regular-of x rs given a implication = opposite-regular (both (nth rs 0) (opposite (nth rs 1))) (both-regular (nth rs 0) (opposite (nth rs 1)) (place rs 0 a) (opposite-regular (nth rs 1) (place rs 1 a)))
+regular-of x rs given a exclusive = opposite-regular (same_sides rs) (sides-regular rs a)
+regular-of x rs given a equivalence = sides-regular rs a
+regular-of x rs given a difference = distinct-regular rs a
+regular-of x rs given a conditional =
+    both-regular (opposite (both (nth rs 0) (opposite (nth rs 1)))) (opposite (both (opposite (nth rs 0)) (opposite (nth rs 2))))
+    (opposite-regular (both (nth rs 0) (opposite (nth rs 1))) (both-regular (nth rs 0) (opposite (nth rs 1)) (place rs 0 a) (opposite-regular (nth rs 1) (place rs 1 a))))
+    (opposite-regular (both (opposite (nth rs 0)) (opposite (nth rs 2))) (both-regular (opposite (nth rs 0)) (opposite (nth rs 2)) (opposite-regular (nth rs 0) (place rs 0 a)) (opposite-regular (nth rs 2) (place rs 2 a))))
+
+mutual
+  pub aig-regular : (t : Term) → is_regular t ≡ true → is_regular (aig t) ≡ true
+  aig-regular (apply h ts) given =
+      regular-of (apply h ts) (aig_each ts) given (aigs-regular ts (both_true (not (is_minus_of h ts)) (are_regular ts) (both_true (has_sorts h) (not (is_minus_of h ts) && are_regular ts) given).1).1) (kind_of h ts)
+  aig-regular (quantified q xs body) given =
+      let parts = both_true (list_all (λ x. is_sort x.sort) xs) (is_regular body) given in
+      and_true (list_all (λ x. is_sort x.sort) xs) (is_regular (aig body)) parts.0 (aig-regular body parts.1)
+
+  aigs-regular : (ts : Terms) → are_regular ts ≡ true → All Regular (aig_each ts)
+  aigs-regular none given = tt
+  aigs-regular (t ⨾ ts) given =
+      let parts = both_true (is_regular t) (are_regular ts) given in
+      (aig-regular t parts.0, aigs-regular ts parts.1)

@@ -1,21 +1,21 @@
 -- A truth value for a variable: sorts stay, and the term has the value that it has where the variable is that truth value.
-use Rattle.std.proofs.Common.{◌≡◌, Bool, true, false, not, cond, ◌&&◌, ◌||◌, ◌⊎◌, inl, inr, List, [], ◌∷◌, map, Option, Some, None, refl, ap, sym, ◌∙◌}
+use Rattle.std.proofs.Common.{◌≡◌, Bool, true, false, not, cond, ◌||◌, List, [], ◌∷◌, map, Some, refl, ap, sym, ◌∙◌}
 use Rattle.std.specs.Prelude.{unwrap_or}
-use Rattle.smt_terms.specs.Sorts.{Sort, bool, Symbol, Variable}
+use Rattle.smt_terms.specs.Sorts.{bool, Symbol, Variable}
 use Rattle.smt_terms.specs.Term.{Quantifier, Head, op, symbol, const_array, Term, apply, quantified, Terms, none, ◌⨾◌, constant_of, constant}
 use Rattle.smt_terms.specs.Equal.{symbol_eq}
-use Rattle.smt_terms.specs.Free.{is_among, without, free}
+use Rattle.smt_terms.specs.Free.{is_among, free}
 use Rattle.smt_terms.specs.Rank.{rank, are_bindable, sort_over, sort_bound, with_sort, sort_of, sorts_of}
 use Rattle.smt_terms.specs.Values.{Value, Sizes, truth, is_true, over_values}
 use Rattle.smt_terms.specs.Operators.{op_value}
 use Rattle.smt_terms.specs.Models.{Model, symbol_value}
 use Rattle.smt_terms.specs.Val.{Env, assign, runs, head_value, val, vals}
 use Rattle.smt_terms.specs.Connectives.{truth_term}
-use Rattle.smt_terms.proofs.Tests.{both_true, left_true, right_true}
+use Rattle.smt_terms.proofs.Tests.{both_true}
 use Rattle.smt_terms.proofs.Equal.{Decides-symbol_eq}
 use Rattle.smt_terms.proofs.Among.{is_among-without}
-use Rattle.smt_terms.proofs.Agree.{SameAt, val_same}
-use Rattle.normal_forms.specs.Quantifiers.{truth_at, at_head, unless_bound, at_truth, at_truth_each}
+use Rattle.smt_terms.proofs.Agree.{val_same}
+use Rattle.normal_forms.specs.Quantifiers.{at_head, unless_bound, at_truth, at_truth_each}
 
 -- ---- two variables at once
 

@@ -2,7 +2,11 @@ pub mod Aig
 pub mod AigShape
 mod AtTruth
 mod Duals
+mod Inherited
+mod Keeps
 pub mod Nnf
 pub mod NnfShape
+mod NoBool
 mod Rows
 pub mod Shannon
+pub mod ShannonRegular

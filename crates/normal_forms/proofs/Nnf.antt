@@ -1,21 +1,20 @@
 -- The positive form of a formula says what the formula says, and the negative form says the contrary.
-use Rattle.std.proofs.Common.{◌≡◌, ℕ, zero, suc, ◌+◌, ◌<◌, ◌≤◌, Bool, true, false, not, cond, ◌&&◌, ◌||◌, List, [], ◌∷◌, map, length, replicate, Option, Some, None, refl, ap, sym, ◌∙◌, subst, arith}
-use Rattle.std.specs.Prelude.{⊤}
+use Rattle.std.proofs.Common.{◌≡◌, ℕ, ◌≤◌, Bool, true, false, not, cond, ◌&&◌, ◌||◌, List, [], ◌∷◌, map, length, Some, refl, ap, sym, ◌∙◌, arith}
 use Rattle.std.specs.Bool.{beq}
 use Rattle.std.specs.List.{list_all}
-use Rattle.smt_terms.specs.Sorts.{Sort, bool, Variable}
+use Rattle.smt_terms.specs.Sorts.{bool, Variable}
 use Rattle.smt_terms.specs.Term.{Quantifier, Head, Term, apply, quantified, Terms, none, ◌⨾◌, list}
-use Rattle.smt_terms.specs.Rank.{sort_of, sorts_of, are_distinct, are_bindable, is_quantifiable}
-use Rattle.smt_terms.specs.Values.{truth, is_true}
+use Rattle.smt_terms.specs.Rank.{sort_of, are_distinct, are_bindable, is_quantifiable}
+use Rattle.smt_terms.specs.Values.{is_true}
 use Rattle.smt_terms.specs.Models.{Model}
 use Rattle.smt_terms.specs.Val.{Env, runs, val, vals}
-use Rattle.smt_terms.specs.Connectives.{Kind, truth_value, negation, conjunction, disjunction, exclusive, implication, equivalence, difference, conditional, atom, kind_of, truth_term, negated, all_of, any_of, both, either, nth}
+use Rattle.smt_terms.specs.Connectives.{Kind, truth_value, negation, conjunction, disjunction, exclusive, implication, equivalence, difference, conditional, atom, kind_of, truth_term, all_of, any_of, both, either}
 use Rattle.smt_terms.proofs.Tests.{both_true}
-use Rattle.smt_terms.proofs.Sorted.{sorted, quantified_sort, sort_of-quantified, length-sorts_of}
-use Rattle.smt_terms.proofs.Connected.{is_logical, Count, Connected, connected, connective-value, kind_value, bit, all_bits, any_bit, distinct_bits}
+use Rattle.smt_terms.proofs.Sorted.{quantified_sort, sort_of-quantified}
+use Rattle.smt_terms.proofs.Connected.{is_logical, Count, Connected, connected, connective-value, kind_value, all_bits, any_bit}
 use Rattle.smt_terms.proofs.BoolOperands.{IfBool, Each, each-bool, operand-number, map-same}
-use Rattle.smt_terms.proofs.Built.{Sense, sense, Means, means-same, means-itself, means-truth, means-negated, means-both, means-either, MeanEach, means-all, means-any}
-use Rattle.normal_forms.specs.Nnf.{differ, agree, positive_distinct, negative_distinct, positive, negative, dual, nnf, nnf_not, nnf_each, nnf_not_each}
+use Rattle.smt_terms.proofs.Built.{sense, Means, means-same, means-itself, means-truth, means-negated, means-both, means-either, MeanEach, means-all, means-any}
+use Rattle.normal_forms.specs.Nnf.{differ, agree, positive, negative, dual, nnf, nnf_not, nnf_each, nnf_not_each}
 use Rattle.normal_forms.proofs.Duals.{runs-dual}
 
 -- what is to be shown of a formula
@@ -110,14 +109,14 @@ truth-line : (b : Bool) → Line (truth_value b)
 unfolding Said
 truth-line b x ts n len count has said known = record {
   yes = means-itself x has;
-  no = means-same (truth_term (not b)) _ _ (λ m e. ap not (sym (said m e))) (means-truth (not b))
+  no = means-same (truth_term (not b)) _ _ (λ m e. ap not (sym (said m e))) (means-truth (not b));
 }
 
 not-line : Line negation
 unfolding Said
 not-line x (t ⨾ none) n len count has said known = record {
   yes = means-same (nnf_not t) _ _ (λ m e. sym (said m e)) known.0.no;
-  no = means-same (nnf t) _ _ (λ m e. not_not (sense t m e) ∙ ap not (sym (said m e))) known.0.yes
+  no = means-same (nnf t) _ _ (λ m e. not_not (sense t m e) ∙ ap not (sym (said m e))) known.0.yes;
 }
 not-line x none n len count has said known = absurd (omega arith)
 not-line x (t ⨾ u ⨾ ts) n len count has said known = absurd (omega arith)
@@ -128,7 +127,7 @@ and-line x ts n len count has said known =
     let many : 2 ≤ length (list ts) = omega arith in
     record {
       yes = means-same (all_of (nnf_each ts)) _ _ (λ m e. ap all_bits (map-same (map is_true (vals m ts e))) ∙ sym (said m e)) (means-all (λ b. b) ts (nnf_each ts) many (positive-each ts known));
-      no = means-same (any_of (nnf_not_each ts)) _ _ (λ m e. not-all (map is_true (vals m ts e)) ∙ ap not (sym (said m e))) (means-any not ts (nnf_not_each ts) many (negative-each ts known))
+      no = means-same (any_of (nnf_not_each ts)) _ _ (λ m e. not-all (map is_true (vals m ts e)) ∙ ap not (sym (said m e))) (means-any not ts (nnf_not_each ts) many (negative-each ts known));
     }
 
 or-line : Line disjunction
@@ -137,14 +136,14 @@ or-line x ts n len count has said known =
     let many : 2 ≤ length (list ts) = omega arith in
     record {
       yes = means-same (any_of (nnf_each ts)) _ _ (λ m e. ap any_bit (map-same (map is_true (vals m ts e))) ∙ sym (said m e)) (means-any (λ b. b) ts (nnf_each ts) many (positive-each ts known));
-      no = means-same (all_of (nnf_not_each ts)) _ _ (λ m e. not-any (map is_true (vals m ts e)) ∙ ap not (sym (said m e))) (means-all not ts (nnf_not_each ts) many (negative-each ts known))
+      no = means-same (all_of (nnf_not_each ts)) _ _ (λ m e. not-any (map is_true (vals m ts e)) ∙ ap not (sym (said m e))) (means-all not ts (nnf_not_each ts) many (negative-each ts known));
     }
 
 xor-line : Line exclusive
 unfolding Said
 xor-line x (t ⨾ u ⨾ none) n len count has said known = record {
   yes = means-same (differ (nnf_each (t ⨾ u ⨾ none)) (nnf_not_each (t ⨾ u ⨾ none))) _ _ (λ m e. sym (said m e)) (differ-means t u known);
-  no = means-same (agree (nnf_each (t ⨾ u ⨾ none)) (nnf_not_each (t ⨾ u ⨾ none))) _ _ (λ m e. not_not (beq (sense t m e) (sense u m e)) ∙ ap not (sym (said m e))) (agree-means t u known)
+  no = means-same (agree (nnf_each (t ⨾ u ⨾ none)) (nnf_not_each (t ⨾ u ⨾ none))) _ _ (λ m e. not_not (beq (sense t m e) (sense u m e)) ∙ ap not (sym (said m e))) (agree-means t u known);
 }
 xor-line x none n len count has said known = absurd (omega arith)
 xor-line x (t ⨾ none) n len count has said known = absurd (omega arith)
@@ -154,7 +153,7 @@ implies-line : Line implication
 unfolding Said
 implies-line x (t ⨾ u ⨾ none) n len count has said known = record {
   yes = means-same (either (nnf_not t) (nnf u)) _ _ (λ m e. sym (said m e)) (means-either (nnf_not t) (nnf u) _ _ known.0.no known.1.0.yes);
-  no = means-same (both (nnf t) (nnf_not u)) _ _ (λ m e. not-implies (sense t m e) (sense u m e) ∙ ap not (sym (said m e))) (means-both (nnf t) (nnf_not u) _ _ known.0.yes known.1.0.no)
+  no = means-same (both (nnf t) (nnf_not u)) _ _ (λ m e. not-implies (sense t m e) (sense u m e) ∙ ap not (sym (said m e))) (means-both (nnf t) (nnf_not u) _ _ known.0.yes known.1.0.no);
 }
 implies-line x none n len count has said known = absurd (omega arith)
 implies-line x (t ⨾ none) n len count has said known = absurd (omega arith)
@@ -164,7 +163,7 @@ equal-line : Line equivalence
 unfolding Said
 equal-line x (t ⨾ u ⨾ none) n len count has said known = record {
   yes = means-same (agree (nnf_each (t ⨾ u ⨾ none)) (nnf_not_each (t ⨾ u ⨾ none))) _ _ (λ m e. sym (said m e)) (agree-means t u known);
-  no = means-same (differ (nnf_each (t ⨾ u ⨾ none)) (nnf_not_each (t ⨾ u ⨾ none))) _ _ (λ m e. ap not (sym (said m e))) (differ-means t u known)
+  no = means-same (differ (nnf_each (t ⨾ u ⨾ none)) (nnf_not_each (t ⨾ u ⨾ none))) _ _ (λ m e. ap not (sym (said m e))) (differ-means t u known);
 }
 equal-line x none n len count has said known = absurd (omega arith)
 equal-line x (t ⨾ none) n len count has said known = absurd (omega arith)
@@ -174,11 +173,11 @@ distinct-line : Line difference
 unfolding Said
 distinct-line x (t ⨾ u ⨾ none) n len count has said known = record {
   yes = means-same (differ (nnf_each (t ⨾ u ⨾ none)) (nnf_not_each (t ⨾ u ⨾ none))) _ _ (λ m e. sym (said m e)) (differ-means t u known);
-  no = means-same (agree (nnf_each (t ⨾ u ⨾ none)) (nnf_not_each (t ⨾ u ⨾ none))) _ _ (λ m e. not_not (beq (sense t m e) (sense u m e)) ∙ ap not (sym (said m e))) (agree-means t u known)
+  no = means-same (agree (nnf_each (t ⨾ u ⨾ none)) (nnf_not_each (t ⨾ u ⨾ none))) _ _ (λ m e. not_not (beq (sense t m e) (sense u m e)) ∙ ap not (sym (said m e))) (agree-means t u known);
 }
 distinct-line x (t ⨾ u ⨾ v ⨾ ts) n len count has said known = record {
   yes = means-same (truth_term false) _ _ (λ m e. sym (said m e)) (means-truth false);
-  no = means-same (truth_term true) _ _ (λ m e. ap not (sym (said m e))) (means-truth true)
+  no = means-same (truth_term true) _ _ (λ m e. ap not (sym (said m e))) (means-truth true);
 }
 distinct-line x none n len count has said known = absurd (omega arith)
 distinct-line x (t ⨾ none) n len count has said known = absurd (omega arith)
@@ -187,9 +186,9 @@ ite-line : Line conditional
 unfolding Said
 ite-line x (c ⨾ t ⨾ u ⨾ none) n len count has said known = record {
   yes = means-same (both (either (nnf_not c) (nnf t)) (either (nnf c) (nnf u))) _ _ (λ m e. choice-bits (sense c m e) (sense t m e) (sense u m e) ∙ sym (said m e))
-        (means-both (either (nnf_not c) (nnf t)) (either (nnf c) (nnf u)) _ _ (means-either (nnf_not c) (nnf t) _ _ known.0.no known.1.0.yes) (means-either (nnf c) (nnf u) _ _ known.0.yes known.1.1.0.yes));
+      (means-both (either (nnf_not c) (nnf t)) (either (nnf c) (nnf u)) _ _ (means-either (nnf_not c) (nnf t) _ _ known.0.no known.1.0.yes) (means-either (nnf c) (nnf u) _ _ known.0.yes known.1.1.0.yes));
   no = means-same (both (either (nnf_not c) (nnf_not t)) (either (nnf c) (nnf_not u))) _ _ (λ m e. not-choice (sense c m e) (sense t m e) (sense u m e) ∙ ap not (sym (said m e)))
-       (means-both (either (nnf_not c) (nnf_not t)) (either (nnf c) (nnf_not u)) _ _ (means-either (nnf_not c) (nnf_not t) _ _ known.0.no known.1.0.no) (means-either (nnf c) (nnf_not u) _ _ known.0.yes known.1.1.0.no))
+      (means-both (either (nnf_not c) (nnf_not t)) (either (nnf c) (nnf_not u)) _ _ (means-either (nnf_not c) (nnf_not t) _ _ known.0.no known.1.0.no) (means-either (nnf c) (nnf_not u) _ _ known.0.yes known.1.1.0.no));
 }
 ite-line x none n len count has said known = absurd (omega arith)
 ite-line x (c ⨾ none) n len count has said known = absurd (omega arith)
@@ -231,12 +230,12 @@ quantified-forms q xs body has forms =
     record {
       yes = record {
         sort = sort_of-quantified q xs (nnf body) parts.bindable forms.yes.sort;
-        value = λ m e. ap (λ (A : Env → Bool). runs q xs m.sizes A e) (λ i d. forms.yes.value m d i)
+        value = λ m e. ap (λ (A : Env → Bool). runs q xs m.sizes A e) (λ i d. forms.yes.value m d i);
       };
       no = record {
         sort = sort_of-quantified (dual q) xs (nnf_not body) parts.bindable forms.no.sort;
-        value = λ m e. ap (λ (A : Env → Bool). runs (dual q) xs m.sizes A e) (λ i d. forms.no.value m d i) ∙ runs-dual q xs m.sizes (λ d. is_true (val m body d)) e (quantifiable xs parts.bindable)
-      }
+        value = λ m e. ap (λ (A : Env → Bool). runs (dual q) xs m.sizes A e) (λ i d. forms.no.value m d i) ∙ runs-dual q xs m.sizes (λ d. is_true (val m body d)) e (quantifiable xs parts.bindable);
+      };
     }
   where
     quantifiable : (ys : List Variable) → are_bindable ys ≡ true → list_all (λ x. is_quantifiable x.sort) ys ≡ true

@@ -1,91 +1,90 @@
--- Both forms of a formula are in negation normal form.
-use Rattle.std.proofs.Common.{◌≡◌, ℕ, zero, suc, Bool, true, false, not, ◌&&◌, List, [], ◌∷◌, get_or, refl, ap, sym, ◌∙◌}
-use Rattle.smt_terms.specs.Term.{Quantifier, Head, op, symbol, const_array, Term, apply, quantified, Terms, none, ◌⨾◌, list, terms}
-use Rattle.smt_terms.specs.Connectives.{Kind, truth_value, negation, conjunction, disjunction, exclusive, implication, equivalence, difference, conditional, atom, operator_kind, kind_of, truth_term, negated, all_of, any_of, both, either, nth}
-use Rattle.smt_terms.specs.Shapes.{is_atom_kind, is_nnf, are_nnf, nnf_node}
+-- Both forms of a formula are in negation normal form, and regular where the formula is.
+use Rattle.std.proofs.Common.{◌≡◌, true, false, not, ◌&&◌, List, [], ◌∷◌, refl, ap}
+use Rattle.std.specs.Prelude.{⊤}
+use Rattle.std.specs.List.{list_all}
+use Rattle.smt_terms.specs.declared.op.Op.{Op}
+use Rattle.smt_terms.specs.declared.op.Op.TheVariants.{And, Or, Not, Truth}
+use Rattle.smt_terms.specs.Term.{op, Term, apply, Terms, none, ◌⨾◌, list, terms}
+use Rattle.smt_terms.specs.Rank.{is_sort, has_sorts, is_minus, is_whole, is_minus_of, is_regular, are_regular}
+use Rattle.smt_terms.specs.Connectives.{operator_kind}
+use Rattle.smt_terms.specs.Shapes.{is_atom_kind, nnf_node, is_nnf, are_nnf}
 use Rattle.smt_terms.proofs.Tests.{both_true, and_true}
-use Rattle.normal_forms.specs.Nnf.{differ, agree, positive_distinct, negative_distinct, positive, negative, dual, nnf, nnf_not, nnf_each, nnf_not_each}
+use Rattle.normal_forms.specs.Nnf.{nnf}
+use Rattle.normal_forms.proofs.Inherited.{All, AllOf, Inherits, both-forms}
+
+-- ---- the shape
 
 abbrev InForm : Term → Type 0
 InForm t = is_nnf t ≡ true
 
-abbrev AllInForm : List Term → Type 0
-AllInForm ts = are_nnf (terms ts) ≡ true
+abbrev Anything : Term → Type 0
+Anything t = ⊤
 
-truth-form : (b : Bool) → InForm (truth_term b)
+all-in-form : (ts : List Term) → All InForm ts → are_nnf (terms ts) ≡ true
+all-in-form [] all = refl
+all-in-form (t ∷ ts) all = and_true (is_nnf t) (are_nnf (terms ts)) all.0 (all-in-form ts all.1)
+
+all-anything : (ts : Terms) → AllOf Anything ts
+all-anything none = tt
+all-anything (t ⨾ ts) = (tt, all-anything ts)
+
+shape : Inherits InForm Anything
 unfolding operator_kind
-truth-form b = refl
+shape = record {
+  truths = λ b. refl;
+  and = λ s t a b. and_true (is_nnf s) (is_nnf t && true) a (and_true (is_nnf t) true b refl);
+  or = λ s t a b. and_true (is_nnf s) (is_nnf t && true) a (and_true (is_nnf t) true b refl);
+  all = all-in-form;
+  any = all-in-form;
+  bound = λ q p xs body b given a. a;
+  value = λ h ts b e given. ap (λ k. nnf_node k (list ts) (are_nnf ts)) e;
+  plain = λ h ts e given. ap (λ k. nnf_node k (list ts) (are_nnf ts)) e;
+  denied = λ h ts e given. ap is_atom_kind e;
+  inside = λ h ts given. all-anything ts;
+  body = λ q xs t given. tt;
+}
 
-nth-form : (ts : List Term) (i : ℕ) → AllInForm ts → InForm (nth ts i)
-nth-form [] i all = truth-form false
-nth-form (t ∷ ts) zero all = (both_true (is_nnf t) (are_nnf (terms ts)) all).0
-nth-form (t ∷ ts) (suc i) all = nth-form ts i (both_true (is_nnf t) (are_nnf (terms ts)) all).1
+pub nnf-shape : (t : Term) → is_nnf (nnf t) ≡ true
+nnf-shape t = (both-forms InForm Anything shape t tt).0
 
-both-form : (s t : Term) → InForm s → InForm t → InForm (both s t)
-unfolding operator_kind
-both-form s t a b = and_true (is_nnf s) (is_nnf t && true) a (and_true (is_nnf t) true b refl)
+-- ---- regular terms
 
-either-form : (s t : Term) → InForm s → InForm t → InForm (either s t)
-unfolding operator_kind
-either-form s t a b = and_true (is_nnf s) (is_nnf t && true) a (and_true (is_nnf t) true b refl)
+abbrev Regular : Term → Type 0
+Regular t = is_regular t ≡ true
 
-all-form : (ts : List Term) → AllInForm ts → InForm (all_of ts)
-unfolding operator_kind
-all-form ts all = all
+all-regular : (ts : List Term) → All Regular ts → are_regular (terms ts) ≡ true
+all-regular [] all = refl
+all-regular (t ∷ ts) all = and_true (is_regular t) (are_regular (terms ts)) all.0 (all-regular ts all.1)
 
-any-form : (ts : List Term) → AllInForm ts → InForm (any_of ts)
-unfolding operator_kind
-any-form ts all = all
+each-regular : (ts : Terms) → are_regular ts ≡ true → AllOf Regular ts
+each-regular none all = tt
+each-regular (t ⨾ ts) all = let parts = both_true (is_regular t) (are_regular ts) all in (parts.0, each-regular ts parts.1)
 
-differ-form : (ps ns : List Term) → AllInForm ps → AllInForm ns → InForm (differ ps ns)
-differ-form ps ns a b =
-    either-form (both (nth ps 0) (nth ns 1)) (both (nth ns 0) (nth ps 1))
-    (both-form (nth ps 0) (nth ns 1) (nth-form ps 0 a) (nth-form ns 1 b)) (both-form (nth ns 0) (nth ps 1) (nth-form ns 0 b) (nth-form ps 1 a))
+-- an operator that is no unary minus
+pub no-minus : (p : Op) (ts : Terms) → is_minus p ≡ false → is_minus_of (op p) ts ≡ false
+unfolding is_minus_of
+no-minus p none e = refl
+no-minus p (apply (op o) none ⨾ none) e = ap (λ b. b && is_whole o) e
+no-minus p ts e = refl
 
-agree-form : (ps ns : List Term) → AllInForm ps → AllInForm ns → InForm (agree ps ns)
-agree-form ps ns a b =
-    both-form (either (nth ns 0) (nth ps 1)) (either (nth ps 0) (nth ns 1))
-    (either-form (nth ns 0) (nth ps 1) (nth-form ns 0 b) (nth-form ps 1 a)) (either-form (nth ps 0) (nth ns 1) (nth-form ps 0 a) (nth-form ns 1 b))
+pub regular-over : (p : Op) (ts : Terms) → is_minus p ≡ false → are_regular ts ≡ true → is_regular (apply (op p) ts) ≡ true
+regular-over p ts e all = and_true (not (is_minus_of (op p) ts)) (are_regular ts) (ap not (no-minus p ts e)) all
 
-distinct-forms : (ps ns : List Term) → AllInForm ps → AllInForm ns → InForm (positive_distinct ps ns) × InForm (negative_distinct ps ns)
-distinct-forms [] ns a b = (differ-form [] ns a b, agree-form [] ns a b)
-distinct-forms (p ∷ []) ns a b = (differ-form (p ∷ []) ns a b, agree-form (p ∷ []) ns a b)
-distinct-forms (p ∷ q ∷ []) ns a b = (differ-form (p ∷ q ∷ []) ns a b, agree-form (p ∷ q ∷ []) ns a b)
-distinct-forms (p ∷ q ∷ r ∷ ps) ns a b = (truth-form false, truth-form true)
+regular : Inherits Regular Regular
+unfolding is_minus
+regular = record {
+  truths = λ b. regular-over (Truth b) none refl refl;
+  and = λ s t a b. regular-over And (s ⨾ t ⨾ none) refl (all-regular (s ∷ t ∷ []) (a, (b, tt)));
+  or = λ s t a b. regular-over Or (s ⨾ t ⨾ none) refl (all-regular (s ∷ t ∷ []) (a, (b, tt)));
+  all = λ ts a. regular-over And (terms ts) refl (all-regular ts a);
+  any = λ ts a. regular-over Or (terms ts) refl (all-regular ts a);
+  bound = λ q p xs body b given a. and_true (list_all (λ x. is_sort x.sort) xs) (is_regular b) (both_true (list_all (λ x. is_sort x.sort) xs) (is_regular body) given).0 a;
+  value = λ h ts b e given. given;
+  plain = λ h ts e given. given;
+  denied = λ h ts e given. regular-over Not (apply h ts ⨾ none) refl (all-regular (apply h ts ∷ []) (given, tt));
+  inside = λ h ts given. each-regular ts (both_true (not (is_minus_of h ts)) (are_regular ts) (both_true (has_sorts h) (not (is_minus_of h ts) && are_regular ts) given).1).1;
+  body = λ q xs t given. (both_true (list_all (λ x. is_sort x.sort) xs) (is_regular t) given).1;
+}
 
--- a formula that is a truth value or an atom, and the `not` over an atom
-plain-form : (h : Head) (ts : Terms) (k : Kind) → kind_of h ts ≡ k → nnf_node k (list ts) (are_nnf ts) ≡ true → InForm (apply h ts)
-plain-form h ts k e a = ap (λ j. nnf_node j (list ts) (are_nnf ts)) e ∙ a
-
-negated-atom : (h : Head) (ts : Terms) → kind_of h ts ≡ atom → InForm (negated (apply h ts))
-unfolding operator_kind
-negated-atom h ts e = ap is_atom_kind e
-
-forms-of : (h : Head) (ts : Terms) (ps ns : List Term) → AllInForm ps → AllInForm ns → (k : Kind) → kind_of h ts ≡ k → InForm (positive k (apply h ts) ps ns) × InForm (negative k (apply h ts) ps ns)
-forms-of h ts ps ns a b (truth_value c) e = (plain-form h ts (truth_value c) e refl, truth-form (not c))
-forms-of h ts ps ns a b atom e = (plain-form h ts atom e refl, negated-atom h ts e)
-forms-of h ts ps ns a b negation e = (nth-form ns 0 b, nth-form ps 0 a)
-forms-of h ts ps ns a b conjunction e = (all-form ps a, any-form ns b)
-forms-of h ts ps ns a b disjunction e = (any-form ps a, all-form ns b)
-forms-of h ts ps ns a b implication e =
-    (either-form (nth ns 0) (nth ps 1) (nth-form ns 0 b) (nth-form ps 1 a), both-form (nth ps 0) (nth ns 1) (nth-form ps 0 a) (nth-form ns 1 b))
-forms-of h ts ps ns a b exclusive e = (differ-form ps ns a b, agree-form ps ns a b)
-forms-of h ts ps ns a b equivalence e = (agree-form ps ns a b, differ-form ps ns a b)
-forms-of h ts ps ns a b difference e = distinct-forms ps ns a b
-forms-of h ts ps ns a b conditional e =
-    (both-form (either (nth ns 0) (nth ps 1)) (either (nth ps 0) (nth ps 2))
-        (either-form (nth ns 0) (nth ps 1) (nth-form ns 0 b) (nth-form ps 1 a)) (either-form (nth ps 0) (nth ps 2) (nth-form ps 0 a) (nth-form ps 2 a))
-    , both-form (either (nth ns 0) (nth ns 1)) (either (nth ps 0) (nth ns 2))
-        (either-form (nth ns 0) (nth ns 1) (nth-form ns 0 b) (nth-form ns 1 b)) (either-form (nth ps 0) (nth ns 2) (nth-form ps 0 a) (nth-form ns 2 b)))
-
-mutual
-  pub both-forms : (t : Term) → (is_nnf (nnf t) ≡ true) × (is_nnf (nnf_not t) ≡ true)
-  both-forms (apply h ts) = let all = all-forms ts in forms-of h ts (nnf_each ts) (nnf_not_each ts) all.0 all.1 (kind_of h ts) refl
-  both-forms (quantified q xs body) = both-forms body
-
-  all-forms : (ts : Terms) → (are_nnf (terms (nnf_each ts)) ≡ true) × (are_nnf (terms (nnf_not_each ts)) ≡ true)
-  all-forms none = (refl, refl)
-  all-forms (t ⨾ ts) =
-      let first = both-forms t in
-      let rest = all-forms ts in
-      (and_true (is_nnf (nnf t)) (are_nnf (terms (nnf_each ts))) first.0 rest.0, and_true (is_nnf (nnf_not t)) (are_nnf (terms (nnf_not_each ts))) first.1 rest.1)
+pub nnf-regular : (t : Term) → is_regular t ≡ true → is_regular (nnf t) ≡ true
+nnf-regular t given = (both-forms Regular Regular regular t given).0

@@ -1,18 +1,17 @@
 -- Shannon's expansion keeps sorts and values.
-use Rattle.std.proofs.Common.{◌≡◌, ℕ, zero, suc, Bool, true, false, not, cond, ◌&&◌, ◌||◌, List, [], ◌∷◌, map, Option, Some, None, refl, ap, sym, ◌∙◌, subst}
+use Rattle.std.proofs.Common.{◌≡◌, ℕ, zero, suc, Bool, true, false, not, cond, ◌&&◌, ◌||◌, List, [], ◌∷◌, map, Option, Some, None, refl, ap, sym, ◌∙◌}
 use Rattle.std.specs.Prelude.{unwrap_or}
-use Rattle.std.specs.List.{list_all, filter}
+use Rattle.std.specs.List.{list_all}
 use Rattle.smt_terms.specs.Sorts.{Name, Sort, bool, int, bit_vector, array, free_sort, Symbol, Variable}
 use Rattle.smt_terms.specs.Term.{Quantifier, universal, existential, Head, Term, apply, quantified, Terms, none, ◌⨾◌, constant_of}
 use Rattle.smt_terms.specs.BitVectors.{BitVector}
 use Rattle.smt_terms.specs.Equal.{name_eq, symbol_eq}
 use Rattle.smt_terms.specs.Free.{is_among}
 use Rattle.smt_terms.specs.Rank.{has_name, are_distinct, is_quantifiable, are_bindable, sort_over, with_sort, sort_of, sorts_of}
-use Rattle.smt_terms.specs.Values.{Value, Sizes, truth, bits, element, is_true, joined, over_bits, over_none, over_elements, over_values}
+use Rattle.smt_terms.specs.Values.{Value, Sizes, truth, bits, element, is_true, joined, over_bits, over_elements, over_values}
 use Rattle.smt_terms.specs.Operators.{op_value}
 use Rattle.smt_terms.specs.Models.{Model}
 use Rattle.smt_terms.specs.Val.{Env, assign, runs, head_value, val, vals}
-use Rattle.smt_terms.specs.Connectives.{both, either}
 use Rattle.smt_terms.specs.Shapes.{is_bool}
 use Rattle.smt_terms.proofs.Tests.{both_true, and_true, both_false, not_true}
 use Rattle.smt_terms.proofs.Equal.{Decides-symbol_eq}
@@ -98,6 +97,7 @@ runs-bools q (x ∷ xs) sizes A e = go x.sort refl (λ d. runs-bools q xs sizes 
   where
     other : (s : Sort) → ((d : Env) → runs q (not_bool xs) sizes (bools q xs A) d ≡ runs q xs sizes A d) → over_values q s sizes (λ v. runs q (not_bool xs) sizes (bools q xs A) (assign x v e)) ≡ over_values q s sizes (λ v. runs q xs sizes A (assign x v e))
     other s below = ap (over_values q s sizes) (λ i v. below (assign x v e) i)
+
     go : (s : Sort) → x.sort ≡ s → ((d : Env) → runs q (not_bool xs) sizes (bools q xs A) d ≡ runs q xs sizes A d) → runs q (cond (not (is_bool s)) (x ∷ not_bool xs) (not_bool xs)) sizes (bool_at s q x (bools q xs A)) e ≡ over_values q s sizes (λ v. runs q xs sizes A (assign x v e))
     go bool is below =
         runs-joined q (not_bool xs) sizes (λ d. bools q xs A (assign x (truth false) d)) (λ d. bools q xs A (assign x (truth true) d)) e
@@ -125,7 +125,7 @@ and-swap false false = refl
 at-means : (v : Bool) (x : Variable) (b : Term) (f : Sense) → x.sort ≡ bool → Means b f → Means (at_truth v x b) (λ m e. f m (assign x (truth v) e))
 at-means v x b f s means = record {
   sort = at_truth-sort b v x s ∙ means.sort;
-  value = λ m e. ap is_true (at_truth-value b v x m e s) ∙ means.value m (assign x (truth v) e)
+  value = λ m e. ap is_true (at_truth-value b v x m e s) ∙ means.value m (assign x (truth v) e);
 }
 
 expanded-means : (q : Quantifier) (x : Variable) (b : Term) (f : Sense) → x.sort ≡ bool → Means b f → Means (expanded q x b) (λ m e. joined q (f m (assign x (truth false) e)) (f m (assign x (truth true) e)))
@@ -206,6 +206,7 @@ all-expanded q x xs b = go x.sort
   where
     filled : (ys : List Variable) → (x ∷ ys) ≡ [] → ⊥
     filled ys e = absurd cc
+
     go : (s : Sort) → cond (not (is_bool s)) (x ∷ not_bool xs) (not_bool xs) ≡ [] → IsTruth (expand_bool s q x (expand_each q xs b))
     go bool e = expanded-truth q x (expand_each q xs b)
     go int e = absurd (filled (not_bool xs) e)
@@ -232,9 +233,9 @@ quantified-kept q (x ∷ xs) body b s bindable is below =
     record {
       sort = over-left-sort q (not_bool (x ∷ xs)) (expand_each q (x ∷ xs) b) (kept-distinct (x ∷ xs) parts.0) (kept-quantifiable (x ∷ xs) parts.1) means.sort ∙ ap Some (sym is);
       value = λ m e.
-        over-left-value q (not_bool (x ∷ xs)) (expand_each q (x ∷ xs) b) (all-expanded q x xs b) m e
-        ∙ ap (λ (A : Env → Bool). truth (runs q (not_bool (x ∷ xs)) m.sizes A e)) (λ i d. means.value m d i)
-        ∙ ap truth (runs-bools q (x ∷ xs) m.sizes (λ d. is_true (val m body d)) e)
+          over-left-value q (not_bool (x ∷ xs)) (expand_each q (x ∷ xs) b) (all-expanded q x xs b) m e
+          ∙ ap (λ (A : Env → Bool). truth (runs q (not_bool (x ∷ xs)) m.sizes A e)) (λ i d. means.value m d i)
+          ∙ ap truth (runs-bools q (x ∷ xs) m.sizes (λ d. is_true (val m body d)) e);
     }
 
 operand-sorts : (h : Head) (o : Option (List Sort)) (s : Sort) → sort_over h o ≡ Some s → (ss : List Sort) × (o ≡ Some ss)

@@ -4,7 +4,7 @@
 -- Self-substitution makes of `exists x` b with b[true] for x, and of `forall x` b with b[false] for x.
 use Rattle.std.specs.Prelude.{Bool, true, false, not, cond, List, [], ◌∷◌, map, filter, Option, Some, None}
 use Rattle.smt_terms.specs.Sorts.{Sort, bool, Symbol, Variable}
-use Rattle.smt_terms.specs.Term.{Quantifier, universal, existential, Head, op, symbol, const_array, Term, apply, quantified, Terms, none, ◌⨾◌, constant_of, constant}
+use Rattle.smt_terms.specs.Term.{Quantifier, universal, existential, Head, symbol, Term, apply, quantified, Terms, none, ◌⨾◌, constant_of, constant}
 use Rattle.smt_terms.specs.Equal.{symbol_eq, term_eq}
 use Rattle.smt_terms.specs.Free.{is_among}
 use Rattle.smt_terms.specs.Fresh.{Supply}

@@ -2,3 +2,5 @@
 //! quantified truth values, Shannon's expansion and self-substitution.
 
 #![tactic(auto)]
+
+pub mod laws;

@@ -1,15 +1,15 @@
 -- Formulas that passes build, and what they say in each model.
-use Rattle.std.proofs.Common.{◌≡◌, ℕ, zero, suc, ◌+◌, ◌<◌, ◌≤◌, Bool, true, false, not, cond, ◌&&◌, ◌||◌, List, [], ◌∷◌, map, length, replicate, Option, Some, None, Ok, refl, ap, sym, ◌∙◌, subst, arith}
-use Rattle.std.specs.Prelude.{⊤, unwrap_or}
-use Rattle.smt_terms.specs.declared.op.Op.TheVariants.{Truth, Not, And, Or, Xor}
-use Rattle.smt_terms.specs.Sorts.{Sort, bool, Variable}
-use Rattle.smt_terms.specs.Term.{Head, op, Term, apply, quantified, Terms, none, ◌⨾◌, list, terms, over}
+use Rattle.std.proofs.Common.{◌≡◌, ℕ, zero, suc, ◌≤◌, Bool, true, false, not, ◌&&◌, ◌||◌, List, [], ◌∷◌, map, length, replicate, Some, refl, ap, sym, ◌∙◌, subst, arith}
+use Rattle.std.specs.Prelude.{⊤}
+use Rattle.smt_terms.specs.declared.op.Op.TheVariants.{Not, And, Or}
+use Rattle.smt_terms.specs.Sorts.{Sort, bool}
+use Rattle.smt_terms.specs.Term.{op, Term, apply, Terms, none, ◌⨾◌, list, terms}
 use Rattle.smt_terms.specs.Rank.{rank, shape, width, most_bits, sort_over, with_sort, sort_of, sorts_of}
-use Rattle.smt_terms.specs.Values.{Value, truth, is_true}
+use Rattle.smt_terms.specs.Values.{is_true}
 use Rattle.smt_terms.specs.Operators.{op_value}
 use Rattle.smt_terms.specs.Models.{Model}
 use Rattle.smt_terms.specs.Val.{Env, val, vals}
-use Rattle.smt_terms.specs.Connectives.{operator_kind, truth_term, negated, all_of, any_of, both, either, opposite, nth}
+use Rattle.smt_terms.specs.Connectives.{operator_kind, truth_term, negated, all_of, any_of, both, either, opposite}
 use Rattle.smt_terms.proofs.Ranked.{takes-rank}
 use Rattle.smt_terms.proofs.Sorted.{sorted, sort_of-apply}
 use Rattle.smt_terms.proofs.Connected.{Connected, connected, connective-value, all_bits, any_bit}

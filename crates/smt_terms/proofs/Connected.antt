@@ -1,20 +1,20 @@
 -- What the kinds of connectives say of sorts and truth values.
-use Rattle.std.proofs.Common.{◌≡◌, ℕ, zero, suc, ◌+◌, ◌<◌, ◌≤◌, Bool, true, false, not, cond, ◌&&◌, ◌||◌, ◌⊎◌, inl, inr, List, [], ◌∷◌, map, length, get_or, replicate, Option, Some, None, Ok, Err, refl, ap, sym, ◌∙◌, subst, arith}
+use Rattle.std.proofs.Common.{◌≡◌, ℕ, suc, ◌≤◌, Bool, true, false, not, cond, ◌&&◌, ◌||◌, List, [], ◌∷◌, map, get_or, replicate, Some, Ok, refl, ap, sym, ◌∙◌, subst, arith}
 use Rattle.std.specs.Prelude.{⊤, unwrap_or}
 use Rattle.std.specs.Bool.{beq}
 use Rattle.std.specs.List.{list_all, list_any}
 use Rattle.smt_terms.specs.declared.op.Op.{Op}
 use Rattle.smt_terms.specs.declared.op.Op.TheVariants.{Truth, Not, And, Or, Xor, Implies, Equal, Distinct, Ite}
-use Rattle.smt_terms.specs.Sorts.{Sort, bool, Symbol}
-use Rattle.smt_terms.specs.Term.{Head, op, symbol, const_array, Term, apply, quantified, Terms, none, ◌⨾◌, list, terms, over}
-use Rattle.smt_terms.specs.Rank.{rank, width, most_bits, sort_over, with_sort, sort_of, sorts_of, shape}
-use Rattle.smt_terms.specs.Values.{Value, truth, is_true, same, Sizes}
+use Rattle.smt_terms.specs.Sorts.{Sort, bool}
+use Rattle.smt_terms.specs.Term.{Head, op, symbol, const_array, apply, Terms}
+use Rattle.smt_terms.specs.Rank.{rank, sort_of, sorts_of, shape}
+use Rattle.smt_terms.specs.Values.{Value, is_true, same, Sizes}
 use Rattle.smt_terms.specs.Operators.{Background, op_value, first_value, all_distinct}
 use Rattle.smt_terms.specs.Models.{Model, background}
 use Rattle.smt_terms.specs.Val.{Env, val, vals}
-use Rattle.smt_terms.specs.Connectives.{Kind, truth_value, negation, conjunction, disjunction, exclusive, implication, equivalence, difference, conditional, atom, where_bool, where_branch_bool, operator_kind, kind, kind_of, truth_term, negated, all_of, any_of, both, either}
-use Rattle.smt_terms.proofs.Ranked.{rank-takes, takes-rank}
-use Rattle.smt_terms.proofs.Sorted.{IsApplied, applied, sort_of-apply}
+use Rattle.smt_terms.specs.Connectives.{Kind, truth_value, negation, conjunction, disjunction, exclusive, implication, equivalence, difference, conditional, atom, where_bool, where_branch_bool, operator_kind, kind_of}
+use Rattle.smt_terms.proofs.Ranked.{rank-takes}
+use Rattle.smt_terms.proofs.Sorted.{IsApplied, applied}
 
 -- connectives and the two truth values
 abbrev pub is_logical : Kind → Bool

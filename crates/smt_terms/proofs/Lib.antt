@@ -29,6 +29,8 @@ pub mod SameOperands
 pub mod SameStores
 pub mod Sorted
 pub mod SortsOfTerms
+pub mod SubstFree
+pub mod SubstNames
 pub mod Substitution
 pub mod Tests
 pub mod Valid

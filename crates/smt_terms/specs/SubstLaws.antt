@@ -3,7 +3,7 @@
 use Rattle.std.specs.Prelude.{◌≡◌, true, List, [], ◌++◌, map, Option, Some, None}
 use Rattle.smt_terms.specs.Sorts.{Name, Sort, Symbol}
 use Rattle.smt_terms.specs.Term.{Term, apply, quantified, Terms, none, ◌⨾◌, constant}
-use Rattle.smt_terms.specs.Free.{name_among, names_of, head_symbols, free}
+use Rattle.smt_terms.specs.Free.{is_among, name_among, names_of, head_symbols, free}
 use Rattle.smt_terms.specs.Rank.{sort_of, sorts_of}
 use Rattle.smt_terms.specs.Values.{Value}
 use Rattle.smt_terms.specs.Models.{Model}
@@ -61,3 +61,24 @@ SubstKeepsMeaning = (f : Map) (t : Term) (s : Supply) → HaveSorts f → GivesN
 
 abbrev pub SubstGivesLater : Type 0
 SubstGivesLater = (f : Map) (t : Term) (s : Supply) → HaveSorts f → GivesNoImage s f → GivesNone s (names_within t) → Later s (subst f t s).1
+
+-- the supply gives no name that stands in an image, bound ones too
+abbrev pub GivesNoNameIn : Supply → Map → Type 0
+GivesNoNameIn s f = (g : Symbol) (u : Term) → image f g ≡ Some u → GivesNone s (names_within u)
+
+-- what is left of the supply gives no name of the result
+abbrev pub SubstSparesNames : Type 0
+SubstSparesNames = (f : Map) (t : Term) (s : Supply) → GivesNone s (names_within t) → GivesNoNameIn s f → GivesNone (subst f t s).1 (names_within (subst f t s).0)
+
+-- what a map replaces are constants
+abbrev pub ReplacesConstants : Map → Type 0
+ReplacesConstants f = (g : Symbol) (u : Term) → image f g ≡ Some u → g.args ≡ []
+
+-- a symbol that is free after the replacements in a term with these free symbols: it was free there and isn't replaced,
+-- or it is free in the image of one that was
+pub data LeftFree (f : Map) (fs : List Symbol) (g : Symbol) : Type 0 where
+  stays : is_among fs g ≡ true → image f g ≡ None → LeftFree f fs g
+  comes : (h : Symbol) (u : Term) → is_among fs h ≡ true → image f h ≡ Some u → is_among (free u) g ≡ true → LeftFree f fs g
+
+abbrev pub SubstLeavesFree : Type 0
+SubstLeavesFree = (f : Map) (t : Term) (s : Supply) (r : Sort) → sort_of t ≡ Some r → ReplacesConstants f → (g : Symbol) → is_among (free (subst f t s).0) g ≡ true → LeftFree f (free t) g

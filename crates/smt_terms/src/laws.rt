@@ -5,7 +5,7 @@ ghost use Rattle.smt_terms.specs.Laws.{TellsEqual, RankIsRelation, SameIsReflexi
 ghost use Rattle.smt_terms.specs.FreshLaws.{NumbersNameApart, NextIsFree, NextIsLeast, NextIsLater, DrawnIsGone, GoneStaysGone};
 ghost use Rattle.smt_terms.specs.KeepsLaws.{HeadsKeep, QuantifiersKeep};
 ghost use Rattle.smt_terms.specs.NodeLaws.{HeadsHaveSorts, BindersHaveSorts};
-ghost use Rattle.smt_terms.specs.SubstLaws.{SubstKeepsMeaning, SubstGivesLater};
+ghost use Rattle.smt_terms.specs.SubstLaws.{SubstKeepsMeaning, SubstGivesLater, SubstSparesNames, SubstLeavesFree};
 
 /// Each test of equality says yes exactly at equal arguments.
 pub fn tests_tell_equality()
@@ -75,8 +75,11 @@ pub fn fresh_names_are_new()
 {}
 
 /// Substitution gives a term of the same sort, with the value that the term has where each replaced constant has the value
-/// of its image; it draws no name that the supply didn't give.
+/// of its image; what is left of the supply gives no name that the supply didn't give, and none of the result. A symbol that is free afterwards was free and isn't
+/// replaced, or is free in the image of one that was.
 pub fn substitution_keeps_meaning()
     ensures meaning { SubstKeepsMeaning }
     ensures later { SubstGivesLater }
+    ensures names { SubstSparesNames }
+    ensures free { SubstLeavesFree }
 {}
