@@ -1,1 +1,3 @@
+mod Bindings
+mod Outcomes
 mod Rows

@@ -13,3 +13,4 @@ pub mod Mean
 pub mod Scenes
 pub mod Satisfied
 pub mod Printable
+pub mod Laws
