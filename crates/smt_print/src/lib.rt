@@ -1,3 +1,8 @@
-//! Printed scripts.
+//! Prints terms and scripts of SMT-LIB 2.6, each command on a line of its own, with terms either as trees or with each
+//! shared subterm written once.
 
 #![tactic(auto)]
+
+mod layout;
+
+pub use layout::Layout;

@@ -1,0 +1,4 @@
+-- Worked rows, by topics.
+mod Given
+mod ReadAndPrinted
+mod Refused
