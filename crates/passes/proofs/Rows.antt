@@ -1,0 +1,5 @@
+-- Worked rows.
+mod Given
+mod Lists
+mod Scripts
+mod Carried
