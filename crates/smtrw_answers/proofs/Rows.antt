@@ -1,0 +1,4 @@
+-- Worked rows.
+mod Words
+mod Lines
+mod Outputs
