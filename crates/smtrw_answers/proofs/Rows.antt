@@ -2,3 +2,4 @@
 mod Words
 mod Lines
 mod Outputs
+mod Rewritten
