@@ -1,7 +1,7 @@
 -- The entries of model texts: functions, names of sorts, and elements of sorts.
-use Rattle.std.specs.Prelude.{ℕ, zero, suc, Bool, true, false, ◌&&◌, ◌||◌, not, if◌then◌else◌, List, [], ◌∷◌, ◌++◌, map, codes, Option, Some, None, option_map, option_and_then}
+use Rattle.std.specs.Prelude.{ℕ, zero, Bool, true, false, ◌&&◌, ◌||◌, if◌then◌else◌, List, [], ◌∷◌, ◌++◌, map, codes, Option, Some, None, option_and_then}
 use Rattle.smt_lex.specs.Names.{is_among}
-use Rattle.smt_lex.specs.Forms.{Form, atom, node, Forms, none, ◌⨾◌}
+use Rattle.smt_lex.specs.Forms.{Form, node, Forms, none, ◌⨾◌}
 use Rattle.smt_terms.specs.Equal.{name_eq}
 use Rattle.smt_terms.specs.Models.{Graph}
 use Rattle.smt_terms.specs.Sorts.{Name, Sort, int, free_sort, Symbol, Variable}

@@ -1,6 +1,6 @@
 -- Models as they are printed: SMT-LIB 2.6, section 4.1.9, with `(@sort S ELEMENT ..)` for the elements of a free sort, and the
 -- names `@div0` and `@mod0` for the tables of `div` and `mod` by zero.
-use Rattle.std.specs.Prelude.{ℕ, zero, suc, Bool, true, false, ◌||◌, not, if◌then◌else◌, List, [], ◌∷◌, ◌++◌, map, flat_map, codes, ℤ, pos, Option, unwrap_or}
+use Rattle.std.specs.Prelude.{ℕ, zero, suc, Bool, true, not, if◌then◌else◌, List, [], ◌∷◌, ◌++◌, map, flat_map, codes, pos, unwrap_or}
 use Rattle.std.specs.Ordering.{int_eq}
 use Rattle.smt_lex.specs.Lexicon.{line_feed}
 use Rattle.smt_lex.specs.Forms.{Form}
@@ -38,7 +38,7 @@ value_form (bit_vector width) v = vector_form width (bv2nat (bits_of v))
 value_form (free_sort s) v = element_form s (element_of v)
 value_form (array i e) v =
     stores_form (value_form i) (value_form e) (pairs_of v)
-      (list_form (constant_array_form (array i e) ∷ value_form e (default_of v) ∷ []))
+    (list_form (constant_array_form (array i e) ∷ value_form e (default_of v) ∷ []))
 
 -- ---- tables
 
@@ -72,7 +72,7 @@ abbrev pub function_form : Symbol → Graph → Form
 function_form f g =
     let xs = parameters 0 f.args in
     list_form (word_form (codes "define-fun") ∷ symbol_form f.name ∷ list_form (map variable_form xs) ∷ sort_form f.result
-      ∷ rows_form xs f.result g.rows (value_form f.result g.otherwise) ∷ [])
+    ∷ rows_form xs f.result g.rows (value_form f.result g.otherwise) ∷ [])
 
 abbrev pub symbol_entry : Model → Symbol → Form
 symbol_entry m f = function_form f (unwrap_or (m.graphs f) (default_graph f.result))

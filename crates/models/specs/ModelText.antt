@@ -1,9 +1,9 @@
 -- The model that a text gives: SMT-LIB 2.6, section 4.1.9 (`get-model` answers with definitions), with further entries for
 -- the elements of free sorts and for `div` and `mod` by zero.
-use Rattle.std.specs.Prelude.{ℕ, Bool, if◌then◌else◌, List, [], ◌∷◌, map, length, codes, pos, Result, Ok, Err, Option, Some, None, unwrap_or}
+use Rattle.std.specs.Prelude.{ℕ, if◌then◌else◌, List, [], ◌∷◌, map, length, codes, Result, Ok, Err, Option, Some, None, unwrap_or}
 use Rattle.std.specs.List.{list_any}
 use Rattle.smt_lex.specs.Lex.{Fault, line_at}
-use Rattle.smt_lex.specs.Forms.{Form, atom, node, Forms, none, ◌⨾◌, forms}
+use Rattle.smt_lex.specs.Forms.{atom, node, Forms, none, ◌⨾◌, forms}
 use Rattle.smt_terms.specs.Equal.{name_eq, symbol_eq}
 use Rattle.smt_terms.specs.Models.{Row, Graph, NumberRow, NumberGraph, Model}
 use Rattle.smt_terms.specs.Operators.{first_value}
@@ -11,10 +11,10 @@ use Rattle.smt_terms.specs.Sorts.{Name, Sort, int, Symbol}
 use Rattle.smt_terms.specs.Values.{Sizes, number, default_value}
 use Rattle.script_read.specs.Commands.{Signature}
 use Rattle.script_read.specs.Parts.{place_of, word_in, is_name}
-use Rattle.script_read.specs.Refusals.{and_then, mapped}
+use Rattle.script_read.specs.Refusals.{and_then}
 use Rattle.script_read.specs.Script.{fault_place}
 use Rattle.models.specs.Refusals.{Refused, model_form, at, Unmodelled, unread, refused}
-use Rattle.models.specs.Reading.{Element, sizes}
+use Rattle.models.specs.Reading.{sizes}
 use Rattle.models.specs.Tables.{first_rows}
 use Rattle.models.specs.Entries.{division_table, modulus_table, Given, entries_given}
 
@@ -46,10 +46,11 @@ number_table gs sizes n = number_graph (with_first_rows (int ∷ []) sizes (unwr
 
 abbrev pub model_over : Signature → List Given → Sizes → Model
 model_over sig gs sizes = record {
-    sizes = sizes;
-    graphs = λ f. if list_any (symbol_eq f) sig.symbols then Some (table_of gs sizes f) else None;
-    div_by_zero = number_table gs sizes division_table;
-    mod_by_zero = number_table gs sizes modulus_table }
+  sizes = sizes;
+  graphs = λ f. if list_any (symbol_eq f) sig.symbols then Some (table_of gs sizes f) else None;
+  div_by_zero = number_table gs sizes division_table;
+  mod_by_zero = number_table gs sizes modulus_table;
+}
 
 -- ---- the parts of a text: a word `sat` or none, and one list of a word `model` or none and the entries
 

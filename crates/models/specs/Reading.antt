@@ -1,6 +1,6 @@
 -- What is known while a model's text is read: the elements of the free sorts that were met. They are numbered, in each sort,
 -- in the order in which their names first occur.
-use Rattle.std.specs.Prelude.{ℕ, zero, suc, max, Bool, if◌then◌else◌, List, [], ◌∷◌, ◌++◌, map, filter, length, Result, Ok, Err}
+use Rattle.std.specs.Prelude.{ℕ, zero, suc, max, if◌then◌else◌, List, [], ◌∷◌, ◌++◌, map, filter, length, Result, Ok, Err}
 use Rattle.smt_lex.specs.Names.{is_among}
 use Rattle.smt_terms.specs.Equal.{name_eq}
 use Rattle.smt_terms.specs.Sorts.{Name}

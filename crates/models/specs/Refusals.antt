@@ -1,5 +1,5 @@
 -- Why a model's text is refused, and where.
-use Rattle.std.specs.Prelude.{ℕ, Bool, true, false, Result, Ok, Err}
+use Rattle.std.specs.Prelude.{ℕ, Bool, true, false, Result, Err}
 use Rattle.smt_lex.specs.Lex.{Fault}
 
 pub data Cause : Type 0 where

@@ -1,6 +1,6 @@
 -- The bodies of functions in model texts: a value, or `(ite CONDITION VALUE BODY)`, where the condition says what each
 -- parameter is.
-use Rattle.std.specs.Prelude.{ℕ, ◌==◌, Bool, true, false, ◌&&◌, if◌then◌else◌, List, [], ◌∷◌, map, count_by, codes, Result, Ok, Option, Some, None, option_map, option_and_then}
+use Rattle.std.specs.Prelude.{ℕ, ◌==◌, Bool, true, false, if◌then◌else◌, List, [], ◌∷◌, map, count_by, codes, Option, Some, None, option_and_then}
 use Rattle.std.specs.List.{list_any, list_all}
 use Rattle.smt_lex.specs.Forms.{Form, atom, node, Forms, none, ◌⨾◌}
 use Rattle.smt_terms.specs.Equal.{name_eq, sort_eq}
@@ -87,9 +87,9 @@ side_value s (written f) = value_in f s
 abbrev pub keys_of : List Equation → Reading (List Key)
 keys_of [] = gives []
 keys_of (e ∷ es) = do
-    v ← side_value e.parameter.sort e.side
-    ks ← keys_of es
-    gives (record { name = e.parameter.name; value = v } ∷ ks)
+  v ← side_value e.parameter.sort e.side
+  ks ← keys_of es
+  gives (record { name = e.parameter.name; value = v } ∷ ks)
 
 abbrev pub key_named : List Key → Name → Value
 key_named [] n = truth false
@@ -114,10 +114,10 @@ value_everywhere value = value >>= λ v. gives (record { rows = []; otherwise = 
 
 abbrev pub row_first : Reading (List Value) → Reading Value → Reading Graph → Reading Graph
 row_first keys result body = do
-    ks ← keys
-    v ← result
-    g ← body
-    gives (record { rows = record { keys = ks; result = v } ∷ g.rows; otherwise = g.otherwise })
+  ks ← keys
+  v ← result
+  g ← body
+  gives (record { rows = record { keys = ks; result = v } ∷ g.rows; otherwise = g.otherwise })
 
 abbrev pub body_in : Form → List Variable → Sort → Reading Graph
 body_in (node place (f ⨾ c ⨾ v ⨾ b ⨾ none)) xs s =

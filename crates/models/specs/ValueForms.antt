@@ -1,6 +1,6 @@
 -- Values as model texts write them: constants, elements of free sorts, and arrays that are constant but for some places.
 -- SMT-LIB 2.6, sections 3.6 (qualified identifiers) and 4.1.8 (abstract values begin with `@`).
-use Rattle.std.specs.Prelude.{ℕ, ◌^◌, ◌==◌, Bool, true, false, ◌&&◌, not, nat_lt, if◌then◌else◌, List, [], ◌∷◌, codes, ℤ, pos, neg_ℤ, Result, Ok, Option, Some, None, option_map, is_some}
+use Rattle.std.specs.Prelude.{ℕ, ◌^◌, ◌==◌, Bool, true, false, ◌&&◌, nat_lt, if◌then◌else◌, codes, ℤ, pos, neg_ℤ, Result, Ok, Option, Some, None, option_map}
 use Rattle.smt_lex.specs.Lexicon.{starts_as}
 use Rattle.smt_lex.specs.Lex.{Token, symbol_of, name_of}
 use Rattle.smt_lex.specs.Forms.{Form, atom, node, Forms, none, ◌⨾◌}
@@ -119,10 +119,10 @@ negative_or_filled place s None None next = refuses not_a_table place
 -- an array.
 abbrev pub stored : ℕ → Sort → (Sort → Reading Value) → (Sort → Reading Value) → (Sort → Reading Value) → Reading Value
 stored place (array i e) old key new = do
-    a ← old (array i e)
-    k ← key i
-    v ← new e
-    gives (store i (λ _. 1) a k v)
+  a ← old (array i e)
+  k ← key i
+  v ← new e
+  gives (store i (λ _. 1) a k v)
 stored place s old key new = refuses model_sort place
 
 -- ---- the value that a form is, at the sort that is wanted

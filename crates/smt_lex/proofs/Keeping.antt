@@ -12,7 +12,7 @@ use Rattle.smt_lex.specs.Forest.{no_token, token_at, end_of, items, form_length,
 use Rattle.smt_lex.proofs.Stepping.{after_bounds}
 use Rattle.smt_lex.specs.Building.{Nests, Spans, IsForest, entry_at, no_entry, entry_items, token_of, tokens_in, source}
 
-with_token_ok : (t : Token) (r : Result (List Token) Fault) (us : List Token) → with_token t r ≡ Ok us → (vs : List Token) × (r ≡ Ok vs) × (us ≡ t ∷ vs)
+pub with_token_ok : (t : Token) (r : Result (List Token) Fault) (us : List Token) → with_token t r ≡ Ok us → (vs : List Token) × (r ≡ Ok vs) × (us ≡ t ∷ vs)
 with_token_ok t (Ok vs) us h = (vs, refl, cc)
 with_token_ok t (Err fault) us h = absurd (cc)
 

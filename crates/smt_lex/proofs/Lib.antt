@@ -1,10 +1,12 @@
 mod Choices
+pub mod Joining
 mod Keeping
 mod Lexing
 mod Literals
 mod Nesting
 mod Outcomes
-mod Printing
+pub mod Printing
 mod Putting
+pub mod Rereading
 mod Rows
 pub mod Stepping

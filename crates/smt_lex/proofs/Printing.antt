@@ -32,37 +32,45 @@ list_all-weaker p q weaker (b ∷ bs) all = rw (weaker b (and_left (p b) (list_a
 other_byte : (test : ℕ → Bool) (b c : ℕ) → test b ≡ true → test c ≡ false → eqb b c ≡ false
 other_byte test b c passes fails = elim (eqb_tells b c) [ inl same ↦ absurd (cc (passes, fails, ap test same.1)) | inr differs ↦ differs.0 ]
 
-not_blank : (b : ℕ) → is_symbol_byte b ≡ true → is_blank b ≡ false
-not_blank b symbol = rw (other_byte is_symbol_byte b 9 symbol refl, other_byte is_symbol_byte b 10 symbol refl, other_byte is_symbol_byte b 13 symbol refl, other_byte is_symbol_byte b 32 symbol refl) refl
+not_blank : (b : ℕ) → is_run_byte b ≡ true → is_blank b ≡ false
+not_blank b runs = rw (other_byte is_run_byte b 9 runs refl, other_byte is_run_byte b 10 runs refl, other_byte is_run_byte b 13 runs refl, other_byte is_run_byte b 32 runs refl) refl
 
 run_byte : (b : ℕ) → is_symbol_byte b ≡ true → is_run_byte b ≡ true
 run_byte b symbol = rw symbol refl
 
-front_run : (b : ℕ) (bs : List ℕ) → is_symbol_byte b ≡ true → front (b ∷ bs) ≡ run_front (b ∷ bs)
-front_run b bs symbol =
+pub front_run : (b : ℕ) (bs : List ℕ) → is_run_byte b ≡ true → front (b ∷ bs) ≡ run_front (b ∷ bs)
+front_run b bs runs =
     rw (
-      other_byte is_symbol_byte b left_parenthesis symbol refl,
-      other_byte is_symbol_byte b right_parenthesis symbol refl,
-      other_byte is_symbol_byte b semicolon symbol refl,
-      other_byte is_symbol_byte b quote symbol refl,
-      other_byte is_symbol_byte b bar symbol refl,
-      not_blank b symbol,
-      run_byte b symbol,
+      other_byte is_run_byte b left_parenthesis runs refl,
+      other_byte is_run_byte b right_parenthesis runs refl,
+      other_byte is_run_byte b semicolon runs refl,
+      other_byte is_run_byte b quote runs refl,
+      other_byte is_run_byte b bar runs refl,
+      not_blank b runs,
+      runs,
     ) refl
 
 run_is : (xs : List ℕ) (n : ℕ) (item : Item) → length_while is_run_byte xs ≡ n → run_item (take n xs) ≡ Some item → run_front xs ≡ Lexeme item n
 run_is xs n item long is = ap (λ n. run_by (run_item (take n xs)) n) long ∙ ap (λ o. run_by o n) is
 
--- a word is one token where no run goes on behind it
+-- a run is one token where it doesn't go on
+pub front_of_run : (run rest : List ℕ) (item : Item) → 0 < length run → list_all is_run_byte run ≡ true → starts_as is_run_byte rest ≡ false → run_item run ≡ Some item → front (run ++ rest) ≡ Lexeme item (length run)
+front_of_run [] rest item some all stops is = absurd (omega arith)
+front_of_run (b ∷ bs) rest item some all stops is =
+    front_run b (bs ++ rest) (and_left (is_run_byte b) (list_all is_run_byte bs) all)
+    ∙ run_is ((b ∷ bs) ++ rest) (length (b ∷ bs)) item (length_while-append is_run_byte (b ∷ bs) rest all stops)
+    (ap run_item (take_at (b ∷ bs) rest (length (b ∷ bs)) refl) ∙ is)
+
+some_bytes : (word : List ℕ) → is_word word ≡ true → 0 < length word
+some_bytes [] word = absurd (cc)
+some_bytes (b ∷ bs) word = omega arith
+
+word_bytes : (word : List ℕ) → is_word word ≡ true → list_all is_run_byte word ≡ true
+word_bytes word is = list_all-weaker is_symbol_byte is_run_byte run_byte word
+    (and_left (list_all is_symbol_byte word) (not (eqb (length word) 0)) (and_right (not (starts_as is_ascii_digit word)) (is_some_of is_symbol_byte word) is))
+
 pub front_word : (word rest : List ℕ) → is_word word ≡ true → starts_as is_run_byte rest ≡ false → front (word ++ rest) ≡ Lexeme Word (length word)
-front_word [] rest is stops = absurd (cc)
-front_word (b ∷ bs) rest is stops =
-    let all : list_all is_symbol_byte (b ∷ bs) ≡ true =
-    and_left (list_all is_symbol_byte (b ∷ bs)) (not (eqb (length (b ∷ bs)) 0)) (and_right (not (is_ascii_digit b)) (is_some_of is_symbol_byte (b ∷ bs)) is) in
-    front_run b (bs ++ rest) (and_left (is_symbol_byte b) (list_all is_symbol_byte bs) all)
-    ∙ run_is ((b ∷ bs) ++ rest) (length (b ∷ bs)) Word
-    (length_while-append is_run_byte (b ∷ bs) rest (list_all-weaker is_symbol_byte is_run_byte run_byte (b ∷ bs) all) stops)
-    (ap run_item (take_at (b ∷ bs) rest (length (b ∷ bs)) refl) ∙ rw is refl)
+front_word word rest is stops = front_of_run word rest Word (some_bytes word is) (word_bytes word is) stops (rw is refl)
 
 -- a name between bars is one token
 pub front_quoted : (name rest : List ℕ) → IsName name → front (bar ∷ (name ++ bar ∷ rest)) ≡ Lexeme Quoted (length name + 2)
@@ -91,10 +99,6 @@ whole text = take_all (length text - 0) text (omega arith)
 not_true : (b : Bool) → not b ≡ true → b ≡ false
 not_true true h = absurd (cc)
 not_true false h = refl
-
-some_bytes : (word : List ℕ) → is_word word ≡ true → 0 < length word
-some_bytes [] word = absurd (cc)
-some_bytes (b ∷ bs) word = omega arith
 
 simple_symbol : (name : Name) → is_word name ≡ true → not (is_reserved name) ≡ true → IsOneSymbol name name
 simple_symbol name word free =

@@ -87,17 +87,26 @@ fn cuts_a_script_anywhere(rt: HostRuntime) -> Result<(), Fail> {
 fn shows_a_forest(rt: HostRuntime) -> Result<(), Fail> {
     let bytes = b"(a |b c| (exit) \"x\"\"y\" 1.5)".to_vec(rt.alloc())?;
     let forest = scan(rt.alloc(), bytes, Until::Exit)?;
-    assert_eq!(rt; forest.len(), 9);
-    assert_eq!(rt; forest.bytes().len(), 27);
-    assert_eq!(rt; forest.after(0), 9);
-    assert_eq!(rt; forest.after(3), 6);
-    assert_eq!(rt; forest.after(2), 3);
-    assert_eq!(rt; forest.item(6), Item::Text);
-    assert_eq!(rt; forest.text(6), b"\"x\"\"y\"".as_slice());
-    assert_eq!(rt; forest.span(7), Span { start: 23, end: 26 });
-    assert_eq!(rt; forest.name(2), b"b c".as_slice());
-    assert_eq!(rt; forest.name(1), b"a".as_slice());
-    assert_eq!(rt; line_of(forest.bytes(), 27), 1);
+    let table = [
+        (0, Item::Left, b"(".as_slice(), b"(".as_slice(), 9),
+        (2, Item::Quoted, b"|b c|".as_slice(), b"b c".as_slice(), 3),
+        (3, Item::Left, b"(".as_slice(), b"(".as_slice(), 6),
+        (
+            6,
+            Item::Text,
+            b"\"x\"\"y\"".as_slice(),
+            b"\"x\"\"y\"".as_slice(),
+            7,
+        ),
+        (8, Item::Right, b")".as_slice(), b")".as_slice(), 9),
+    ];
+    for (i, item, text, name, after) in table {
+        assert!(rt; i < forest.len());
+        assert!(rt; forest.item(i) == item && forest.after(i) == after, "{i}");
+        assert!(rt; forest.text(i) == text && forest.name(i) == name, "{i}");
+    }
+    assert!(rt; forest.len() == 9);
+    assert!(rt; forest.span(6).end == 22 && line_of(forest.bytes(), 5) == 1);
     Ok(())
 }
 
@@ -121,38 +130,44 @@ fn prints_symbols(rt: HostRuntime) -> Result<(), Fail> {
 }
 
 #[test]
-fn scans_long_texts(rt: HostRuntime) -> Result<(), Fail> {
+fn scans_a_million_lists(rt: HostRuntime) -> Result<(), Fail> {
     let million = 1_000_000;
     let mut nested = vec![in rt.alloc(); b'('; million]?;
     let closing = vec![in rt.alloc(); b')'; million]?;
     nested.extend_from_slice(&closing)?;
     assert!(rt; nested.len() == 2 * million);
     let forest = scan(rt.alloc(), nested, Until::Exit)?;
-    assert_eq!(rt; forest.len(), 2 * million);
-    assert_eq!(rt; forest.after(0), 2 * million);
-    assert_eq!(rt; forest.after(million - 1), million + 1);
+    assert!(rt; forest.len() == 2 * million);
+    assert!(rt; forest.after(0) == 2 * million && forest.after(million - 1) == million + 1);
+    Ok(())
+}
+
+#[test]
+fn scans_long_tokens(rt: HostRuntime) -> Result<(), Fail> {
     for (mark, item) in [(b'a', Item::Word), (b'"', Item::Text), (b'|', Item::Quoted)] {
-        let mut text = vec![in rt.alloc(); mark]?;
-        let inside = vec![in rt.alloc(); b'a'; million]?;
-        text.extend_from_slice(&inside)?;
+        let mut text = vec![in rt.alloc(); b'a'; 1_000_000]?;
+        text.insert(0, mark)?;
         text.push(mark)?;
-        assert!(rt; text.len() == million + 2);
+        assert!(rt; text.len() == 1_000_002);
         let forest = scan(rt.alloc(), text, Until::End)?;
-        assert_eq!(rt; forest.len(), 1);
-        assert_eq!(rt; forest.item(0), item);
-        assert_eq!(rt; forest.text(0).len(), million + 2);
+        assert!(rt; forest.len() == 1);
+        assert!(rt; forest.item(0) == item && forest.text(0).len() == 1_000_002);
     }
     Ok(())
 }
 
 #[test]
-fn scans_spaces_and_any_bytes(rt: HostRuntime) -> Result<(), Fail> {
+fn scans_spaces(rt: HostRuntime) -> Result<(), Fail> {
     for length in [67_108_864usize, 67_108_865] {
         let spaces = vec![in rt.alloc(); b' '; length]?;
-        assert!(rt; spaces.len() == length);
-        assert!(rt; length < 100_000_000);
-        assert_eq!(rt; scan(rt.alloc(), spaces, Until::Exit)?.len(), 0);
+        assert!(rt; length < 100_000_000 && spaces.len() == length);
+        assert!(rt; scan(rt.alloc(), spaces, Until::Exit)?.len() == 0);
     }
+    Ok(())
+}
+
+#[test]
+fn refuses_any_bytes(rt: HostRuntime) -> Result<(), Fail> {
     let mut bytes = Vec::new(rt.alloc());
     for _ in 0..4096 {
         for byte in 0..=255u8 {
@@ -160,6 +175,6 @@ fn scans_spaces_and_any_bytes(rt: HostRuntime) -> Result<(), Fail> {
         }
     }
     assert!(rt; bytes.len() == 1_048_576);
-    assert_eq!(rt; scan(rt.alloc(), bytes, Until::End).err(), bad_byte(0, 1));
+    assert!(rt; scan(rt.alloc(), bytes, Until::End).err() == bad_byte(0, 1));
     Ok(())
 }

@@ -1,6 +1,7 @@
 -- Names, numbers, constants and sorts as forms: SMT-LIB 2.6, sections 3.1, 3.5 and 3.6, and the constants of the theories
 -- Core, Ints and FixedSizeBitVectors. Forms that are printed have no places of their own: each place is 0.
-use Rattle.std.specs.Prelude.{ℕ, zero, suc, ◌+◌, ◌/◌, ◌%◌, ◌==◌, Bool, true, false, if◌then◌else◌, List, [], ◌∷◌, ◌++◌, map, codes, ℤ, pos, int_lt, nat_lt, unsigned_abs}
+use Rattle.std.specs.Prelude.{ℕ, zero, suc, ◌/◌, ◌%◌, ◌==◌, Bool, true, false, if◌then◌else◌, List, [], ◌∷◌, ◌++◌, map, codes, ℤ, pos, int_lt, unsigned_abs}
+use Rattle.std.specs.Char.{digit_char}
 use Rattle.smt_lex.specs.Names.{Name, is_simple, printed_symbol}
 use Rattle.smt_lex.specs.Forms.{Form, atom, node, forms_of_list}
 use Rattle.smt_lex.specs.declared.items.Item.{Item}
@@ -47,14 +48,10 @@ integer_form n =
     then list_form (word_form (codes "-") ∷ numeral_form (unsigned_abs n) ∷ [])
     else numeral_form (unsigned_abs n)
 
--- a digit up to 15, as a byte; letters are small
-abbrev pub digit : ℕ → ℕ
-digit d = if nat_lt d 10 then 48 + d else 87 + d
-
 -- the last digits of a number to a base, so many, highest first, in front of what is given
 abbrev pub last_digits : ℕ → ℕ → ℕ → List ℕ → List ℕ
 last_digits base zero n after = after
-last_digits base (suc count) n after = last_digits base count (n / base) (digit (n % base) ∷ after)
+last_digits base (suc count) n after = last_digits base count (n / base) (digit_char (n % base) ∷ after)
 
 -- the bit vector of a width that is this number: in hexadecimal digits where these have as many bits, else in binary ones
 abbrev pub vector_form : ℕ → ℕ → Form

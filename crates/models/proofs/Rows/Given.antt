@@ -1,8 +1,7 @@
 -- Signatures and tables for rows.
-use Rattle.std.specs.Prelude.{ℕ, List, [], ◌∷◌, ◌++◌, map, codes, Result, Ok, Err, Option, Some, None}
+use Rattle.std.specs.Prelude.{ℕ, List, [], ◌∷◌, ◌++◌, map, Result, Ok, Option, Some}
 use Rattle.smt_lex.specs.Lexicon.{line_feed}
-use Rattle.smt_terms.specs.Models.{Model}
-use Rattle.smt_terms.specs.Sorts.{Name, Sort, bool, int, bit_vector, array, free_sort, Symbol}
+use Rattle.smt_terms.specs.Sorts.{Name, Sort, Symbol}
 use Rattle.script_read.specs.Commands.{Signature}
 use Rattle.script_read.specs.Refusals.{mapped}
 use Rattle.script_read.specs.Script.{fault_of}

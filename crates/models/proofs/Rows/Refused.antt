@@ -9,9 +9,10 @@ use Rattle.models.proofs.Rows.Given.{constant_named, function_named, Cases, refu
 
 abbrev signature : Signature
 signature = record {
-    sorts = codes "U" ∷ [];
-    symbols = constant_named (codes "x") int ∷ constant_named (codes "v") (bit_vector 8) ∷ constant_named (codes "u") (free_sort (codes "U"))
-      ∷ constant_named (codes "m") (array int bool) ∷ function_named (codes "f") (int ∷ bool ∷ []) int ∷ [] }
+  sorts = codes "U" ∷ [];
+  symbols = constant_named (codes "x") int ∷ constant_named (codes "v") (bit_vector 8) ∷ constant_named (codes "u") (free_sort (codes "U"))
+      ∷ constant_named (codes "m") (array int bool) ∷ function_named (codes "f") (int ∷ bool ∷ []) int ∷ [];
+}
 
 abbrev tokens : Cases
 tokens =

@@ -42,19 +42,24 @@ unfolding operator_form is_syntax_word is_command_word op_eq
 of_shared = refl
 
 -- a quantifier is one of the subterms, and what stands in it is named anew
+abbrev beside_quantifier : Term
+beside_quantifier =
+    of_three And (of_two Or p a) (binds universal (codes "x") bool (of_two Xor (of_two Or p a) (of_two Or x (of_two Or p a)))) (of_two Or p a)
+
+abbrev quantifier_in_quantifier : Term
+quantifier_in_quantifier = binds universal (codes "x") bool (binds existential (codes "y") bool (of_two And x y))
+
+abbrev all_x : Term
+all_x = binds universal (codes "x") bool x
+
+abbrev all_y : Term
+all_y = binds universal (codes "y") bool y
+
 abbrev quantified : Cases
-quantified = (
-  of_three And (of_two Or p a) (binds universal (codes "x") bool (of_two Xor (of_two Or p a) (of_two Or x (of_two Or p a)))) (of_two Or p a),
-  codes "(let ((.def_0 (or p a))) (let ((.def_1 (forall ((x Bool)) (let ((.def_0 (or p a))) (let ((.def_1 (or x .def_0))) (let ((.def_2 (xor .def_0 .def_1))) .def_2)))))) (let ((.def_2 (and .def_0 .def_1 .def_0))) .def_2)))",
-)
-    ∷ (
-      binds universal (codes "x") bool (binds existential (codes "y") bool (of_two And x y)),
-      codes "(let ((.def_0 (forall ((x Bool)) (let ((.def_0 (exists ((y Bool)) (let ((.def_0 (and x y))) .def_0)))) .def_0)))) .def_0)",
-    )
-    ∷ (
-      of_two Or (binds universal (codes "x") bool x) (of_two Or (binds universal (codes "y") bool y) (binds universal (codes "x") bool x)),
-      codes "(let ((.def_0 (forall ((x Bool)) x))) (let ((.def_1 (forall ((y Bool)) y))) (let ((.def_2 (or .def_1 .def_0))) (let ((.def_3 (or .def_0 .def_2))) .def_3))))",
-    )
+quantified =
+    (beside_quantifier, codes "(let ((.def_0 (or p a))) (let ((.def_1 (forall ((x Bool)) (let ((.def_0 (or p a))) (let ((.def_1 (or x .def_0))) (let ((.def_2 (xor .def_0 .def_1))) .def_2)))))) (let ((.def_2 (and .def_0 .def_1 .def_0))) .def_2)))")
+    ∷ (quantifier_in_quantifier, codes "(let ((.def_0 (forall ((x Bool)) (let ((.def_0 (exists ((y Bool)) (let ((.def_0 (and x y))) .def_0)))) .def_0)))) .def_0)")
+    ∷ (of_two Or all_x (of_two Or all_y all_x), codes "(let ((.def_0 (forall ((x Bool)) x))) (let ((.def_1 (forall ((y Bool)) y))) (let ((.def_2 (or .def_1 .def_0))) (let ((.def_3 (or .def_0 .def_2))) .def_3))))")
     ∷ []
 
 of_quantified : printed Dag quantified ≡ wanted quantified
