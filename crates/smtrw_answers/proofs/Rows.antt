@@ -3,3 +3,4 @@ mod Words
 mod Lines
 mod Outputs
 mod Rewritten
+mod Carrying

@@ -10,8 +10,7 @@ use Rattle.script_read.specs.Mean.{Denoted, mean, meaning}
 use Rattle.script_read.specs.Scenes.{Asserted, forms_script, holds}
 use Rattle.passes.specs.declared.names.Pass.{Pass}
 use Rattle.passes.specs.Lists.{makes_groups}
-use Rattle.passes.specs.Carry.{back, forth}
-use Rattle.smtrw_answers.specs.Outputs.{commands, names_left}
+use Rattle.smtrw_answers.specs.Carrying.{translated, extended}
 
 -- ---- texts at their points
 
@@ -24,14 +23,6 @@ signature_at b k = signature (forms_script b) k
 
 abbrev pub IsModelAt : List ℕ → ℕ → Model → Type 0
 IsModelAt b k m = IsModelOver (signature_at b k).sorts (signature_at b k).symbols m
-
--- ---- models carried over the passes on a text
-
-abbrev pub translated : List ℕ → List Pass → ℕ → Model → Model
-translated b ps k m = back ps (commands b) (names_left b) k m
-
-abbrev pub extended : List ℕ → List Pass → ℕ → Model → Model
-extended b ps k m = forth ps (commands b) (names_left b) k m
 
 -- ---- equivalence
 

@@ -1,4 +1,5 @@
 pub mod Words
 pub mod Answers
 pub mod Outputs
+pub mod Carrying
 pub mod Headline

@@ -1,10 +1,11 @@
 -- What the commands write: a script rewritten, the numbers of a script, and the line of the demonstration.
-use Rattle.std.specs.Prelude.{ℕ, zero, suc, ◌+◌, ◌*◌, ◌-◌, ◌/◌, ◌%◌, ◌^◌, ◌==◌, Bool, true, false, nat_lt, if◌then◌else◌, List, [], ◌∷◌, ◌++◌, map, flat_map, length, count_by, codes, Result, Ok, Err}
+use Rattle.std.specs.Prelude.{◌≡◌, ℕ, zero, suc, ◌+◌, ◌*◌, ◌-◌, ◌/◌, ◌%◌, ◌^◌, ◌==◌, Bool, true, false, nat_lt, if◌then◌else◌, List, [], ◌∷◌, ◌++◌, map, flat_map, length, count_by, codes, Result, Ok, Err}
 use Rattle.smt_lex.specs.Lex.{Fault}
 use Rattle.smt_lex.specs.Forms.{Forms, forms_to_exit, list as list_of_forms}
 use Rattle.smt_terms.specs.Fresh.{Supply}
 use Rattle.smt_terms.specs.Groups.{with_new}
 use Rattle.smt_terms.specs.Numeral.{numeral}
+use Rattle.smt_terms.specs.Sorts.{Name}
 use Rattle.smt_terms.specs.Term.{Term, apply, quantified, Terms, none, ◌⨾◌, variable}
 use Rattle.script_read.specs.Refusals.{Unaccepted}
 use Rattle.script_read.specs.Commands.{Command, declare, assert, checks}
@@ -15,6 +16,7 @@ use Rattle.smt_print.specs.Text.{lines}
 use Rattle.passes.specs.declared.names.Pass.{Pass}
 use Rattle.passes.specs.declared.names.Pass.TheVariants.{Nnf, Simplify, Cnf}
 use Rattle.passes.specs.Passed.{passed}
+use Rattle.passes.specs.Led.{Leads}
 
 -- ---- a text rewritten
 
@@ -29,12 +31,17 @@ commands b = (read_or_none (script b)).0
 abbrev pub names_left : List ℕ → Supply
 names_left b = (read_or_none (script b)).1
 
--- the commands of a text behind the passes
+-- the commands of a text behind the passes, where stored rules count as changing nothing, and what is written of them
 abbrev pub rewritten_commands : List ℕ → List Pass → List (Command Term)
 rewritten_commands b ps = (passed ps (commands b) (names_left b)).0
 
 abbrev pub rewritten : List ℕ → List Pass → Layout → List ℕ
 rewritten b ps layout = lines layout (rewritten_commands b ps)
+
+-- what may be written by any passes, with stored rules of these names
+abbrev pub MayBeWritten : List ℕ → List Pass → List Name → Layout → List ℕ → Type 0
+MayBeWritten b ps rules layout w =
+    (cs : List (Command Term)) × Leads ps (commands b) (names_left b) rules cs × (w ≡ lines layout cs)
 
 -- ---- the numbers of a script
 
