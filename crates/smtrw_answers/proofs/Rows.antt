@@ -4,3 +4,4 @@ mod Lines
 mod Outputs
 mod Rewritten
 mod Carrying
+mod Headline
