@@ -3,3 +3,4 @@ mod Given
 mod Lists
 mod Scripts
 mod Carried
+mod Led

@@ -4,7 +4,7 @@
 use Rattle.std.specs.Prelude.{ℕ, ◌-◌, ◌^◌, ◌==◌, max, min, Bool, true, false, not, cond, nat_lt, List, [], ◌∷◌, ◌++◌, map, filter, flat_map, Option, Some, None}
 use Rattle.std.specs.List.{list_any}
 use Rattle.smt_terms.specs.Sorts.{Sort, Symbol}
-use Rattle.smt_terms.specs.Term.{Head, op, symbol, const_array, Term, apply, quantified, Terms, none, list, constant}
+use Rattle.smt_terms.specs.Term.{Head, op, symbol, const_array, Term, apply, quantified, list, constant}
 use Rattle.smt_terms.specs.Equal.{symbol_eq}
 use Rattle.smt_terms.specs.Free.{is_among}
 use Rattle.smt_terms.specs.Fresh.{Supply}
@@ -63,8 +63,8 @@ applies f (const_array s) = false
 abbrev pub application_row : Model → Named → Symbol → Symbol → Term → List Row
 application_row m ns f v (apply h ts) =
     cond (applies f h)
-      (record { keys = vals m (with_constants_each ns ts) no_variables; result = val m (constant v) no_variables } ∷ [])
-      []
+    (record { keys = vals m (with_constants_each ns ts) no_variables; result = val m (constant v) no_variables } ∷ [])
+    []
 application_row m ns f v (quantified q xs t) = []
 
 -- the rows with one more, unless its keys are there already
@@ -94,8 +94,8 @@ live_functions cs k = filter has_arguments (signature cs k).symbols
 abbrev pub back_over : Pass → List (Command Term) → Supply → ℕ → Model → Model
 back_over Ackermann cs s k m =
     with_graphs m
-      (graph_applied (live_functions cs k) (application_graph m (live_symbols Ackermann cs s k))
-        (graph_dropped (new_symbols Ackermann cs s) m.graphs))
+    (graph_applied (live_functions cs k) (application_graph m (live_symbols Ackermann cs s k))
+    (graph_dropped (new_symbols Ackermann cs s) m.graphs))
 back_over p cs s k m = with_graphs m (graph_dropped (new_symbols p cs s) m.graphs)
 
 -- over a list of passes, before which these commands stand with these names
@@ -127,7 +127,7 @@ graph_given m None false f other = other
 abbrev pub forth_over : Pass → List (Command Term) → Supply → ℕ → Model → Model
 forth_over p cs s k m =
     with_graphs m
-      (λ f. graph_given m (term_for (live_symbols p cs s k) f) (is_among (declared_new p cs s k) f) f (graph_kept p m.graphs f))
+    (λ f. graph_given m (term_for (live_symbols p cs s k) f) (is_among (declared_new p cs s k) f) f (graph_kept p m.graphs f))
 
 abbrev pub forth : List Pass → List (Command Term) → Supply → ℕ → Model → Model
 forth [] cs s k m = m

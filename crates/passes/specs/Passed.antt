@@ -2,7 +2,7 @@
 -- place of each: the declarations of its new symbols in the order in which they were drawn, and then its assertions, which
 -- keep the number of the one that they replace. An equivalence pass puts one assertion there and declares nothing. Other
 -- commands stay, but the removal of applications takes the declarations of functions with arguments away.
-use Rattle.std.specs.Prelude.{ℕ, min, Bool, true, false, cond, List, [], ◌∷◌, ◌++◌, map, flat_map, Option, Some, None}
+use Rattle.std.specs.Prelude.{ℕ, min, cond, List, [], ◌∷◌, ◌++◌, map, flat_map, Option, Some, None}
 use Rattle.std.specs.List.{reduce}
 use Rattle.smt_terms.specs.Sorts.{Sort}
 use Rattle.smt_terms.specs.Term.{Term}
@@ -17,7 +17,7 @@ use Rattle.array_forms.specs.Reads.{reads}
 use Rattle.ite_free.specs.Ite.{ite}
 use Rattle.cnf_polarity.specs.Cnf.{cnf}
 use Rattle.ackermann.specs.Ackermann.{Levels, one_level, pushed, popped, Acked, ack, has_quantified_use}
-use Rattle.script_read.specs.Commands.{Command, with_asserted, declare, assert, check_assuming, push, pop, reset, reset_assertions}
+use Rattle.script_read.specs.Commands.{Command, with_asserted, declare, assert, push, pop, reset, reset_assertions}
 use Rattle.passes.specs.declared.names.Pass.{Pass}
 use Rattle.passes.specs.declared.names.Pass.TheVariants.{Simplify, Nnf, Aig, Prenex, Reads, Shannon, SelfSub, Rules, Ite, Cnf, Ackermann}
 

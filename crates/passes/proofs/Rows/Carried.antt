@@ -1,7 +1,7 @@
 -- Worked rows of models carried over passes.
-use Rattle.std.specs.Prelude.{◌≡◌, ℕ, ◌^◌, ◌-◌, true, false, cond, List, [], ◌∷◌, pos, codes, Option, Some, None, refl}
+use Rattle.std.specs.Prelude.{◌≡◌, ℕ, ◌^◌, ◌-◌, true, false, cond, List, [], ◌∷◌, pos, Option, Some, None, refl}
 use Rattle.smt_terms.specs.declared.op.Op.TheVariants.{Mul}
-use Rattle.smt_terms.specs.Sorts.{Sort, int, bool, bit_vector, Symbol}
+use Rattle.smt_terms.specs.Sorts.{int, bit_vector, Symbol}
 use Rattle.smt_terms.specs.Term.{op, Term, apply, none, ◌⨾◌, constant}
 use Rattle.smt_terms.specs.BitVectors.{nat2bv}
 use Rattle.smt_terms.specs.Connectives.{operator_kind, negated, both, either, equal}
@@ -10,14 +10,14 @@ use Rattle.smt_terms.specs.Equal.{op_eq, symbol_eq}
 use Rattle.smt_terms.specs.Operators.{op_value}
 use Rattle.smt_terms.specs.Rank.{rank}
 use Rattle.smt_terms.specs.Shapes.{is_ite_operator}
-use Rattle.smt_terms.specs.Values.{Value, truth, whole, bits, element, table, no_pairs, pair, Sizes}
+use Rattle.smt_terms.specs.Values.{Value, truth, whole, bits, element, table, no_pairs, pair}
 use Rattle.smt_terms.specs.Models.{Row, Graph, NumberGraph, Model}
 use Rattle.smt_terms.proofs.Written.{named, flag, function, call, for_all, ite, supply, whole as whole_term}
 use Rattle.simplify.specs.Simplify.{law}
 use Rattle.script_read.specs.Commands.{declare, assert, check}
 use Rattle.passes.specs.declared.names.Pass.TheVariants.{Simplify, Nnf, Ite, Cnf, Ackermann}
-use Rattle.passes.specs.Carry.{constant_graph, back, forth, back_stages, forth_stages, asked_back, asked_forth, too_wide, bits_of_assertion, beyond}
-use Rattle.passes.proofs.Rows.Given.{Commands, a, b, f, over_arrays, array_names, u, x, y, h, of, nested, nested_names, byte, p, v, w, choice, choice_names, g, levels, level_names, outliving, outliving_names}
+use Rattle.passes.specs.Carry.{constant_graph, back, forth, back_stages, forth_stages, too_wide, bits_of_assertion, beyond}
+use Rattle.passes.proofs.Rows.Given.{Commands, a, b, f, over_arrays, array_names, u, x, y, h, nested, nested_names, byte, p, v, w, choice, choice_names, g, levels, level_names, outliving, outliving_names}
 
 -- ---- models
 

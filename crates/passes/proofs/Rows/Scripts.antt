@@ -1,8 +1,8 @@
 -- Worked rows of scripts behind passes.
-use Rattle.std.specs.Prelude.{◌≡◌, true, List, [], ◌∷◌, codes, Some, None, refl}
+use Rattle.std.specs.Prelude.{◌≡◌, true, [], ◌∷◌, codes, Some, None, refl}
 use Rattle.smt_terms.specs.Sorts.{bool, int, Symbol}
 use Rattle.smt_terms.specs.Term.{Term, constant}
-use Rattle.smt_terms.specs.Connectives.{operator_kind, negated, both, either, implies, equal, any_of}
+use Rattle.smt_terms.specs.Connectives.{operator_kind, negated, either, implies, equal, any_of}
 use Rattle.smt_terms.specs.Constants.{literal_value}
 use Rattle.smt_terms.specs.Equal.{op_eq}
 use Rattle.smt_terms.specs.Operators.{op_value}
@@ -10,10 +10,10 @@ use Rattle.smt_terms.specs.Rank.{rank}
 use Rattle.smt_terms.specs.Shapes.{is_ite_operator}
 use Rattle.smt_terms.proofs.Written.{named, flag, function, call, for_all, distinct, whole, supply}
 use Rattle.simplify.specs.Simplify.{law}
-use Rattle.script_read.specs.Commands.{Command, passed as passed_on, declare_sort, declare, assert, check, check_assuming, push, pop, globals, exit}
+use Rattle.script_read.specs.Commands.{passed as passed_on, declare_sort, declare, assert, check, check_assuming, push, pop, globals, exit}
 use Rattle.passes.specs.declared.names.Pass.TheVariants.{Simplify, Nnf, Rules, Ite, Cnf, Ackermann}
 use Rattle.passes.specs.Passed.{passed, refused_assertion}
-use Rattle.passes.proofs.Rows.Given.{Commands, a, b, f, over_arrays, array_names, u, x, y, of, nested, nested_names, A, B, C, D, formulas, formula_names, byte, p, v, w, three, below, chosen, source_text, logic_text, choice, choice_names, g, at, levels, level_names, outliving, outliving_names}
+use Rattle.passes.proofs.Rows.Given.{Commands, a, b, over_arrays, array_names, u, x, y, nested, nested_names, A, B, C, D, formulas, formula_names, byte, p, v, w, three, below, source_text, logic_text, choice, choice_names, levels, level_names, outliving, outliving_names}
 
 abbrev clause : Term → Term → Term → Term
 clause k l m = any_of (k ∷ l ∷ m ∷ [])
