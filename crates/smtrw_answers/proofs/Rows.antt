@@ -5,3 +5,4 @@ mod Outputs
 mod Rewritten
 mod Carrying
 mod Headline
+mod Endings
