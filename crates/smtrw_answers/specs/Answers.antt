@@ -1,9 +1,7 @@
 -- The line that the program writes to its error output where it doesn't end well.
-use Rattle.std.specs.Prelude.{ℕ, ◌==◌, ◌-◌, nat_eq, if◌then◌else◌, List, [], ◌∷◌, ◌++◌, codes, slice_get, unwrap_or, Option, Some, None}
+use Rattle.std.specs.Prelude.{ℕ, ◌==◌, ◌-◌, if◌then◌else◌, List, [], ◌∷◌, ◌++◌, codes, slice_get, unwrap_or}
 use Rattle.smt_lex.specs.Lexicon.{line_feed}
 use Rattle.smt_terms.specs.Numeral.{numeral}
-use Rattle.smtrw_answers.specs.declared.status.Refusal.{Refusal}
-use Rattle.smtrw_answers.specs.declared.status.Usage.{Usage as UsageFault}
 use Rattle.smtrw_answers.specs.declared.status.Why.{Why}
 use Rattle.smtrw_answers.specs.declared.status.Why.TheVariants.{Missing, UnknownCommand, BadOption, Repeated, BadValue, BadPass, AfterRules, Extra, TwoInputs, NoSuchCheck}
 use Rattle.smtrw_answers.specs.declared.status.Status.{Status}

@@ -1,7 +1,7 @@
 -- How a run ends by its texts alone, where no device fails and memory is there: the first of these refusals, in this order,
 -- or well. The script is read before the check's number is looked at, then come the passes, then the model's text, and last
 -- the terms that have to be evaluated.
-use Rattle.std.specs.Prelude.{ℕ, nat_lt, if◌then◌else◌, List, [], length, Result, Ok, Err, Option, Some, None, option_map}
+use Rattle.std.specs.Prelude.{ℕ, nat_lt, if◌then◌else◌, List, length, Result, Ok, Err, Option, Some, None, option_map}
 use Rattle.smt_lex.specs.Lex.{Fault, bad_byte, bad_token, open_text, unbalanced}
 use Rattle.smt_terms.specs.Models.{Model}
 use Rattle.script_read.specs.Refusals.{code_of, Unaccepted, unread, refused}
@@ -80,16 +80,16 @@ rewrite_end b ps = or_later (script_end b) (passes_end b ps)
 abbrev pub translate_end : List ℕ → List Pass → ℕ → List ℕ → Option Status
 translate_end b ps k g =
     or_later (script_end b)
-      (or_later (check_end b k)
-        (or_later (passes_end b ps)
-          (text_end g (model_end (back_stages ps (commands b) (names_left b) k) (model_of g (signature_behind b ps k))))))
+    (or_later (check_end b k)
+    (or_later (passes_end b ps)
+    (text_end g (model_end (back_stages ps (commands b) (names_left b) k) (model_of g (signature_behind b ps k))))))
 
 abbrev pub extend_end : List ℕ → List Pass → ℕ → List ℕ → Option Status
 extend_end b ps k g =
     or_later (script_end b)
-      (or_later (check_end b k)
-        (or_later (passes_end b ps)
-          (text_end g (model_end (forth_stages ps (commands b) (names_left b) k) (model_of g (signature_before b k))))))
+    (or_later (check_end b k)
+    (or_later (passes_end b ps)
+    (text_end g (model_end (forth_stages ps (commands b) (names_left b) k) (model_of g (signature_before b k))))))
 
 abbrev pub stats_end : List ℕ → Option Status
 stats_end b = script_end b

@@ -1,9 +1,8 @@
 -- What rewriting keeps: the sentence that the program is for. Both texts mean what their forms mean (SMT-LIB 2.6, section
 -- 5.3); nothing here knows of nodes, of definitions put in place of their names, or of names drawn anew.
-use Rattle.std.specs.Prelude.{◌≡◌, ◌≤◌, ℕ, Bool, not, List, [], ◌∷◌, length, Option, None, IsTrue}
-use Rattle.std.specs.List.{list_any, list_all}
+use Rattle.std.specs.Prelude.{◌≡◌, ◌≤◌, ℕ, Bool, not, List, [], ◌∷◌, length, None, IsTrue}
+use Rattle.std.specs.List.{list_any}
 use Rattle.smt_terms.specs.Models.{Model, IsModelOver}
-use Rattle.script_read.specs.Refusals.{Unaccepted}
 use Rattle.script_read.specs.Commands.{Signature, points, kinds, live, signature}
 use Rattle.script_read.specs.Script.{fault}
 use Rattle.script_read.specs.Mean.{Denoted, mean, meaning}

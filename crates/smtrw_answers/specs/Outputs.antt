@@ -1,5 +1,5 @@
 -- What the commands write: a script rewritten, the numbers of a script, and the line of the demonstration.
-use Rattle.std.specs.Prelude.{◌≡◌, ℕ, zero, suc, ◌+◌, ◌*◌, ◌-◌, ◌/◌, ◌%◌, ◌^◌, ◌==◌, Bool, true, false, nat_lt, if◌then◌else◌, List, [], ◌∷◌, ◌++◌, map, flat_map, length, count_by, codes, Result, Ok, Err}
+use Rattle.std.specs.Prelude.{◌≡◌, ℕ, zero, suc, ◌+◌, ◌*◌, ◌-◌, ◌/◌, ◌%◌, ◌^◌, Bool, true, false, nat_lt, if◌then◌else◌, List, [], ◌∷◌, ◌++◌, map, flat_map, length, count_by, codes, Result, Ok, Err}
 use Rattle.smt_lex.specs.Lex.{Fault}
 use Rattle.smt_lex.specs.Forms.{Forms, forms_to_exit, list as list_of_forms}
 use Rattle.smt_terms.specs.Fresh.{Supply}

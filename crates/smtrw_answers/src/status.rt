@@ -85,9 +85,16 @@ impl Status {
             Status::ReadFailed { word: _ } => 3,
             Status::WriteFailed => 4,
             Status::OutOfMemory => 5,
-            Status::ModelRefused { code: _, line: _, byte: _ } => 6,
+            Status::ModelRefused {
+                code: _,
+                line: _,
+                byte: _,
+            } => 6,
             Status::Beyond128 { assertion: _ } => 7,
-            Status::PassRefused { code: _, assertion: _ } => 8,
+            Status::PassRefused {
+                code: _,
+                assertion: _,
+            } => 8,
         }
     }
 }

@@ -1,6 +1,6 @@
 -- What the sentence on rewriting lets through, and what it doesn't: a text is a rewriting of itself by no passes, and one that
 -- asserts `false` is none of one that asserts `true`.
-use Rattle.std.specs.Prelude.{◌≡◌, ℕ, Bool, true, false, List, [], ◌∷◌, pos, codes, None, IsTrue, refl}
+use Rattle.std.specs.Prelude.{◌≡◌, ℕ, true, false, List, [], ◌∷◌, pos, codes, None, refl}
 use Rattle.std.proofs.Common.{arith}
 use Rattle.smt_lex.specs.Names.{is_syntax_word, is_command_word, is_theory_name, is_theory_sort, is_reserved_for_declaring, is_reserved_for_let, is_reserved_for_sorts}
 use Rattle.smt_terms.specs.Operators.{op_value}

@@ -1,8 +1,8 @@
 -- Worked rows of the program's words.
 use Prim.Native.String.{String}
-use Rattle.std.specs.Prelude.{◌≡◌, ℕ, List, [], ◌∷◌, ◌++◌, map, replicate, codes, Result, Ok, Err, refl}
+use Rattle.std.specs.Prelude.{◌≡◌, ℕ, List, [], ◌∷◌, map, codes, Result, Ok, Err, refl}
 use Rattle.smt_print.specs.declared.layout.Layout.TheVariants.{Tree, Dag}
-use Rattle.passes.specs.declared.names.Pass.TheVariants.{Nnf, Simplify, Rules, Ite, Cnf, Ackermann}
+use Rattle.passes.specs.declared.names.Pass.TheVariants.{Nnf, Simplify, Rules, Ite, Cnf}
 use Rattle.passes.specs.Lists.{pass_named}
 use Rattle.smtrw_answers.specs.declared.status.Usage.{Usage}
 use Rattle.smtrw_answers.specs.declared.status.Why.{Why}
