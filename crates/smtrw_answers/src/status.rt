@@ -82,19 +82,12 @@ impl Status {
             Status::Done => 0,
             Status::Refused(_) => 1,
             Status::Usage(_) => 2,
-            Status::ReadFailed { word: _ } => 3,
+            Status::ReadFailed { .. } => 3,
             Status::WriteFailed => 4,
             Status::OutOfMemory => 5,
-            Status::ModelRefused {
-                code: _,
-                line: _,
-                byte: _,
-            } => 6,
-            Status::Beyond128 { assertion: _ } => 7,
-            Status::PassRefused {
-                code: _,
-                assertion: _,
-            } => 8,
+            Status::ModelRefused { .. } => 6,
+            Status::Beyond128 { .. } => 7,
+            Status::PassRefused { .. } => 8,
         }
     }
 }
