@@ -1,0 +1,4 @@
+pub mod Lists
+pub mod Passed
+pub mod Led
+pub mod Carry

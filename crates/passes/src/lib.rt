@@ -1,3 +1,8 @@
-//! Lists of passes.
+//! Lists of passes over scripts: how a list is written, the script that its passes make of a script, one after the other,
+//! and how models are carried from the one script to the other and back.
 
 #![tactic(auto)]
+
+mod names;
+
+pub use names::{ListFault, Pass};

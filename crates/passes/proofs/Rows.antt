@@ -1,0 +1,6 @@
+-- Worked rows.
+mod Given
+mod Lists
+mod Scripts
+mod Carried
+mod Led

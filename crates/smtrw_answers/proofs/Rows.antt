@@ -1,0 +1,8 @@
+-- Worked rows.
+mod Words
+mod Lines
+mod Outputs
+mod Rewritten
+mod Carrying
+mod Headline
+mod Endings

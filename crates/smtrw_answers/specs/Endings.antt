@@ -1,0 +1,95 @@
+-- How a run ends by its texts alone, where no device fails and memory is there: the first of these refusals, in this order,
+-- or well. The script is read before the check's number is looked at, then come the passes, then the model's text, and last
+-- the terms that have to be evaluated.
+use Rattle.std.specs.Prelude.{ℕ, nat_lt, if◌then◌else◌, List, length, Result, Ok, Err, Option, Some, None, option_map}
+use Rattle.smt_lex.specs.Lex.{Fault, bad_byte, bad_token, open_text, unbalanced}
+use Rattle.smt_terms.specs.Models.{Model}
+use Rattle.script_read.specs.Refusals.{code_of, Unaccepted, unread, refused}
+use Rattle.script_read.specs.Commands.{checks}
+use Rattle.script_read.specs.Script.{fault_place, fault}
+use Rattle.models.specs.Refusals.{Unmodelled, code_of as model_code_of, unread as unread_model, refused as refused_model}
+use Rattle.models.specs.ModelText.{model_of}
+use Rattle.passes.specs.declared.names.Pass.{Pass}
+use Rattle.passes.specs.Passed.{refused_assertion}
+use Rattle.passes.specs.Carry.{Stage, back_stages, forth_stages, too_wide, beyond}
+use Rattle.smtrw_answers.specs.declared.status.Why.TheVariants.{NoSuchCheck}
+use Rattle.smtrw_answers.specs.declared.status.Status.{Status}
+use Rattle.smtrw_answers.specs.declared.status.Status.TheVariants.{Refused, Usage, ModelRefused, Beyond128, PassRefused}
+use Rattle.smtrw_answers.specs.Outputs.{commands, names_left}
+use Rattle.smtrw_answers.specs.Carrying.{signature_before, signature_behind}
+
+abbrev pub or_later : Option Status → Option Status → Option Status
+or_later (Some s) later = Some s
+or_later None later = later
+
+-- ---- the script
+
+abbrev pub longest_text : ℕ
+longest_text = 67108864
+
+abbrev pub fault_code : Fault → ℕ
+fault_code (bad_byte place) = 10
+fault_code (bad_token place) = 11
+fault_code (open_text place) = 12
+fault_code (unbalanced place) = 13
+
+-- a fault of tokens or parentheses is one of no command
+abbrev pub refusal_of : Unaccepted → Status
+refusal_of (unread f line) = Refused (record { code = fault_code f; command = 0; line = line; byte = fault_place f })
+refusal_of (refused r) = Refused (record { code = code_of r.cause; command = r.command; line = r.line; byte = r.byte })
+
+abbrev pub script_end : List ℕ → Option Status
+script_end b =
+    if nat_lt longest_text (length b)
+    then Some (Refused (record { code = 2; command = 0; line = 0; byte = longest_text }))
+    else option_map refusal_of (fault b)
+
+-- ---- the check and the passes
+
+abbrev pub check_end : List ℕ → ℕ → Option Status
+check_end b k =
+    if nat_lt (checks (commands b)) k
+    then Some (Usage (record { word = 0; why = NoSuchCheck k (checks (commands b)) }))
+    else None
+
+abbrev pub passes_end : List ℕ → List Pass → Option Status
+passes_end b ps = option_map (λ i. PassRefused 50 i) (refused_assertion ps (commands b) (names_left b))
+
+-- ---- the model
+
+abbrev pub model_refusal_of : Unmodelled → Status
+model_refusal_of (unread_model f line) = ModelRefused (fault_code f) line (fault_place f)
+model_refusal_of (refused_model r) = ModelRefused (model_code_of r.cause) r.line r.byte
+
+-- too many bits of quantifiers come before whole numbers beyond the range
+abbrev pub stages_end : List Stage → Option Status
+stages_end stages = or_later (option_map (λ i. PassRefused 71 i) (too_wide stages)) (option_map (λ i. Beyond128 i) (beyond stages))
+
+abbrev pub model_end : (Model → List Stage) → Result Model Unmodelled → Option Status
+model_end stages (Ok m) = stages_end (stages m)
+model_end stages (Err u) = Some (model_refusal_of u)
+
+abbrev pub text_end : List ℕ → Option Status → Option Status
+text_end g otherwise = if nat_lt longest_text (length g) then Some (ModelRefused 2 0 longest_text) else otherwise
+
+-- ---- the commands: none of these where the run ends well
+
+abbrev pub rewrite_end : List ℕ → List Pass → Option Status
+rewrite_end b ps = or_later (script_end b) (passes_end b ps)
+
+abbrev pub translate_end : List ℕ → List Pass → ℕ → List ℕ → Option Status
+translate_end b ps k g =
+    or_later (script_end b)
+    (or_later (check_end b k)
+    (or_later (passes_end b ps)
+    (text_end g (model_end (back_stages ps (commands b) (names_left b) k) (model_of g (signature_behind b ps k))))))
+
+abbrev pub extend_end : List ℕ → List Pass → ℕ → List ℕ → Option Status
+extend_end b ps k g =
+    or_later (script_end b)
+    (or_later (check_end b k)
+    (or_later (passes_end b ps)
+    (text_end g (model_end (forth_stages ps (commands b) (names_left b) k) (model_of g (signature_before b k))))))
+
+abbrev pub stats_end : List ℕ → Option Status
+stats_end b = script_end b
