@@ -1,6 +1,10 @@
 -- Statements of the laws of reading.
 use Rattle.std.specs.Prelude.{◌≡◌, ◌↔◌, ℕ, List, map, length, None, Result, Ok, Err, is_ok, IsTrue, ⊤}
-use Rattle.smt_lex.specs.Forms.{Form}
+use Rattle.smt_lex.specs.declared.items.Until.{Until}
+use Rattle.smt_lex.specs.Forms.{Form, tokens_of}
+use Rattle.smt_lex.specs.Lex.{Token, Lexed, IsOneSymbol, lex}
+use Rattle.smt_lex.specs.Names.{Name, IsName, printed_symbol}
+use Rattle.smt_lex.proofs.Joining.{spaced, placed}
 use Rattle.smt_terms.specs.Fresh.{Supply}
 use Rattle.smt_terms.specs.Models.{Model}
 use Rattle.smt_terms.specs.Rank.{sort_of}
@@ -16,6 +20,14 @@ use Rattle.script_read.specs.Reading.{as_local, as_bindings, Sofar}
 use Rattle.script_read.specs.Scenes.{naming, forms_script}
 use Rattle.script_read.specs.Scope.{Binding}
 use Rattle.script_read.specs.Script.{script, fault}
+
+-- a symbol's printed text is read as that one symbol
+abbrev pub PrintedSymbolsAreRead : Type 0
+PrintedSymbolsAreRead = (name : Name) → IsName name → IsOneSymbol (printed_symbol name) name
+
+-- the tokens of a text's forms, written one after the other with a space behind each, are read as the same tokens
+abbrev pub WrittenTokensAreRead : Type 0
+WrittenTokensAreRead = (until : Until) (bytes : List ℕ) (ts : List Token) → tokens_of until bytes ≡ Ok ts → lex (spaced ts) ≡ placed 0 ts
 
 -- what is known after a reading, if it gives something, are these bindings
 abbrev pub LeadsTo : {A : Type 0} → Result (A × Sofar) Refused → List Binding → Type 0

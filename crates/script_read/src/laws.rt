@@ -1,6 +1,13 @@
 //! The laws of reading, each the contract of a function that does nothing.
 
-ghost use Rattle.script_read.specs.Laws.{ReadingNames, SameCommands, PointsAgree, ReadingAnswers, WrittenMeaning};
+ghost use Rattle.script_read.specs.Laws.{PrintedSymbolsAreRead, WrittenTokensAreRead, ReadingNames, SameCommands, PointsAgree, ReadingAnswers, WrittenMeaning};
+
+/// A symbol, as it is printed, is read as that one symbol; and the tokens of a text's forms, written one after the other
+/// with a space behind each, are read as the same tokens.
+pub fn written_tokens_are_read()
+    ensures symbols { PrintedSymbolsAreRead }
+    ensures tokens { WrittenTokensAreRead }
+{}
 
 /// A text is accepted exactly where there is no reason against it.
 pub fn reading_answers()
