@@ -18,7 +18,7 @@ pub mod Made
 pub mod Nodes
 pub mod Numeral
 pub mod Operands
-mod Operators
+pub mod Operators
 mod OverValues
 pub mod Ranked
 pub mod Renaming

@@ -1,2 +1,10 @@
+pub mod Trees
+pub mod Operators
 pub mod Derived
-pub mod Ordered
+pub mod Fits
+pub mod Larger
+pub mod Fields
+pub mod Growth
+pub mod Symbols
+pub mod Ranks
+pub mod Binding

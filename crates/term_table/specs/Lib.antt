@@ -1,2 +1,5 @@
-pub mod Rows
+pub mod Codes
+pub mod Faults
+pub mod Formulas
+pub mod ShapeRank
 pub mod View

@@ -3,7 +3,12 @@
 
 #![tactic(auto)]
 
+pub mod fault;
+pub mod lists;
+pub mod rank;
 pub mod table;
 
+pub use fault::RankFault;
+pub use lists::{Bytes, Nodes, Syms};
 pub use smt_terms::NodeId;
 pub use table::Table;
