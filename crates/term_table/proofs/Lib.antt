@@ -3,6 +3,7 @@ pub mod Operators
 pub mod Derived
 pub mod Fits
 pub mod Larger
+mod Minus
 pub mod Fields
 pub mod Growth
 pub mod Symbols
