@@ -1,5 +1,5 @@
 -- Written operators as the code holds them, and what the operators that they are made of take.
-use Rattle.std.specs.Prelude.{ℕ, Bool, true, false, ◌&&◌, nat_le, List, [], ◌∷◌, map, Option, Some, None}
+use Rattle.std.specs.Prelude.{ℕ, ◌<◌, ◌^◌, Bool, true, false, ◌&&◌, nat_le, List, [], ◌∷◌, map, Option, Some, None}
 use Rattle.smt_terms.specs.declared.op.Op.{Op}
 use Rattle.smt_terms.specs.declared.op.Op.TheVariants.{Extract, ZeroExt, SignExt}
 use Rattle.smt_terms.specs.Sorts.{Name, bool}
@@ -96,3 +96,8 @@ is_apt _ = true
 abbrev pub is_apt_at : Indexed → Bool
 is_apt_at (without_index w) = is_apt w
 is_apt_at _ = true
+
+-- an index is no greater than a numeral may be
+abbrev pub IsIndexed : Held → Type 0
+IsIndexed (Divisibility n) = n < 2 ^ 127
+IsIndexed _ = Unit {0}

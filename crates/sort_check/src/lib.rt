@@ -5,7 +5,15 @@
 
 #![tactic(auto)]
 
+mod alike;
+mod chains;
 pub mod fault;
+mod folds;
+pub mod making;
+pub mod operators;
+mod vectors;
 mod written;
 
 pub use fault::MakeFault;
+pub use making::make;
+pub use operators::make_form;

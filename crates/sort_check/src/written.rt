@@ -1,8 +1,8 @@
 //! The written operators by their names and indices.
 
-ghost use Rattle.std.specs.Prelude.{◌≡◌, map, IsSome, IsTrue, Some};
+ghost use Rattle.std.specs.Prelude.{◌≡◌, ◌<◌, ◌^◌, All, map, IsSome, IsTrue, Some};
 ghost use Rattle.smt_terms.specs.Written.{operator_named, named_in, at_indices, written_named};
-ghost use Rattle.sort_check.specs.Forms.{form_seen, found, written_seen, is_apt, is_apt_at};
+ghost use Rattle.sort_check.specs.Forms.{form_seen, found, written_seen, is_apt, is_apt_at, IsIndexed};
 
 use crate::written::Form::{
     Divisible, Extract, Repeat, RotateLeft, RotateRight, SignExtend, WithoutIndex, ZeroExtend,
@@ -144,9 +144,11 @@ fn form_named(name: &[u8]) -> Option<Form>
 #[tactic(auto, unfolding(crate::specs::Forms::is_apt, crate::specs::Forms::is_theory, smt_terms::specs::Rank::shape))]
 fn at_indices(form: Form, indices: &[u128]) -> Written
     requires number { IsSome (at_indices (form_seen form) indices.now) }
+    requires indices { All (λ i. i < 2 ^ 127) indices.now }
     requires apt { IsTrue (is_apt_at (form_seen form)) }
     ensures named { at_indices (form_seen form) indices.now ≡ Some (written_seen result) }
     ensures apt { IsTrue (is_apt (written_seen result)) }
+    ensures indices { IsIndexed result }
 {
     match form {
         WithoutIndex(written) => written,
@@ -165,9 +167,11 @@ fn at_indices(form: Form, indices: &[u128]) -> Written
 
 /// The written operator of this name and these indices. It takes no memory.
 pub fn written_named(name: &[u8], indices: &[u128]) -> Written
-    requires { IsSome (written_named name.now indices.now) }
+    requires named { IsSome (written_named name.now indices.now) }
+    requires indices { All (λ i. i < 2 ^ 127) indices.now }
     ensures named { written_named name.now indices.now ≡ Some (written_seen result) }
     ensures apt { IsTrue (is_apt (written_seen result)) }
+    ensures indices { IsIndexed result }
 {
     let form = form_named(name).unwrap();
     at_indices(form, indices)
