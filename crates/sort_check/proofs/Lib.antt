@@ -4,3 +4,6 @@ pub mod Growing
 pub mod Names
 pub mod Nodes
 pub mod Pairs
+pub mod Passing
+pub mod Theory
+pub mod Widths

@@ -1,17 +1,17 @@
 -- Written operators as the code holds them, and what the operators that they are made of take.
-use Rattle.std.specs.Prelude.{ℕ, ◌<◌, ◌^◌, Bool, true, false, ◌&&◌, nat_le, List, [], ◌∷◌, map, Option, Some, None}
+use Rattle.std.specs.Prelude.{ℕ, ◌^◌, nat_lt, Bool, true, false, ◌&&◌, nat_le, List, [], ◌∷◌, map, Option, Some, None}
 use Rattle.smt_terms.specs.declared.op.Op.{Op}
 use Rattle.smt_terms.specs.declared.op.Op.TheVariants.{Extract, ZeroExt, SignExt}
 use Rattle.smt_terms.specs.Sorts.{Name, bool}
 use Rattle.smt_terms.specs.Equal.{sort_eq}
 use Rattle.smt_terms.specs.Rank.{Shape, fixed, several, equation, bitwise_pair, bits_comparison, no_head, shape, width, most_bits}
 use Rattle.smt_terms.specs.Written.{Written, plain, over_all, left_associative, right_associative, chainable, chainable_exchanged, exchanged, complemented, subtraction, divisibility, repetition, left_rotation, right_rotation, Indexed, without_index, with_index, with_indices}
-use Rattle.sort_check.specs.declared.written.Written.{Written as Held}
-use Rattle.sort_check.specs.declared.written.Written.TheVariants.{Plain, OverAll, LeftAssociative, RightAssociative, Chainable, ChainableExchanged, Exchanged, Complemented, Subtraction, Divisibility, Repetition, LeftRotation, RightRotation, ZeroExtension, SignExtension, Extraction}
+use Rattle.sort_check.specs.declared.written.Operator.{Operator}
+use Rattle.sort_check.specs.declared.written.Operator.TheVariants.{Plain, OverAll, LeftAssociative, RightAssociative, Chainable, ChainableExchanged, Exchanged, Complemented, Subtraction, Divisibility, Repetition, LeftRotation, RightRotation, ZeroExtension, SignExtension, Extraction}
 use Rattle.sort_check.specs.declared.written.Form.{Form}
 use Rattle.sort_check.specs.declared.written.Form.TheVariants.{WithoutIndex, Divisible, Repeat, RotateLeft, RotateRight, ZeroExtend, SignExtend, Extract as ExtractForm}
 
-abbrev pub written_seen : Held → Written
+abbrev pub written_seen : Operator → Written
 written_seen (Plain o) = plain o
 written_seen (OverAll o) = over_all o
 written_seen (LeftAssociative o) = left_associative o
@@ -80,7 +80,7 @@ abbrev pub is_bitwise_pair : Shape → Bool
 is_bitwise_pair bitwise_pair = true
 is_bitwise_pair _ = false
 
--- the operator takes what the written operator gives it
+-- the operator takes what the written operator gives it, and a number is no greater than a numeral may be
 unfoldable pub is_apt : Written → Bool
 unfolding shape is_theory
 is_apt (plain o) = is_theory (shape o)
@@ -91,13 +91,9 @@ is_apt (chainable o) = is_link (shape o)
 is_apt (chainable_exchanged o) = is_link (shape o)
 is_apt (exchanged o) = is_link (shape o)
 is_apt (complemented o) = is_bitwise_pair (shape o)
+is_apt (divisibility n) = nat_lt n (2 ^ 127)
 is_apt _ = true
 
 abbrev pub is_apt_at : Indexed → Bool
 is_apt_at (without_index w) = is_apt w
 is_apt_at _ = true
-
--- an index is no greater than a numeral may be
-abbrev pub IsIndexed : Held → Type 0
-IsIndexed (Divisibility n) = n < 2 ^ 127
-IsIndexed _ = Unit {0}

@@ -5,7 +5,7 @@ ghost use Rattle.smt_terms.specs.Rank.{shape};
 ghost use Rattle.smt_terms.specs.Written.{Written, plain, over_all, subtraction, divisibility, whole_in, written_named, written_rank, build};
 ghost use Rattle.term_table.specs.Formulas.{tree, trees_at, AreNodes, IsNode, Grows};
 ghost use Rattle.term_table.specs.ShapeRank.{kid_sorts};
-ghost use Rattle.sort_check.specs.Forms.{written_seen, is_apt, is_several, is_theory, IsIndexed};
+ghost use Rattle.sort_check.specs.Forms.{written_seen, is_apt, is_several, is_theory};
 ghost use Rattle.sort_check.specs.Making.{term_algebra, FollowsRank, OnRefusal, Extends, Builds};
 
 use crate::chains::{chain, exchanged};
@@ -16,7 +16,7 @@ use crate::vectors::{
     complemented, extraction, left_rotation, repetition, right_rotation, sign_extension,
     zero_extension,
 };
-use crate::written::{Written, written_named};
+use crate::written::{Operator, written_named};
 use smt_terms::{NodeId, Op};
 use std::alloc::{AllocError, Global};
 use term_table::{RankFault, Table};
@@ -48,31 +48,30 @@ pub fn make_form(
 fn build(
     alloc: Global,
     table: &mut Table,
-    written: Written,
+    operator: Operator,
     kids: &[NodeId],
 ) -> Result<NodeId, MakeFault>
-    requires apt { IsTrue (is_apt (written_seen written)) }
-    requires indices { IsIndexed written }
+    requires apt { IsTrue (is_apt (written_seen operator)) }
     requires kids { AreNodes table.old kids.now }
-    ensures { Builds table.old table.new (written_seen written) kids.now result }
+    ensures { Builds table.old table.new (written_seen operator) kids.now result }
 {
-    match written {
-        Written::Plain(op) => plain(alloc, table, op, kids),
-        Written::OverAll(op) => over_all(alloc, table, op, kids),
-        Written::LeftAssociative(op) => left_associative(table, op, kids),
-        Written::RightAssociative(op) => right_associative(table, op, kids),
-        Written::Chainable(op) => chain(alloc, table, op, false, kids),
-        Written::ChainableExchanged(op) => chain(alloc, table, op, true, kids),
-        Written::Exchanged(op) => exchanged(table, op, kids),
-        Written::Complemented(op) => complemented(alloc, table, op, kids),
-        Written::Subtraction => subtraction(alloc, table, kids),
-        Written::Divisibility(n) => divisibility(table, n, kids),
-        Written::Repetition(count) => repetition(table, count, kids),
-        Written::LeftRotation(by) => left_rotation(alloc, table, by, kids),
-        Written::RightRotation(by) => right_rotation(alloc, table, by, kids),
-        Written::ZeroExtension(by) => zero_extension(alloc, table, by, kids),
-        Written::SignExtension(by) => sign_extension(alloc, table, by, kids),
-        Written::Extraction { high, low } => extraction(alloc, table, high, low, kids),
+    match operator {
+        Operator::Plain(op) => plain(alloc, table, op, kids),
+        Operator::OverAll(op) => over_all(alloc, table, op, kids),
+        Operator::LeftAssociative(op) => left_associative(table, op, kids),
+        Operator::RightAssociative(op) => right_associative(table, op, kids),
+        Operator::Chainable(op) => chain(alloc, table, op, false, kids),
+        Operator::ChainableExchanged(op) => chain(alloc, table, op, true, kids),
+        Operator::Exchanged(op) => exchanged(table, op, kids),
+        Operator::Complemented(op) => complemented(alloc, table, op, kids),
+        Operator::Subtraction => subtraction(alloc, table, kids),
+        Operator::Divisibility(n) => divisibility(table, n, kids),
+        Operator::Repetition(count) => repetition(table, count, kids),
+        Operator::LeftRotation(by) => left_rotation(alloc, table, by, kids),
+        Operator::RightRotation(by) => right_rotation(alloc, table, by, kids),
+        Operator::ZeroExtension(by) => zero_extension(alloc, table, by, kids),
+        Operator::SignExtension(by) => sign_extension(alloc, table, by, kids),
+        Operator::Extraction { high, low } => extraction(alloc, table, high, low, kids),
     }
 }
 
@@ -91,6 +90,7 @@ fn plain(
 }
 
 // The operator over its operands; one operand stands for itself.
+#[tactic(auto, unfolding(term_table::specs::Formulas::kind))]
 fn over_all(
     alloc: Global,
     table: &mut Table,
@@ -108,6 +108,7 @@ fn over_all(
     Ok(kids[0])
 }
 
+#[tactic(auto, unfolding(term_table::specs::Formulas::kind))]
 fn subtraction(
     alloc: Global,
     table: &mut Table,
@@ -123,6 +124,7 @@ fn subtraction(
 }
 
 // Whether what is left of the operand divided by n is 0.
+#[tactic(auto, unfolding(term_table::specs::Formulas::kind))]
 fn divisibility(
     table: &mut Table,
     n: u128,

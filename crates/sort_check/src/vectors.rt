@@ -1,12 +1,14 @@
 //! Operators over bit vectors whose indices the operands' widths bound.
 
-ghost use Rattle.std.specs.Prelude.{◌≡◌, ◌<◌, ◌≤◌, ◌%◌, ◌^◌, ◌-◌, ◌+◌, ◌*◌, ◌∷◌, [], IfOk, IsTrue, min};
+ghost use Rattle.std.specs.Prelude.{◌≡◌, ◌<◌, ◌≤◌, ◌%◌, ◌^◌, ◌-◌, length, IfOk, IsTrue, min};
 ghost use Rattle.smt_terms.specs.declared.op.Op.TheVariants.{Extract, ZeroExt, SignExt};
-ghost use Rattle.smt_terms.specs.Rank.{shape};
+ghost use Rattle.smt_terms.specs.Rank.{shape, width, operand, is_sort};
 ghost use Rattle.smt_terms.specs.Written.{plain, complemented, repetition, left_rotation, right_rotation, copies};
 ghost use Rattle.term_table.specs.Formulas.{tree, AreNodes, IsNode};
+ghost use Rattle.term_table.specs.ShapeRank.{kid_sorts};
 ghost use Rattle.sort_check.specs.Forms.{is_bitwise_pair};
-ghost use Rattle.sort_check.specs.Making.{term_algebra, term_width, Extends, Builds};
+ghost use Rattle.sort_check.specs.Making.{term_algebra, Extends, Builds};
+ghost use Rattle.sort_check.specs.Operands.{width_numbered, Repeats};
 
 use crate::fault::MakeFault;
 use crate::making::{make, pair};
@@ -37,6 +39,7 @@ pub fn complemented(
 }
 
 /// So many copies of the operand behind one another.
+#[tactic(auto, unfolding(term_table::specs::Formulas::kind))]
 pub fn repetition(
     table: &mut Table,
     count: u128,
@@ -45,11 +48,12 @@ pub fn repetition(
     requires { AreNodes table.old kids.now }
     ensures { Builds table.old table.new (repetition count) kids.now result }
 {
+    let width = operand_width(table, kids);
     table.rank(Op::BvNot, kids)?;
     if count == 0 {
         return Err(MakeFault::Rank(RankFault::BadIndex));
     }
-    if count > (MOST_BITS / width(table, kids[0])) as u128 {
+    if count > MOST_BITS as u128 / width as u128 {
         return Err(MakeFault::Rank(RankFault::WidthLimit));
     }
     let node = copies(table, kids[0], count as u64 - 1)?;
@@ -58,9 +62,7 @@ pub fn repetition(
 
 // So many more copies in front of the operand.
 fn copies(table: &mut Table, kid: NodeId, more: u64) -> Result<NodeId, AllocError>
-    requires kid { IsNode table.old kid }
-    requires vector { 0 < term_width (tree table.old kid) }
-    requires narrow { (more + 1) * term_width (tree table.old kid) ≤ 128 }
+    requires { Repeats table.old kid more }
     ensures node { IfOk result (λ k. IsNode table.new k) }
     ensures term { IfOk result (λ k. tree table.new k ≡ copies term_algebra more (tree table.old kid)) }
     ensures extends { Extends table.old table.new }
@@ -73,6 +75,7 @@ fn copies(table: &mut Table, kid: NodeId, more: u64) -> Result<NodeId, AllocErro
 }
 
 /// Rotation to the left.
+#[tactic(auto, unfolding(term_table::specs::Formulas::kind))]
 pub fn left_rotation(
     alloc: Global,
     table: &mut Table,
@@ -82,10 +85,12 @@ pub fn left_rotation(
     requires { AreNodes table.old kids.now }
     ensures { Builds table.old table.new (left_rotation by) kids.now result }
 {
-    make(alloc, table, Op::RotL(reduced(table, by, kids)), kids)
+    let width = operand_width(table, kids);
+    make(alloc, table, Op::RotL(reduced(by, width)), kids)
 }
 
 /// Rotation to the right.
+#[tactic(auto, unfolding(term_table::specs::Formulas::kind))]
 pub fn right_rotation(
     alloc: Global,
     table: &mut Table,
@@ -95,10 +100,12 @@ pub fn right_rotation(
     requires { AreNodes table.old kids.now }
     ensures { Builds table.old table.new (right_rotation by) kids.now result }
 {
-    make(alloc, table, Op::RotR(reduced(table, by, kids)), kids)
+    let width = operand_width(table, kids);
+    make(alloc, table, Op::RotR(reduced(by, width)), kids)
 }
 
 /// Extension by zeros.
+#[tactic(auto, unfolding(term_table::specs::Formulas::kind))]
 pub fn zero_extension(
     alloc: Global,
     table: &mut Table,
@@ -112,6 +119,7 @@ pub fn zero_extension(
 }
 
 /// Extension by copies of the highest bit.
+#[tactic(auto, unfolding(term_table::specs::Formulas::kind))]
 pub fn sign_extension(
     alloc: Global,
     table: &mut Table,
@@ -125,6 +133,7 @@ pub fn sign_extension(
 }
 
 /// The bits between two places.
+#[tactic(auto, unfolding(term_table::specs::Formulas::kind))]
 pub fn extraction(
     alloc: Global,
     table: &mut Table,
@@ -135,45 +144,57 @@ pub fn extraction(
     requires { AreNodes table.old kids.now }
     ensures { Builds table.old table.new (plain (Extract high low)) kids.now result }
 {
+    let width = operand_width(table, kids);
     let op = Op::Extract {
-        high: clamped(high),
-        low: clamped(low),
+        high: within(high, width),
+        low: within(low, width),
     };
     make(alloc, table, op, kids)
 }
 
-// An index, or the greatest that an operator holds, which is out of range as each greater one is.
-fn clamped(index: u128) -> u32
-    ensures { result ≡ min index (2 ^ 32 - 1) }
+// The number of bits to extend by, or the greatest that an operator holds, which is too large as each greater one is.
+fn clamped(by: u128) -> u32
+    ensures { result ≡ min by (2 ^ 32 - 1) }
 {
-    if index > u32::MAX as u128 { u32::MAX } else { index as u32 }
+    if by > u32::MAX as u128 { u32::MAX } else { by as u32 }
 }
 
-// The number modulo the width of the operand, if that is a bit vector.
-fn reduced(table: &Table, by: u128, kids: &[NodeId]) -> u32
-    requires { AreNodes table.now kids.now }
-    ensures { (k : NodeId) → kids.now ≡ k ∷ [] → 0 < term_width (tree table.now k) → result ≡ by % term_width (tree table.now k) }
+// The index, or the width, which is out of range as each greater index is.
+fn within(index: u128, width: u32) -> u32
+    ensures { result ≡ min index width }
 {
-    if kids.len() != 1 {
-        return 0;
-    }
-    let width = width(table, kids[0]);
+    if index > width as u128 { width } else { index as u32 }
+}
+
+// The number modulo the width, if there is one.
+fn reduced(by: u128, width: u32) -> u32
+    ensures { 0 < width → result ≡ by % width }
+{
     if width == 0 {
         return 0;
     }
     (by % width as u128) as u32
 }
 
-// The width of an operand, and 0 for what is no bit vector.
-fn width(table: &Table, kid: NodeId) -> u64
-    requires { IsNode table.now kid }
-    ensures width { result ≡ term_width (tree table.now kid) }
+// The width of the only operand, and 0 where there is none or where it is no bit vector.
+fn operand_width(table: &Table, kids: &[NodeId]) -> u32
+    requires { AreNodes table.now kids.now }
+    ensures width { length kids.now ≡ 1 → result ≡ width (operand 0 (kid_sorts table.now kids.now)) }
+    ensures sort { length kids.now ≡ 1 → IsTrue (is_sort (operand 0 (kid_sorts table.now kids.now))) }
     ensures most { result ≤ 128 }
 {
-    let SortId(number) = table.sort_of(kid);
-    if number > NO_BITS && number <= NO_BITS + MOST_BITS {
-        number - NO_BITS
-    } else {
-        0
+    if kids.len() != 1 {
+        return 0;
     }
+    width(table.sort_of(kids[0]))
+}
+
+// The width of a bit-vector sort, and 0 for another.
+fn width(sort: SortId) -> u32
+    ensures { result ≡ width_numbered sort.0 }
+{
+    if sort.0 <= NO_BITS || sort.0 > NO_BITS + MOST_BITS {
+        return 0;
+    }
+    (sort.0 - NO_BITS) as u32
 }

@@ -2,12 +2,12 @@
 
 ghost use Rattle.std.specs.Prelude.{◌≡◌, ◌<◌, ◌^◌, All, map, IsSome, IsTrue, Some};
 ghost use Rattle.smt_terms.specs.Written.{operator_named, named_in, at_indices, written_named};
-ghost use Rattle.sort_check.specs.Forms.{form_seen, found, written_seen, is_apt, is_apt_at, IsIndexed};
+ghost use Rattle.sort_check.specs.Forms.{form_seen, found, written_seen, is_apt, is_apt_at};
 
 use crate::written::Form::{
     Divisible, Extract, Repeat, RotateLeft, RotateRight, SignExtend, WithoutIndex, ZeroExtend,
 };
-use crate::written::Written::{
+use crate::written::Operator::{
     Chainable, ChainableExchanged, Complemented, Exchanged, LeftAssociative, OverAll, Plain,
     RightAssociative, Subtraction,
 };
@@ -15,7 +15,7 @@ use smt_terms::Op;
 
 /// What a written operator makes of its operands.
 #[derive(Clone, Copy)]
-pub enum Written {
+pub enum Operator {
     /// The operator over them.
     Plain(Op),
     /// The operator over them all; one operand stands for itself.
@@ -53,7 +53,7 @@ pub enum Written {
 /// A written operator before its indices are known.
 #[derive(Clone, Copy)]
 pub enum Form {
-    WithoutIndex(Written),
+    WithoutIndex(Operator),
     Divisible,
     Repeat,
     RotateLeft,
@@ -142,23 +142,22 @@ fn form_named(name: &[u8]) -> Option<Form>
 
 // The operator with its indices, which are as many as it takes.
 #[tactic(auto, unfolding(crate::specs::Forms::is_apt, crate::specs::Forms::is_theory, smt_terms::specs::Rank::shape))]
-fn at_indices(form: Form, indices: &[u128]) -> Written
+fn at_indices(form: Form, indices: &[u128]) -> Operator
     requires number { IsSome (at_indices (form_seen form) indices.now) }
     requires indices { All (λ i. i < 2 ^ 127) indices.now }
     requires apt { IsTrue (is_apt_at (form_seen form)) }
     ensures named { at_indices (form_seen form) indices.now ≡ Some (written_seen result) }
     ensures apt { IsTrue (is_apt (written_seen result)) }
-    ensures indices { IsIndexed result }
 {
     match form {
         WithoutIndex(written) => written,
-        Divisible => Written::Divisibility(indices[0]),
-        Repeat => Written::Repetition(indices[0]),
-        RotateLeft => Written::LeftRotation(indices[0]),
-        RotateRight => Written::RightRotation(indices[0]),
-        ZeroExtend => Written::ZeroExtension(indices[0]),
-        SignExtend => Written::SignExtension(indices[0]),
-        Extract => Written::Extraction {
+        Divisible => Operator::Divisibility(indices[0]),
+        Repeat => Operator::Repetition(indices[0]),
+        RotateLeft => Operator::LeftRotation(indices[0]),
+        RotateRight => Operator::RightRotation(indices[0]),
+        ZeroExtend => Operator::ZeroExtension(indices[0]),
+        SignExtend => Operator::SignExtension(indices[0]),
+        Extract => Operator::Extraction {
             high: indices[0],
             low: indices[1],
         },
@@ -166,12 +165,11 @@ fn at_indices(form: Form, indices: &[u128]) -> Written
 }
 
 /// The written operator of this name and these indices. It takes no memory.
-pub fn written_named(name: &[u8], indices: &[u128]) -> Written
+pub fn written_named(name: &[u8], indices: &[u128]) -> Operator
     requires named { IsSome (written_named name.now indices.now) }
     requires indices { All (λ i. i < 2 ^ 127) indices.now }
     ensures named { written_named name.now indices.now ≡ Some (written_seen result) }
     ensures apt { IsTrue (is_apt (written_seen result)) }
-    ensures indices { IsIndexed result }
 {
     let form = form_named(name).unwrap();
     at_indices(form, indices)
