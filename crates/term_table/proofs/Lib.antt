@@ -9,3 +9,4 @@ pub mod Growth
 pub mod Symbols
 pub mod Ranks
 pub mod Binding
+mod Texts

@@ -7,8 +7,10 @@ pub mod fault;
 pub mod lists;
 pub mod rank;
 pub mod table;
+pub mod text;
 
 pub use fault::RankFault;
 pub use lists::{Bytes, Nodes, Syms};
 pub use smt_terms::NodeId;
 pub use table::Table;
+pub use text::{scalar_text, sort_text};

@@ -11,7 +11,7 @@ use smt_terms::NodeId;
 use smt_values::{Op, SortId, SymId};
 
 /// The number of `Bool`.
-const BOOL: SortId = SortId(0);
+pub(crate) const BOOL: SortId = SortId(0);
 
 /// The number of `Int`.
 const INT: SortId = SortId(1);
@@ -26,7 +26,7 @@ const NO_BITS: u64 = 1;
 const MOST_BITS: u64 = 128;
 
 /// The width of a bit-vector sort, and None for another sort.
-fn width_of(sort: SortId) -> Option<u64>
+pub(crate) fn width_of(sort: SortId) -> Option<u64>
     ensures { MatchOption result ((sort.0 < 2) ⊎ (130 ≤ sort.0)) (λ w. (sort.0 ≡ w + 1) × (1 ≤ w) × (w ≤ 128)) }
 {
     if sort.0 < BIT.0 || sort.0 > NO_BITS + MOST_BITS {
