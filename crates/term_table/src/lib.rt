@@ -4,6 +4,7 @@
 #![tactic(auto)]
 
 pub mod fault;
+pub mod laws;
 pub mod lists;
 pub mod rank;
 pub mod table;
@@ -14,3 +15,6 @@ pub use lists::{Bytes, Nodes, Syms};
 pub use smt_terms::NodeId;
 pub use table::Table;
 pub use text::{scalar_text, sort_text};
+
+#[cfg(test)]
+mod tests;

@@ -14,7 +14,7 @@ use smt_values::{Op, SortId, SymId};
 pub(crate) const BOOL: SortId = SortId(0);
 
 /// The number of `Int`.
-const INT: SortId = SortId(1);
+pub(crate) const INT: SortId = SortId(1);
 
 /// The number of the bit vectors of width 1.
 const BIT: SortId = SortId(2);
@@ -43,7 +43,7 @@ fn is_quantifiable_sort(sort: SortId) -> bool
 }
 
 /// Whether the bits are below 2 to the width, for a width of at most 128.
-fn fits(bits: u128, width: u32) -> bool
+pub(crate) fn fits(bits: u128, width: u32) -> bool
     requires { width ≤ 128 }
     ensures { IsTrue result ↔ (bits < 2 ^ width) }
 {
