@@ -1,34 +1,31 @@
 -- What the first reader and its rewriting rely on in a table of formulas.
-use Rattle.std.specs.Prelude.{◌<◌, ◌≤◌, List, length}
-use Rattle.term_table.specs.Rows.{Rows}
+use Rattle.std.specs.Prelude.{◌≡◌, ◌<◌, ◌≤◌, Some, length}
+use Rattle.smt_terms.specs.Rank.{sort_of}
+use Rattle.smt_terms.specs.Sorts.{bool}
+use Rattle.smt_terms.specs.declared.ids.NodeId.{NodeId}
+use Rattle.term_table.specs.Formulas.{Formulas, tree, IsNode, IsSymbol, Grows as Grow}
 use Rattle.smtrw.specs.declared.read.Command.{Command}
 use Rattle.smtrw.specs.declared.read.Command.TheVariants.{Declare, Assert, Check}
-use Rattle.smtrw.specs.declared.nnf.Polar.{Polar}
 use Rattle.smtrw.specs.declared.print.Step.{Step}
 use Rattle.smtrw.specs.declared.print.Step.TheVariants.{Operand, Close}
 
--- numbers that were valid stay valid
-pub record Grows (old new : Rows) : Type 0 where
-  pub nodes : length old.nodes ≤ length new.nodes
+-- numbers that were valid stay valid, and name the same formulas
+pub record Grows (old new : Formulas) : Type 0 where
+  pub trees : Grow old.trees new.trees
   pub symbols : length old.symbols ≤ length new.symbols
 
--- the command's symbol or term is in the table
-abbrev pub IsMadeIn : Rows → Command → Type 0
-IsMadeIn t (Declare s) = s.0 < length t.symbols
-IsMadeIn t (Assert id) = id.0 < length t.nodes
+-- a Boolean node
+pub record IsFormula (t : Formulas) (k : NodeId) : Type 0 where
+  pub node : IsNode t k
+  pub sort : sort_of (tree t k) ≡ Some bool
+
+-- the command's symbol or formula is in the table
+abbrev pub IsMadeIn : Formulas → Command → Type 0
+IsMadeIn t (Declare s) = IsSymbol t s
+IsMadeIn t (Assert id) = IsFormula t id
 IsMadeIn t Check = Unit {0}
 
--- both forms of a formula are in the table
-abbrev pub IsPolarIn : Rows → Polar → Type 0
-IsPolarIn t p = (p.positive.0 < length t.nodes) × (p.negative.0 < length t.nodes)
-
--- the command's symbol is in the table, and its term has its forms among these
-abbrev pub HasPolar : Rows → List Polar → Command → Type 0
-HasPolar t polars (Declare s) = s.0 < length t.symbols
-HasPolar t polars (Assert id) = id.0 < length polars
-HasPolar t polars Check = Unit {0}
-
 -- the term that is still to be printed is in the table
-abbrev pub IsStepIn : Rows → Step → Type 0
-IsStepIn t (Operand id) = id.0 < length t.nodes
+abbrev pub IsStepIn : Formulas → Step → Type 0
+IsStepIn t (Operand id) = IsNode t id
 IsStepIn t Close = Unit {0}

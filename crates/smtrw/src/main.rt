@@ -6,7 +6,6 @@
 
 mod lines;
 mod names;
-mod nnf;
 mod print;
 mod read;
 mod refuse;

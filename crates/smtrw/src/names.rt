@@ -1,5 +1,8 @@
 //! Which names a script may declare (SMT-LIB 2.6, sections 3.1 and 3.9, and the declarations of the theories).
 
+ghost use Rattle.std.specs.Prelude.{◌≡◌, true};
+ghost use Rattle.smt_values.specs.SortIds.{IsPlain};
+
 /// The words of the language that aren't symbols.
 const RESERVED_WORDS: [&[u8]; 13] = [
     b"BINARY",
@@ -120,12 +123,22 @@ const THEORY_NAMES: [&[u8]; 63] = [
 
 /// Whether a word may be declared: it isn't reserved, is no theory's name, and isn't of those (`@`, `.`) that solvers
 /// keep for themselves.
-pub fn is_declarable(word: &[u8]) -> bool {
-    !is_among(&RESERVED_WORDS, word)
+pub fn is_declarable(word: &[u8]) -> bool
+    ensures { result ≡ true → IsPlain word.now }
+{
+    is_plain(word)
+        && !is_among(&RESERVED_WORDS, word)
         && !is_among(&COMMAND_NAMES, word)
         && !is_among(&THEORY_NAMES, word)
         && !is_constant_name(word)
         && !matches!(word.first(), Some(b'@' | b'.'))
+}
+
+/// Whether a name can be written between bars.
+pub fn is_plain(name: &[u8]) -> bool
+    ensures { result ≡ true → IsPlain name.now }
+{
+    name.iter().all(|byte| *byte != b'|' && *byte != b'\\')
 }
 
 fn is_among(names: &[&[u8]], word: &[u8]) -> bool {

@@ -1,9 +1,9 @@
 //! Prints the commands of this first path, each on a line of its own.
 
-ghost use Rattle.std.specs.Prelude.{◌≡◌, ℕ, ◌<◌, ◌≤◌, length, All, vec_len};
-ghost use Rattle.smtrw.specs.Tables.{IsMadeIn, IsPolarIn, HasPolar, IsStepIn};
+ghost use Rattle.std.specs.Prelude.{All};
+ghost use Rattle.term_table.specs.Formulas.{IsNode};
+ghost use Rattle.smtrw.specs.Tables.{IsMadeIn, IsStepIn};
 
-use crate::nnf::Polar;
 use crate::read::Command;
 use smt_io::Pieces;
 use smt_terms::NodeId;
@@ -11,15 +11,9 @@ use smt_values::Op;
 use std::alloc::{AllocError, Global};
 use term_table::Table;
 
-/// The script with each assertion in negation normal form.
-pub fn script(
-    alloc: Global,
-    table: &Table,
-    commands: &[Command],
-    normal: &[Polar],
-) -> Result<Pieces, AllocError>
-    requires made { All (HasPolar table.now normal.now) commands.now }
-    requires normal { All (IsPolarIn table.now) normal.now }
+/// The text of a script.
+pub fn script(alloc: Global, table: &Table, commands: &[Command]) -> Result<Pieces, AllocError>
+    requires { All (IsMadeIn table.now) commands.now }
 {
     let mut text = Pieces::new(alloc);
     for command in commands {
@@ -29,9 +23,7 @@ pub fn script(
                 text.push(table.symbol_name(*symbol))?;
                 text.push(b" () Bool)\n")?;
             }
-            Command::Assert(root) => {
-                assertion(alloc, table, normal[root.0 as usize].positive, &mut text)?;
-            }
+            Command::Assert(root) => assertion(alloc, table, *root, &mut text)?,
             Command::Check => text.push(b"(check-sat)\n")?,
         }
     }
@@ -55,7 +47,7 @@ fn assertion(
     root: NodeId,
     text: &mut Pieces,
 ) -> Result<(), AllocError>
-    requires { root.0 < length table.now.nodes }
+    requires { IsNode table.now root }
 {
     let mut steps = Vec::new(alloc);
     text.push(b"(assert")?;
@@ -78,7 +70,7 @@ fn operand(
     steps: &mut Vec<Step>,
     text: &mut Pieces,
 ) -> Result<(), AllocError>
-    requires node { id.0 < length table.now.nodes }
+    requires node { IsNode table.now id }
     requires steps { All (IsStepIn table.now) steps.old.items }
     ensures { All (IsStepIn table.now) steps.new.items }
 {
@@ -96,9 +88,9 @@ fn operand(
     Ok(())
 }
 
-#[tactic(auto, unfolding(term_table::specs::Rows::NamesSymbolBelow))]
+#[tactic(auto, unfolding(term_table::specs::Formulas::kind))]
 fn constant(table: &Table, id: NodeId, text: &mut Pieces) -> Result<(), AllocError>
-    requires { id.0 < length table.now.nodes }
+    requires { IsNode table.now id }
 {
     match table.op(id) {
         Op::Truth(false) => text.push(b"false"),

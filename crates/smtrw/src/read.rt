@@ -1,14 +1,16 @@
 //! Reads the scripts of this first path: Boolean constants are declared, terms of `not`, `and` and `or` over them
 //! asserted, and checks asked for.
 
-ghost use Rattle.std.specs.Prelude.{◌≡◌, ℕ, ◌<◌, ◌≤◌, ◌+◌, length, IfOk, All};
-ghost use Rattle.term_table.specs.Rows.{AreBelow, NamesSymbolBelow};
+ghost use Rattle.std.specs.Prelude.{◌≡◌, ◌<◌, ◌≤◌, ◌+◌, length, IfOk, All};
+ghost use Rattle.smt_values.specs.SortIds.{IsPlain};
+ghost use Rattle.term_table.specs.Formulas.{Formulas, AreNodes, IsNode, IsOpOf};
 ghost use Rattle.smtrw.specs.Tables.{Grows, IsMadeIn};
 
-use crate::names::is_declarable;
+use crate::names::{is_declarable, is_plain};
 use smt_lex::{Forest, Item};
 use smt_terms::NodeId;
 use smt_values::{Op, SortId, SymId};
+use sort_check::{MakeFault, make};
 use std::alloc::{AllocError, AllocFailed, Global};
 use term_table::Table;
 
@@ -38,6 +40,15 @@ impl From<AllocError> for Unread {
 impl<T: Drop> From<AllocFailed<T>> for Unread {
     fn from(_error: AllocFailed<T>) -> Unread {
         Unread::Memory
+    }
+}
+
+impl From<MakeFault> for Unread {
+    fn from(fault: MakeFault) -> Unread {
+        match fault {
+            MakeFault::Rank(_) => Unread::NotYet,
+            MakeFault::Memory => Unread::Memory,
+        }
     }
 }
 
@@ -75,11 +86,8 @@ fn read_command(
         return Err(Unread::NotYet);
     }
     match forest.text(at + 1) {
-        b"declare-fun" => declaration(table, forest, at, end),
-        b"assert" => {
-            let root = term(alloc, table, forest, at + 2, end - 1)?;
-            Ok(Command::Assert(root))
-        }
+        b"declare-fun" => declaration(alloc, table, forest, at, end),
+        b"assert" => assertion(alloc, table, forest, at + 2, end - 1),
         b"check-sat" if end - at == 3 => Ok(Command::Check),
         _ => Err(Unread::NotYet),
     }
@@ -92,7 +100,13 @@ fn is_word(forest: &Forest, i: usize) -> bool
 }
 
 /// `(declare-fun c () Bool)`
-fn declaration(table: &mut Table, forest: &Forest, at: usize, end: usize) -> Result<Command, Unread>
+fn declaration(
+    alloc: Global,
+    table: &mut Table,
+    forest: &Forest,
+    at: usize,
+    end: usize,
+) -> Result<Command, Unread>
     requires order { at ≤ end }
     requires within { end ≤ length forest.now.tokens }
     ensures grows { Grows table.old table.new }
@@ -106,22 +120,41 @@ fn declaration(table: &mut Table, forest: &Forest, at: usize, end: usize) -> Res
     if !no_arguments || forest.text(at + 5) != b"Bool".as_slice() || !is_declarable(name) {
         return Err(Unread::NotYet);
     }
+    declared(alloc, table, name)
+}
+
+/// Declares a name that isn't declared yet.
+fn declared(alloc: Global, table: &mut Table, name: &[u8]) -> Result<Command, Unread>
+    requires { IsPlain name.now }
+    ensures grows { Grows table.old table.new }
+    ensures made { IfOk result (IsMadeIn table.new) }
+{
     let symbol = table.symbol(name, &[], BOOL)?;
     if table.find(Op::Sym(symbol), &[])?.is_some() {
         return Err(Unread::NotYet);
     }
-    constant_node(table, symbol)?;
+    make(alloc, table, Op::Sym(symbol), &[])?;
     Ok(Command::Declare(symbol))
 }
 
-/// The node of a symbol without arguments.
-#[tactic(auto, unfolding(term_table::specs::Rows::NamesSymbolBelow))]
-fn constant_node(table: &mut Table, symbol: SymId) -> Result<NodeId, AllocError>
-    requires { symbol.0 < length table.old.symbols }
-    ensures { Grows table.old table.new }
+/// `(assert t)`, where the term is Boolean.
+fn assertion(
+    alloc: Global,
+    table: &mut Table,
+    forest: &Forest,
+    first: usize,
+    end: usize,
+) -> Result<Command, Unread>
+    requires start { 0 < first }
+    requires within { end ≤ length forest.now.tokens }
+    ensures grows { Grows table.old table.new }
+    ensures made { IfOk result (IsMadeIn table.new) }
 {
-    let node = table.intern(Op::Sym(symbol), &[])?;
-    Ok(node)
+    let root = term(alloc, table, forest, first, end)?;
+    if table.sort_of(root) != BOOL {
+        return Err(Unread::NotYet);
+    }
+    Ok(Command::Assert(root))
 }
 
 /// The connectives that are read.
@@ -151,7 +184,7 @@ fn term(
     requires start { 0 < first }
     requires within { end ≤ length forest.now.tokens }
     ensures grows { Grows table.old table.new }
-    ensures made { IfOk result (λ id. id.0 < length table.new.nodes) }
+    ensures made { IfOk result (IsNode table.new) }
 {
     let mut finished: Vec<NodeId> = Vec::new(alloc);
     let mut open: Vec<Open> = Vec::new(alloc);
@@ -161,9 +194,9 @@ fn term(
                 connective: head(forest, i + 1, end)?,
                 first: finished.len(),
             })?,
-            Item::Right => close(table, &mut finished, open.pop())?,
+            Item::Right => close(alloc, table, &mut finished, open.pop())?,
             Item::Word if forest.item(i - 1) != Item::Left => {
-                finished.push(constant(table, forest.text(i))?)?;
+                finished.push(constant(alloc, table, forest.text(i))?)?;
             }
             Item::Word => {}
             _ => return Err(Unread::NotYet),
@@ -191,33 +224,27 @@ fn head(forest: &Forest, i: usize, end: usize) -> Result<Connective, Unread>
 }
 
 /// Makes the innermost open application over the operands that were finished since it was opened.
-fn close(table: &mut Table, finished: &mut Vec<NodeId>, open: Option<Open>) -> Result<(), Unread>
-    requires { AreBelow (length table.old.nodes) finished.old.items }
+fn close(
+    alloc: Global,
+    table: &mut Table,
+    finished: &mut Vec<NodeId>,
+    open: Option<Open>,
+) -> Result<(), Unread>
+    requires { AreNodes table.old finished.old.items }
     ensures grows { Grows table.old table.new }
-    ensures below { AreBelow (length table.new.nodes) finished.new.items }
+    ensures nodes { AreNodes table.new finished.new.items }
 {
     let open = open.ok_or(Unread::NotYet)?;
     let kids = finished.get(open.first..).ok_or(Unread::NotYet)?;
-    if !takes(open.connective, kids.len()) {
-        return Err(Unread::NotYet);
-    }
-    let node = table.intern(op_of(open.connective), kids)?;
+    let node = make(alloc, table, op_of(open.connective), kids)?;
     finished.truncate(open.first);
     finished.push(node)?;
     Ok(())
 }
 
-/// Whether a connective takes so many operands.
-fn takes(connective: Connective, operands: usize) -> bool {
-    match connective {
-        Connective::Not => operands == 1,
-        Connective::And | Connective::Or => operands >= 2,
-    }
-}
-
-#[tactic(auto, unfolding(term_table::specs::Rows::NamesSymbolBelow))]
+#[tactic(auto, unfolding(term_table::specs::Formulas::kind))]
 fn op_of(connective: Connective) -> Op
-    ensures { (n : ℕ) → NamesSymbolBelow n result }
+    ensures { (t : Formulas) → IsOpOf t result }
 {
     match connective {
         Connective::Not => Op::Not,
@@ -227,25 +254,33 @@ fn op_of(connective: Connective) -> Op
 }
 
 /// `true`, `false`, or a constant that was declared.
-fn constant(table: &mut Table, name: &[u8]) -> Result<NodeId, Unread>
+fn constant(alloc: Global, table: &mut Table, name: &[u8]) -> Result<NodeId, Unread>
     ensures grows { Grows table.old table.new }
-    ensures made { IfOk result (λ id. id.0 < length table.new.nodes) }
+    ensures made { IfOk result (IsNode table.new) }
 {
     match name {
-        b"true" => truth(table, true),
-        b"false" => truth(table, false),
-        _ => {
-            let symbol = table.symbol(name, &[], BOOL)?;
-            table.find(Op::Sym(symbol), &[])?.ok_or(Unread::NotYet)
-        }
+        b"true" => truth(alloc, table, true),
+        b"false" => truth(alloc, table, false),
+        _ if is_plain(name) => found(table, name),
+        _ => Err(Unread::NotYet),
     }
 }
 
-#[tactic(auto, unfolding(term_table::specs::Rows::NamesSymbolBelow))]
-fn truth(table: &mut Table, truth: bool) -> Result<NodeId, Unread>
+#[tactic(auto, unfolding(term_table::specs::Formulas::kind))]
+fn truth(alloc: Global, table: &mut Table, truth: bool) -> Result<NodeId, Unread>
     ensures grows { Grows table.old table.new }
-    ensures made { IfOk result (λ id. id.0 < length table.new.nodes) }
+    ensures made { IfOk result (IsNode table.new) }
 {
-    let node = table.intern(Op::Truth(truth), &[])?;
+    let node = make(alloc, table, Op::Truth(truth), &[])?;
     Ok(node)
+}
+
+/// The constant of this name, where it was declared.
+fn found(table: &mut Table, name: &[u8]) -> Result<NodeId, Unread>
+    requires { IsPlain name.now }
+    ensures grows { Grows table.old table.new }
+    ensures made { IfOk result (IsNode table.new) }
+{
+    let symbol = table.symbol(name, &[], BOOL)?;
+    table.find(Op::Sym(symbol), &[])?.ok_or(Unread::NotYet)
 }

@@ -7,7 +7,6 @@ ghost use Rattle.smtrw.specs.Answers.{err_line};
 ghost use Rattle.smtrw.specs.Run.{input_name, WordsFit, ReadFits, WriteFits, OutFits, TextFits, GotPrefix, IsReadable, IsEarly, IsFormed, FollowsOf, Delivers};
 
 use crate::lines::line_of;
-use crate::nnf::polar_nodes;
 use crate::print::script;
 use crate::read::commands;
 use crate::refuse::TOO_LONG;
@@ -114,7 +113,6 @@ fn rewrite(alloc: Global, bytes: Vec<u8>) -> Result<Pieces, Status>
     let forest = scan(alloc, bytes, Until::Exit)?;
     let mut table = Table::new(alloc);
     let commands = commands(alloc, &mut table, &forest)?;
-    let normal = polar_nodes(alloc, &mut table)?;
-    let text = script(alloc, &table, commands.as_slice(), normal.as_slice())?;
+    let text = script(alloc, &table, commands.as_slice())?;
     Ok(text)
 }
