@@ -7,4 +7,5 @@ pub mod Pairs
 pub mod Sameness
 pub mod SizeTable
 pub mod SortIds
+pub mod WordLaws
 pub mod Words

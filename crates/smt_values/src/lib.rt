@@ -4,6 +4,7 @@
 
 #![tactic(auto)]
 
+pub mod apply;
 pub mod array;
 pub mod scalar;
 pub mod sizes;

@@ -1,0 +1,3 @@
+//! The operators of the theories on scalars.
+
+mod word;
