@@ -2,6 +2,7 @@ pub mod Alike
 pub mod Bits
 pub mod Compounds
 pub mod Derived
+pub mod IntegerLaws
 pub mod Numbered
 pub mod Pairs
 pub mod Sameness

@@ -1,8 +1,10 @@
+pub mod Applied
 pub mod Codes
 pub mod Compounds
 pub mod Deep
 pub mod Meaning
 pub mod Numbered
+pub mod Operands
 pub mod Places
 pub mod SizeTable
 pub mod SortIds

@@ -1,3 +1,5 @@
 //! The operators of the theories on scalars.
 
+mod integers;
+mod operands;
 mod word;

@@ -11,9 +11,10 @@ use Rattle.smt_values.proofs.apply.word.Word.bvsdiv.Goals.{then-sign, else-sign}
 pub returns-then-other-eq0-clause-vector : goal.returns-then-other-eq0-clause-vector
 returns-then-other-eq0-clause-vector c =
     let told : c.if-sign.quotient ≡ cond (sign (nat2bv c.args.self.width c.args.self.bits)) 1 340282366920938463463374607431768211455 =
-      elim c.if-sign.branch [
-        then-sign w ↦ w.quotient-is ∙ sym (ap (λ b. cond b 1 340282366920938463463374607431768211455) (sym c.sign.ensures ∙ w.if-sign.true))
-        | else-sign w ↦ w.quotient-is ∙ sym (ap (λ b. cond b 1 340282366920938463463374607431768211455) (sym c.sign.ensures ∙ w.if-sign.false)) ] in
+    elim c.if-sign.branch [
+      | then-sign w ↦ w.quotient-is ∙ sym (ap (λ b. cond b 1 340282366920938463463374607431768211455) (sym c.sign.ensures ∙ w.if-sign.true))
+      | else-sign w ↦ w.quotient-is ∙ sym (ap (λ b. cond b 1 340282366920938463463374607431768211455) (sym c.sign.ensures ∙ w.if-sign.false))
+    ] in
     sdiv_zero c.args.self.width c.args.self.bits c.args.other.bits c.if-sign.quotient c.new.result.bits c.args.self.narrow (at_width c.args.other.width c.args.self.width c.args.other.bits c.requires c.args.other.below) c.if-other-eq0.true told c.new.ensures.vector
 
 pub wrapping_div-quotient-requires : goal.wrapping_div-quotient-requires
