@@ -1,11 +1,11 @@
 -- Sums and products of operands, from a place on.
 use Rattle.std.proofs.Common.{◌≡◌, ℕ, zero, suc, ◌+◌, ◌*◌, ◌^◌, ◌<◌, ◌≤◌, List, [], ◌∷◌, map, drop, length, get_or, refl, ap, sym, ◌∙◌, arith, add-one, drop-cons, true≢false, subst, nat_lt}
 use Rattle.std.specs.Prelude.{ℤ, pos, negsuc, neg_ℤ, ◌+ℤ◌, ◌*ℤ◌, unsigned_abs, Bool, true, false, ◌||◌}
-use Rattle.std.proofs.lemmas.Int.{ints, unsigned_abs-mul, fits_signed_from_abs}
+use Rattle.std.proofs.lemmas.Int.{ints, to_z-of_z, unsigned_abs-mul, fits_signed_from_abs}
 use Rattle.std.proofs.Math.IntN.{*ℤ_comm, zero-*ℤ, *ℤ-zero, neg_ℤ-neg_ℤ}
 use Rattle.std.proofs.Math.Nat.{mul_assoc}
 use Rattle.std.specs.List.{list_any}
-use Rattle.std.specs.Int.{w128}
+use Rattle.std.specs.Int.{w128, cast_signed, cast_unsigned, IsNonZero}
 use Rattle.std.specs.Ordering.{int_eq}
 use Rattle.std.proofs.lemmas.Bool.Decides.{nat_tests, Decides-int_eq, Decides-ltb}
 use Rattle.std.proofs.lemmas.Nat.{mul-le}
@@ -22,7 +22,7 @@ use Rattle.smt_values.specs.declared.scalar.Scalar.TheVariants.{Truth}
 abbrev pub number_at : List Scalar → ℕ → ℤ
 number_at args i = number (scalar_value (get_or args i (Truth false)))
 
-drop_more : (args : List Scalar) (i : ℕ) → i < length args → drop i args ≡ get_or args i (Truth false) ∷ drop (i + 1) args
+pub drop_more : (args : List Scalar) (i : ℕ) → i < length args → drop i args ≡ get_or args i (Truth false) ∷ drop (i + 1) args
 drop_more args i lt = rw (add-one, drop-cons args i (Truth false))
 
 pub sum_of-drop : (args : List Scalar) (i : ℕ) → i < length args → sum_of (map scalar_value (drop i args)) ≡ number_at args i +ℤ sum_of (map scalar_value (drop (i + 1) args))
@@ -105,5 +105,15 @@ product_out p rest whole h some e = by (nat_lt (unsigned_abs p) (2 ^ 127)) refl
     by : (c : Bool) → nat_lt (unsigned_abs p) (2 ^ 127) ≡ c → 2 ^ 127 ≤ unsigned_abs whole
     by true t = absurd (h (fits_signed_from_abs w128 p ((Decides-ltb (unsigned_abs p) (2 ^ 127)).0 t)))
     by false t =
-      let out : 2 ^ 127 ≤ unsigned_abs p = grind (arith, nat_tests) in
-      subst (λ k. 2 ^ 127 ≤ k) (sym (unsigned_abs-mul p rest) ∙ ap unsigned_abs e) (times_some (unsigned_abs p) (unsigned_abs rest) (2 ^ 127) out some)
+        let out : 2 ^ 127 ≤ unsigned_abs p = grind (arith, nat_tests) in
+        subst (λ k. 2 ^ 127 ≤ k) (sym (unsigned_abs-mul p rest) ∙ ap unsigned_abs e) (times_some (unsigned_abs p) (unsigned_abs rest) (2 ^ 127) out some)
+
+-- ---- divisors
+
+pub some_number : (z : ℤ) → SFits w128 z → (z ≡ pos 0 → ⊥) → IsNonZero w128 (cast_signed w128 (cast_unsigned w128 z))
+some_number z f h = subst (IsNonZero w128) (sym (to_z-of_z w128 z f)) (by z f h)
+  where
+    by : (z : ℤ) → SFits w128 z → (z ≡ pos 0 → ⊥) → IsNonZero w128 z
+    by (pos zero) f h = absurd (h refl)
+    by (pos (suc k)) f h = omega arith
+    by (negsuc k) f h = omega (arith, f.sfits)

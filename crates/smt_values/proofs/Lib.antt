@@ -1,9 +1,11 @@
 pub mod Alike
+pub mod ApplyLaws
 pub mod Bits
 pub mod Compounds
 pub mod Derived
 pub mod IntegerLaws
 pub mod Numbered
+pub mod OperandLaws
 pub mod Pairs
 pub mod Sameness
 pub mod SizeTable

@@ -10,3 +10,4 @@ pub mod SizeTable
 pub mod SortIds
 pub mod Tables
 pub mod Valid
+pub mod WordShapes

@@ -1,13 +1,15 @@
 //! Whole numbers within the range of magnitudes up to 2^127 - 1.
 
-ghost use Rattle.std.specs.Prelude.{◌≡◌, ◌+◌, ◌*◌, ◌^◌, ◌≤◌, All, map, pos, ◌+ℤ◌, ◌-ℤ◌};
+ghost use Rattle.std.specs.Prelude.{◌≡◌, ◌+◌, ◌*◌, ◌^◌, ◌<◌, ◌≤◌, ◌≢◌, All, map, unsigned_abs, pos, ◌+ℤ◌, ◌-ℤ◌};
+ghost use Rattle.std.specs.Int.{int_div_euclid, int_rem_euclid};
 ghost use Rattle.std.specs.List.{list_any};
-ghost use Rattle.smt_terms.specs.Operators.{sum_of, product_of};
+ghost use Rattle.smt_terms.specs.Values.{number};
+ghost use Rattle.smt_terms.specs.Operators.{first_value, second_value, sum_of, product_of};
 ghost use Rattle.smt_values.specs.Applied.{IsWithin};
 ghost use Rattle.smt_values.specs.Operands.{is_zero};
 ghost use Rattle.smt_values.specs.Meaning.{scalar_value, IsScalar};
 
-use super::operands::whole;
+use super::operands::{whole, whole_at};
 use crate::scalar::Scalar;
 
 // The number where it lies in the range, which -2^127 doesn't.
@@ -17,10 +19,31 @@ fn in_range(n: i128) -> Option<i128>
     (n != i128::MIN).then_some(n)
 }
 
-pub(crate) fn difference(m: i128, n: i128) -> Option<i128>
-    ensures { IsWithin result (m -ℤ n) }
+pub(crate) fn difference(args: &[Scalar]) -> Option<i128>
+    requires { All IsScalar args.now }
+    ensures { IsWithin result (number (first_value (map scalar_value args.now)) -ℤ number (second_value (map scalar_value args.now))) }
 {
-    in_range(m.checked_sub(n)?)
+    in_range(whole_at(args, 0).checked_sub(whole_at(args, 1))?)
+}
+
+/// The quotient whose remainder is not negative.
+pub(crate) fn quotient(args: &[Scalar]) -> i128
+    requires scalars { All IsScalar args.now }
+    requires divisor { number (second_value (map scalar_value args.now)) ≢ pos 0 }
+    ensures value { result ≡ int_div_euclid (number (first_value (map scalar_value args.now))) (number (second_value (map scalar_value args.now))) }
+    ensures range { unsigned_abs result < 2 ^ 127 }
+{
+    whole_at(args, 0).div_euclid(whole_at(args, 1))
+}
+
+/// That remainder.
+pub(crate) fn modulus(args: &[Scalar]) -> i128
+    requires scalars { All IsScalar args.now }
+    requires divisor { number (second_value (map scalar_value args.now)) ≢ pos 0 }
+    ensures value { result ≡ int_rem_euclid (number (first_value (map scalar_value args.now))) (number (second_value (map scalar_value args.now))) }
+    ensures range { unsigned_abs result < 2 ^ 127 }
+{
+    whole_at(args, 0).rem_euclid(whole_at(args, 1))
 }
 
 // The sum of two numbers in 128 bits, and how often it went above and below them: 2^128 is left out, or one too many.

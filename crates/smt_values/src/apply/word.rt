@@ -4,6 +4,8 @@ ghost use Rattle.std.specs.Prelude.{◌≡◌, ◌+◌, ◌-◌, ◌%◌, ◌^�
 ghost use Rattle.smt_terms.specs.BitVectors as vectors;
 ghost use Rattle.smt_terms.specs.BitVectors.{nat2bv, sign, bv2int, bv2nat};
 
+use crate::scalar::Scalar;
+
 /// A bit vector.
 #[derive(Clone, Copy)]
 pub(crate) struct Word {
@@ -15,6 +17,15 @@ pub(crate) struct Word {
 }
 
 impl Word {
+    pub(crate) fn scalar(self) -> Scalar
+        ensures { result ≡ Scalar.Bits self.width self.bits }
+    {
+        Scalar::Bits {
+            width: self.width,
+            bits: self.bits,
+        }
+    }
+
     // The lowest bits of a number.
     fn new(width: u32, bits: u128) -> Word
         requires some { 1 ≤ width }
