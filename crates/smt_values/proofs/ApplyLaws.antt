@@ -1,18 +1,29 @@
 -- What an operator's rank says of scalars, and its value at them.
-use Rattle.std.proofs.Common.{◌≡◌, ℕ, zero, suc, ◌+◌, ◌-◌, ◌^◌, ◌<◌, ◌≤◌, Bool, true, false, List, [], ◌∷◌, map, Result, Ok, Err, Some, refl, ap, sym, ◌∙◌, subst, arith, true≢false, replicate}
-use Rattle.std.specs.Prelude.{slice_get, IsOk, IsTrue, unsigned_abs}
+use Rattle.std.proofs.Common.{◌≡◌, ℕ, zero, suc, ◌+◌, ◌-◌, ◌^◌, ◌<◌, ◌≤◌, Bool, true, false, cond, ◌||◌, List, [], ◌∷◌, map, Result, Ok, Err, Some, refl, ap, sym, ◌∙◌, subst, arith, true≢false, replicate, length, nat_lt, Option, None}
+use Rattle.std.specs.Prelude.{slice_get, IsOk, IsErr, IfOk, IfErr, IfSome, IfNone, IsTrue, ℤ, pos, negsuc, neg_ℤ, ◌-ℤ◌, unsigned_abs, All}
+use Rattle.std.specs.Int.{w128, cast_signed, cast_unsigned}
+use Rattle.std.specs.List.{list_any}
+use Rattle.std.proofs.lemmas.Int.{to_z-of_z, fits_signed_from_abs}
+use Rattle.std.proofs.lemmas.Bool.Decides.{Decides-ltb, Decides-int_eq}
+use Rattle.std.proofs.lemmas.List.Elements.{All-nil, All-cons}
+use Rattle.std.proofs.lemmas.List.{length-map}
+use Rattle.std.specs.Ordering.{int_eq}
+use Rattle.std.proofs.Math.IntN.{+ℤ_idl}
+use mir.Val.{SFits}
 use Rattle.smt_terms.specs.declared.op.Op.{Op}
 use Rattle.smt_terms.specs.declared.op.Op.TheVariants.{Truth, Whole, Bits, Sym, Forall, Exists, ConstArray, Not, And, Or, Xor, Implies, Equal, Distinct, Ite, Neg, Sub, Add, Mul, Div, Mod, Abs, Le, Lt, Concat, Extract, BvNot, BvNeg, BvAnd, BvOr, BvXor, BvAdd, BvMul, BvSub, BvUdiv, BvUrem, BvSdiv, BvSrem, BvSmod, BvShl, BvLshr, BvAshr, BvComp, BvUlt, BvUle, BvSlt, BvSle, ZeroExt, SignExt, RotL, RotR, Select, Store}
 use Rattle.smt_terms.specs.Sorts.{Sort, bool, int, bit_vector, array}
 use Rattle.smt_terms.specs.Term.{op}
 use Rattle.smt_terms.specs.BitVectors.{BitVector, nat2bv}
-use Rattle.smt_terms.specs.Values.{Value, truth, bits, bits_of}
-use Rattle.smt_terms.specs.Operators.{first_value, second_value, vector, vectors, vector_comparison}
+use Rattle.smt_terms.specs.Values.{Value, truth, whole, bits, bits_of}
+use Rattle.smt_terms.specs.Operators.{first_sort, first_value, second_value, vector, vectors, vector_comparison}
 use Rattle.smt_terms.specs.Rank.{Fault, Shape, fixed, several, equation, distinctness, choice, whole_number, bit_constant, concatenation, extraction, extension, rotation, bitwise, bitwise_pair, bits_comparison, selection, storing, filling, no_head, shape, width, most_bits, rank}
+use Rattle.smt_terms.specs.Val.{value_in_range}
+use Rattle.smt_values.specs.declared.apply.Beyond128.{Beyond128}
 use Rattle.smt_terms.specs.Takes.{Takes}
 use Rattle.smt_terms.proofs.Ranked.{rank-takes, rank-narrow}
 use Rattle.smt_values.specs.Meaning.{scalar_value, scalar_sort}
-use Rattle.smt_values.specs.Applied.{TakesOperands}
+use Rattle.smt_values.specs.Applied.{TakesOperands, HasValue, IsBeyond, IsWithin}
 use Rattle.smt_values.specs.Operands.{IsWordAt, IsPair}
 use Rattle.smt_values.specs.WordShapes.{on_words, on_pairs, TakesWords, TakesPair}
 use Rattle.smt_values.specs.declared.scalar.Scalar.{Scalar}
@@ -248,3 +259,148 @@ no_pair_left BvUle n h = n.bvule refl
 no_pair_left BvSlt n h = n.bvslt refl
 no_pair_left BvSle n h = n.bvsle refl
 no_pair_left _ n h = true≢false (sym h)
+
+-- an operator of bit vectors, or one that takes no scalars
+pub record NoEarlier (o : Op) : Type 0 where
+  pub is_truth : (b : Bool) → o ≡ Truth b → ⊥
+  pub is_whole : (n : ℤ) → o ≡ Whole n → ⊥
+  pub is_bits : (w n : ℕ) → o ≡ Bits w n → ⊥
+  pub is_not : o ≡ Not → ⊥
+  pub is_and : o ≡ And → ⊥
+  pub is_or : o ≡ Or → ⊥
+  pub is_xor : o ≡ Xor → ⊥
+  pub is_implies : o ≡ Implies → ⊥
+  pub is_equal : o ≡ Equal → ⊥
+  pub is_distinct : o ≡ Distinct → ⊥
+  pub is_ite : o ≡ Ite → ⊥
+  pub is_neg : o ≡ Neg → ⊥
+  pub is_sub : o ≡ Sub → ⊥
+  pub is_add : o ≡ Add → ⊥
+  pub is_mul : o ≡ Mul → ⊥
+  pub is_div : o ≡ Div → ⊥
+  pub is_mod : o ≡ Mod → ⊥
+  pub is_abs : o ≡ Abs → ⊥
+  pub is_le : o ≡ Le → ⊥
+  pub is_lt : o ≡ Lt → ⊥
+
+no_array : (args : List Scalar) (i e : Sort) (rest : List Sort) → map scalar_sort args ≡ array i e ∷ rest → ⊥
+no_array [] i e rest h = cc
+no_array (TruthOf b ∷ bs) i e rest h = cc
+no_array (WholeOf z ∷ bs) i e rest h = cc
+no_array (BitsOf w n ∷ bs) i e rest h = cc
+
+pub words_left : (o : Op) (args : List Scalar) → NoEarlier o → TakesOperands o args → TakesWords o
+unfolding shape
+words_left (Truth b) args n h = absurd (n.is_truth b refl)
+words_left (Whole z) args n h = absurd (n.is_whole z refl)
+words_left (Bits w k) args n h = absurd (n.is_bits w k refl)
+words_left Not args n h = absurd (n.is_not refl)
+words_left And args n h = absurd (n.is_and refl)
+words_left Or args n h = absurd (n.is_or refl)
+words_left Xor args n h = absurd (n.is_xor refl)
+words_left Implies args n h = absurd (n.is_implies refl)
+words_left Equal args n h = absurd (n.is_equal refl)
+words_left Distinct args n h = absurd (n.is_distinct refl)
+words_left Ite args n h = absurd (n.is_ite refl)
+words_left Neg args n h = absurd (n.is_neg refl)
+words_left Sub args n h = absurd (n.is_sub refl)
+words_left Add args n h = absurd (n.is_add refl)
+words_left Mul args n h = absurd (n.is_mul refl)
+words_left Div args n h = absurd (n.is_div refl)
+words_left Mod args n h = absurd (n.is_mod refl)
+words_left Abs args n h = absurd (n.is_abs refl)
+words_left Le args n h = absurd (n.is_le refl)
+words_left Lt args n h = absurd (n.is_lt refl)
+words_left (Sym f) args n h = absurd (taken (Sym f) args h).takes
+words_left Forall args n h = absurd (taken Forall args h).takes
+words_left Exists args n h = absurd (taken Exists args h).takes
+words_left (ConstArray s) args n h = absurd (taken (ConstArray s) args h).takes
+words_left Select args n h = let t = taken Select args h in absurd (no_array args t.takes.0 t.sort (t.takes.0 ∷ []) t.takes.1)
+words_left Store args n h = let t = (taken Store args h).takes in absurd (no_array args t.0 t.1 (t.0 ∷ t.1 ∷ []) t.2)
+words_left _ args n h = refl
+
+-- ---- constants
+
+pub whole_fits : (n : ℤ) (args : List Scalar) → TakesOperands (Whole n) args → unsigned_abs n < 2 ^ 127
+unfolding shape
+whole_fits n args h = (taken (Whole n) args h).takes.1
+
+pub bits_fit : (w n : ℕ) (args : List Scalar) → TakesOperands (Bits w n) args → (1 ≤ w) × (w ≤ 128) × (n < 2 ^ w)
+unfolding shape
+bits_fit w n args h =
+    let t = taken (Bits w n) args h in
+    let same : width t.sort ≡ w = ap width t.takes.3 in
+    (omega (arith, t.takes.1), omega (arith, t.narrow), t.takes.2)
+
+-- ---- operands of one sort
+
+sorts_alike : (args : List Scalar) (t : Sort) (n : ℕ) → map scalar_sort args ≡ replicate n t → All (λ a. scalar_sort a ≡ t) args
+sorts_alike [] t n e = All-nil (λ a. scalar_sort a ≡ t)
+sorts_alike (a ∷ bs) t zero e = absurd cc
+sorts_alike (a ∷ bs) t (suc n) e =
+    let first : scalar_sort a ≡ t = cc in
+    let rest : map scalar_sort bs ≡ replicate n t = cc in
+    All-cons (λ a. scalar_sort a ≡ t) a bs first (sorts_alike bs t n rest)
+
+-- two operands or more of one sort
+pub record Alike (args : List Scalar) : Type 0 where
+  pub sort : Sort
+  pub all : All (λ a. scalar_sort a ≡ sort) args
+  pub first : first_sort (map scalar_sort args) ≡ sort
+  pub two : 1 < length args
+
+pub equal_alike : (args : List Scalar) → TakesOperands Equal args → Alike args
+unfolding shape
+equal_alike args h =
+    let t = (taken Equal args h).takes in
+    record { sort = t.0; all = sorts_alike args t.0 2 t.1; first = ap first_sort t.1; two = omega (arith, length-map args scalar_sort, ap length t.1) }
+
+pub distinct_alike : (args : List Scalar) → TakesOperands Distinct args → Alike args
+unfolding shape
+distinct_alike args h =
+    let t = (taken Distinct args h).takes in
+    record { sort = t.0; all = sorts_alike args t.0 (suc (suc t.1)) t.2; first = ap first_sort t.2; two = omega (arith, length-map args scalar_sort, ap length t.2) }
+
+pub ite_three : (args : List Scalar) → TakesOperands Ite args → 2 < length args
+unfolding shape
+ite_three args h = omega (arith, length-map args scalar_sort, ap length (taken Ite args h).takes.1)
+
+-- ---- whole numbers within the range
+
+pub within_value : (o : Op) (args : List Scalar) (n : Option ℤ) (z : ℤ) (r : Result Scalar Beyond128) → IsWithin n z → IfSome n (λ m. r ≡ Ok (WholeOf m)) → IfNone n (IsErr r) → HasValue o args (whole z) → IfOk r (λ x. HasValue o args (scalar_value x))
+within_value o args (Some m) z r w some none v = subst (λ r. IfOk r (λ x. HasValue o args (scalar_value x))) (sym some) (λ c. v c ∙ ap whole (sym w.0))
+within_value o args None z (Ok x) w some none v = absurd (true≢false (sym none))
+within_value o args None z (Err e) w some none v = tt
+
+outside : (z : ℤ) → 2 ^ 127 ≤ unsigned_abs z → value_in_range (whole z) ≡ false
+outside z le = by (nat_lt (unsigned_abs z) (2 ^ 127)) refl
+  where
+    by : (c : Bool) → nat_lt (unsigned_abs z) (2 ^ 127) ≡ c → c ≡ false
+    by true e = let lt = (Decides-ltb (unsigned_abs z) (2 ^ 127)).0 e in absurd (omega arith)
+    by false e = refl
+
+pub within_beyond : (o : Op) (args : List Scalar) (n : Option ℤ) (z : ℤ) (r : Result Scalar Beyond128) → IsWithin n z → IfSome n (λ m. r ≡ Ok (WholeOf m)) → IfNone n (IsErr r) → HasValue o args (whole z) → IfErr r (λ _. IsBeyond o args)
+within_beyond o args (Some m) z r w some none v = subst (λ r. IfErr r (λ _. IsBeyond o args)) (sym some) tt
+within_beyond o args None z (Ok x) w some none v = absurd (true≢false (sym none))
+within_beyond o args None z (Err e) w some none v = λ c. ap value_in_range (v c) ∙ outside z w
+
+neg_fits : (z : ℤ) → unsigned_abs z < 2 ^ 127 → unsigned_abs (neg_ℤ z) < 2 ^ 127
+neg_fits (pos zero) h = h
+neg_fits (pos (suc n)) h = h
+neg_fits (negsuc n) h = h
+
+pub negated : (z n : ℤ) → SFits w128 z → z ≡ n → unsigned_abs z < 2 ^ 127 → neg_ℤ n ≡ cast_signed w128 (cast_unsigned w128 (pos 0 -ℤ cast_signed w128 (cast_unsigned w128 z)))
+negated z n f e h =
+    let opposite : pos 0 -ℤ cast_signed w128 (cast_unsigned w128 z) ≡ neg_ℤ z = ap (λ x. pos 0 -ℤ x) (to_z-of_z w128 z f) ∙ +ℤ_idl (neg_ℤ z) in
+    ap neg_ℤ (sym e) ∙ sym (ap (λ x. cast_signed w128 (cast_unsigned w128 x)) opposite ∙ to_z-of_z w128 (neg_ℤ z) (fits_signed_from_abs w128 (neg_ℤ z) (neg_fits z h)))
+
+pub other_divisor : (n x y : ℤ) → (n ≡ pos 0 → ⊥) → cond (int_eq n (pos 0)) x y ≡ y
+other_divisor n x y h = by (int_eq n (pos 0)) refl
+  where
+    by : (c : Bool) → int_eq n (pos 0) ≡ c → cond c x y ≡ y
+    by true e = absurd (h ((Decides-int_eq n (pos 0)).0 e))
+    by false e = refl
+
+pub list_any-map : (p : Value → Bool) (f : Scalar → Value) (args : List Scalar) → list_any p (map f args) ≡ list_any (λ a. p (f a)) args
+list_any-map p f [] = refl
+list_any-map p f (a ∷ bs) = ap (λ c. p (f a) || c) (list_any-map p f bs)
