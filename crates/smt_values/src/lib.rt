@@ -6,6 +6,7 @@
 
 pub mod apply;
 pub mod array;
+pub mod laws;
 pub mod scalar;
 pub mod sizes;
 pub mod sort_table;
