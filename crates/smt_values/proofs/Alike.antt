@@ -1,15 +1,21 @@
 -- Values that are equal as a program's are the same.
-use Rattle.std.proofs.Common.{◌≡◌, ℕ, ◌^◌, ◌<◌, Bool, true, ◌==◌, ◌&&◌, length, refl, ap, sym, ◌∙◌, subst, nat_eq, true≢false}
+use Rattle.std.proofs.Common.{◌≡◌, ℕ, ◌^◌, ◌<◌, Bool, true, false, not, ◌==◌, ◌&&◌, ◌||◌, List, [], ◌∷◌, map, take, drop, length, get_or, ◌-◌, arith, refl, ap, sym, ◌∙◌, subst, nat_eq, true≢false}
 use Rattle.std.proofs.lemmas.Bool.Decides.{Decides-eqb}
 use Rattle.smt_terms.specs.Sorts.{Name, Sort, bool, int, bit_vector, array, free_sort}
 use Rattle.smt_terms.specs.BitVectors.{nat2bv, bits_eq}
 use Rattle.smt_terms.specs.Values as plain
 use Rattle.smt_terms.specs.Values.{is_value}
 use Rattle.smt_terms.proofs.BitLengths.{length-nat2bv}
-use Rattle.smt_terms.proofs.Same.{Decides-bits_eq}
+use Rattle.std.specs.Prelude.{All}
+use Rattle.std.specs.List.{list_any}
+use Rattle.std.proofs.lemmas.List.Elements.{All-head, All-tail, All-drop}
+use Rattle.std.proofs.lemmas.List.{take_all}
+use Rattle.std.proofs.Common.{length-drop}
+use Rattle.smt_terms.specs.Operators.{first_value, second_value, all_distinct}
+use Rattle.smt_terms.proofs.Same.{Decides-bits_eq, same-back}
 use Rattle.smt_terms.proofs.Tests.{alike_from, and_true, both_true}
 use Rattle.smt_values.specs.Tables.{Table, as_value}
-use Rattle.smt_values.specs.Meaning.{scalar_value, IsScalar, meaning, IsHeld}
+use Rattle.smt_values.specs.Meaning.{scalar_value, scalar_sort, IsScalar, meaning, IsHeld}
 use Rattle.smt_values.specs.declared.scalar.Scalar.{Scalar}
 use Rattle.smt_values.specs.declared.scalar.Scalar.TheVariants.{Truth, Whole, Bits}
 use Rattle.smt_values.specs.declared.value.Value.{Value}
@@ -30,6 +36,15 @@ bits_alike w v u m n e f a b =
 
 width_is : (w v n : ℕ) → (length (nat2bv v n) == w) ≡ true → v ≡ w
 width_is w v n h = sym (length-nat2bv v n) ∙ (Decides-eqb (length (nat2bv v n)) w).0 h
+
+-- a scalar is a value of its sort
+pub scalar_valid : (a : Scalar) (s : Sort) (sizes : plain.Sizes) → scalar_sort a ≡ s → is_value s sizes (scalar_value a) ≡ true
+scalar_valid a s sizes e = ap (λ t. is_value t sizes (scalar_value a)) (sym e) ∙ by a
+  where
+    by : (a : Scalar) → is_value (scalar_sort a) sizes (scalar_value a) ≡ true
+    by (Truth b) = refl
+    by (Whole n) = refl
+    by (Bits w n) = (Decides-eqb (length (nat2bv w n)) w).1 (length-nat2bv w n)
 
 no_scalar_array : (i e : Sort) (sizes : plain.Sizes) (x : Scalar) → is_value (array i e) sizes (scalar_value x) ≡ true → ⊥
 no_scalar_array i e sizes (Truth _) h = absurd (true≢false (sym h))
@@ -150,3 +165,43 @@ no_other_element s sizes a b i e f h k = not_element b f (sym (kinds_are s sizes
 
 pub no_other_array : (s : Sort) (sizes : plain.Sizes) (a b : Value) (x : _) → a ≡ Array x → ((y : _) → b ≡ Array y → ⊥) → is_value s sizes (meaning a) ≡ true → is_value s sizes (meaning b) ≡ true → ⊥
 no_other_array s sizes a b x e f h k = not_array b f (sym (kinds_are s sizes a b h k) ∙ ap kind_of e)
+
+-- ---- distinct scalars of one sort
+
+alike_back : (s : Sort) (sizes : plain.Sizes) (x y : Scalar) → IsScalar x → IsScalar y → scalar_sort x ≡ s → scalar_sort y ≡ s → scalar_eq y x ≡ plain.same s sizes (scalar_value x) (scalar_value y)
+alike_back s sizes x y p q e f =
+    scalars_alike s sizes y x q p (scalar_valid y s sizes f) (scalar_valid x s sizes e)
+    ∙ alike_from (plain.same s sizes (scalar_value y) (scalar_value x)) (plain.same s sizes (scalar_value x) (scalar_value y)) (same-back s sizes (scalar_value y) (scalar_value x)) (same-back s sizes (scalar_value x) (scalar_value y))
+
+any_alike : (s : Sort) (sizes : plain.Sizes) (x : Scalar) (rest : List Scalar) → IsScalar x → scalar_sort x ≡ s → All IsScalar rest → All (λ a. scalar_sort a ≡ s) rest
+    → list_any (λ y. scalar_eq y x) rest ≡ list_any (plain.same s sizes (scalar_value x)) (map scalar_value rest)
+any_alike s sizes x [] p e all sorts = refl
+any_alike s sizes x (y ∷ ys) p e all sorts =
+    λ i. alike_back s sizes x y p (All-head IsScalar y ys all) e (All-head (λ a. scalar_sort a ≡ s) y ys sorts) i
+    || any_alike s sizes x ys p e (All-tail IsScalar y ys all) (All-tail (λ a. scalar_sort a ≡ s) y ys sorts) i
+
+-- the operands from a place on, where the one there is x
+distinct_from : (s : Sort) (sizes : plain.Sizes) (x : Scalar) (rest : List Scalar) → All IsScalar (x ∷ rest) → All (λ a. scalar_sort a ≡ s) (x ∷ rest) → (c : Bool) → c ≡ list_any (λ y. scalar_eq y x) rest
+    → all_distinct (plain.same s sizes) (map scalar_value (x ∷ rest)) ≡ (not c && all_distinct (plain.same s sizes) (map scalar_value rest))
+distinct_from s sizes x rest all sorts c e =
+    sym (ap (λ b. not b && all_distinct (plain.same s sizes) (map scalar_value rest)) (e ∙ any_alike s sizes x rest (All-head IsScalar x rest all) (All-head (λ a. scalar_sort a ≡ s) x rest sorts) (All-tail IsScalar x rest all) (All-tail (λ a. scalar_sort a ≡ s) x rest sorts)))
+
+pub distinct_at : (s : Sort) (sizes : plain.Sizes) (args : List Scalar) (i : ℕ) (x : Scalar) (rest : List Scalar) → drop i args ≡ x ∷ rest → All IsScalar args → All (λ a. scalar_sort a ≡ s) args → (c : Bool) → c ≡ list_any (λ y. scalar_eq y x) rest
+    → all_distinct (plain.same s sizes) (map scalar_value (drop i args)) ≡ (not c && all_distinct (plain.same s sizes) (map scalar_value rest))
+distinct_at s sizes args i x rest at all sorts c e =
+    ap (λ xs. all_distinct (plain.same s sizes) (map scalar_value xs)) at
+    ∙ distinct_from s sizes x rest (subst (All IsScalar) at (All-drop IsScalar i args all)) (subst (All (λ a. scalar_sort a ≡ s)) at (All-drop (λ a. scalar_sort a ≡ s) i args sorts)) c e
+
+pub equal_first : (s : Sort) (sizes : plain.Sizes) (args : List Scalar) → All IsScalar args → All (λ a. scalar_sort a ≡ s) args → 1 < length args → (c : Bool) → c ≡ scalar_eq (get_or args 0 (Truth false)) (get_or args 1 (Truth false))
+    → c ≡ plain.same s sizes (first_value (map scalar_value args)) (second_value (map scalar_value args))
+equal_first s sizes [] all sorts two c e = absurd (omega arith)
+equal_first s sizes (a ∷ []) all sorts two c e = absurd (omega arith)
+equal_first s sizes (a ∷ b ∷ bs) all sorts two c e =
+    let rest = All-tail IsScalar a (b ∷ bs) all in
+    let kinds = All-tail (λ a. scalar_sort a ≡ s) a (b ∷ bs) sorts in
+    e ∙ scalars_alike s sizes a b (All-head IsScalar a (b ∷ bs) all) (All-head IsScalar b bs rest)
+    (scalar_valid a s sizes (All-head (λ a. scalar_sort a ≡ s) a (b ∷ bs) sorts)) (scalar_valid b s sizes (All-head (λ a. scalar_sort a ≡ s) b bs kinds))
+
+-- the operands from a place on, as a slice has them
+pub later_whole : (args : List Scalar) (i : ℕ) → take (length args - i) (drop i args) ≡ drop i args
+later_whole args i = take_all (length args - i) (drop i args) (omega (arith, length-drop i args))

@@ -1,10 +1,14 @@
 pub mod Alike
+pub mod ApplyLaws
 pub mod Bits
 pub mod Compounds
 pub mod Derived
+pub mod IntegerLaws
 pub mod Numbered
+pub mod OperandLaws
 pub mod Pairs
 pub mod Sameness
 pub mod SizeTable
 pub mod SortIds
+pub mod WordLaws
 pub mod Words

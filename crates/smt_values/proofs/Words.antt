@@ -39,7 +39,7 @@ less_one zero q h = absurd (omega arith)
 less_one (suc p) q h = let e : suc p - 1 ≡ p = omega arith in ap (λ k. k * q + q) e ∙ sym (suc_times p q)
 
 -- what is left of 2 ^ 128, as a multiple of 2 ^ width and the rest
-below_word : (w n : ℕ) → w ≤ 128 → n < 2 ^ w → 2 ^ 128 - n ≡ (2 ^ (128 - w) - 1) * 2 ^ w + (2 ^ w - n)
+pub below_word : (w n : ℕ) → w ≤ 128 → n < 2 ^ w → 2 ^ 128 - n ≡ (2 ^ (128 - w) - 1) * 2 ^ w + (2 ^ w - n)
 below_word w n le b =
     let width : 128 - w + w ≡ 128 = omega arith in
     let whole : 2 ^ (128 - w) * 2 ^ w ≡ 2 ^ 128 = sym (pow-add 2 (128 - w) w) ∙ ap (λ k. 2 ^ k) width in
@@ -192,7 +192,7 @@ flipped_bit p n b = by (n % 2 == 1) refl
         let even : n % 2 ≡ 0 = omega arith in let k : (2 * p - 1 - n) % 2 ≡ 1 = omega arith in ap (λ m. m == 1) k
 
 -- all bits of a longer word are turned
-not_longer : (k w n : ℕ) → n < 2 ^ (w + k) → nat2bv w (2 ^ (w + k) - 1 - n) ≡ bvnot (nat2bv w n)
+pub not_longer : (k w n : ℕ) → n < 2 ^ (w + k) → nat2bv w (2 ^ (w + k) - 1 - n) ≡ bvnot (nat2bv w n)
 not_longer k zero n b = refl
 not_longer k (suc w) n b =
     let width : suc w + k ≡ suc (w + k) = omega arith in

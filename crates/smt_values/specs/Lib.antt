@@ -1,10 +1,14 @@
+pub mod Applied
 pub mod Codes
 pub mod Compounds
 pub mod Deep
+pub mod Laws
 pub mod Meaning
 pub mod Numbered
+pub mod Operands
 pub mod Places
 pub mod SizeTable
 pub mod SortIds
 pub mod Tables
 pub mod Valid
+pub mod WordShapes

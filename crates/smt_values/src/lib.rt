@@ -4,12 +4,15 @@
 
 #![tactic(auto)]
 
+pub mod apply;
 pub mod array;
+pub mod laws;
 pub mod scalar;
 pub mod sizes;
 pub mod sort_table;
 pub mod value;
 
+pub use apply::{Beyond128, apply_scalar};
 pub use array::{copy_value, default_value, same, select, store};
 pub use scalar::Scalar;
 pub use sizes::Sizes;
