@@ -1,11 +1,11 @@
 -- What a node asks for beside a rank.
-use Rattle.std.proofs.Common.{◌≡◌, Bool, false, ◌&&◌, refl, ap, List, [], ◌∷◌, Result, Ok, Err, IsOk, subst}
+use Rattle.std.proofs.Common.{◌≡◌, false, ◌&&◌, refl, ap, List, Result, Ok, IsOk, subst}
 use Rattle.smt_terms.specs.declared.op.Op.{Op}
 use Rattle.smt_terms.specs.declared.ids.NodeId.{NodeId}
 use Rattle.smt_terms.specs.Sorts.{Sort}
-use Rattle.smt_terms.specs.Term.{Term, Terms, apply, quantified, Head, op, symbol, const_array, none, ◌⨾◌}
+use Rattle.smt_terms.specs.Term.{Terms, apply, op, none, ◌⨾◌}
 use Rattle.smt_terms.specs.Rank.{Fault, is_minus, is_whole, is_minus_of}
-use Rattle.term_table.specs.Formulas.{Formulas, AreNodes, IsOpOf, Makes, rank_over, trees_at, is_minus_over}
+use Rattle.term_table.specs.Formulas.{Formulas, AreNodes, IsOpOf, Makes, rank_over, trees_at}
 
 not_minus : (p : Op) (ts : Terms) → is_minus p ≡ false → is_minus_of (op p) ts ≡ false
 unfolding is_minus_of

@@ -1,8 +1,8 @@
 -- The texts of numbers and of sorts, piece by piece.
-use Rattle.std.proofs.Common.{◌≡◌, ℕ, zero, suc, ◌+◌, ◌-◌, ◌*◌, ◌/◌, ◌%◌, ◌^◌, ◌<◌, ◌≤◌, nat_lt, Bool, true, false, cond, ◌==◌, ℤ, pos, negsuc, to_z, of_z, FitsSigned, List, [], ◌∷◌, ◌++◌, replicate, refl, ap, sym, ◌∙◌, subst, arith}
+use Rattle.std.proofs.Common.{◌≡◌, ℕ, zero, suc, ◌+◌, ◌-◌, ◌*◌, ◌/◌, ◌%◌, ◌^◌, ◌<◌, ◌≤◌, nat_lt, Bool, true, false, ℤ, pos, to_z, of_z, FitsSigned, List, [], ◌∷◌, ◌++◌, replicate, refl, ap, sym, ◌∙◌, subst, arith}
 use Rattle.std.specs.Int.{w128}
 use Rattle.std.proofs.lemmas.Int.{to_z-of_z, ints}
-use Rattle.std.specs.Fmt.{decimal, digits, digits_onto, digit_glyph}
+use Rattle.std.specs.Fmt.{decimal, digits, digits_onto}
 use Rattle.std.specs.Char.{digit_char}
 use Rattle.std.specs.Prelude.{codes, unsigned_abs, int_lt, int_le, if◌then◌else◌}
 use Rattle.std.proofs.lemmas.Bool.{ltb-true, ltb-false}
@@ -14,7 +14,7 @@ use Rattle.smt_lex.specs.Forms.{Form}
 use Rattle.smt_lex.specs.FormText.{form_text}
 use Rattle.smt_lex.specs.declared.items.Item.TheVariants.{Numeral}
 use Rattle.smt_terms.specs.Numeral.{digits_before, numeral}
-use Rattle.smt_terms.specs.Sorts.{Sort, bit_vector, array}
+use Rattle.smt_terms.specs.Sorts.{bit_vector}
 use Rattle.term_table.specs.WrittenForms.{token_form, list_form, word_form, numeral_form, integer_form, sort_form, last_digits}
 
 -- ---- numerals

@@ -1,4 +1,4 @@
-use Rattle.std.proofs.Common.{◌∙◌, ap, sym, subst, pos, true, false, ◌≡◌, IfOk, List, ℕ}
+use Rattle.std.proofs.Common.{◌∙◌, ap, sym, subst, pos, ◌≡◌, IfOk, List, ℕ}
 use Rattle.std.specs.Prelude.{decimal, unsigned_abs, int_le}
 use Rattle.term_table.proofs.Texts.{same_number, plain_integer, negative_integer}
 use Rattle.term_table.proofs.text.written_integer.Goals as goal
