@@ -1,5 +1,5 @@
 -- Complements, copies behind one another, and whether a number divides an operand.
-use Rattle.std.proofs.Common.{◌≡◌, ℕ, zero, suc, ◌+◌, ◌-◌, ◌*◌, ◌/◌, ◌^◌, ◌<◌, ◌≤◌, Bool, true, false, ◌&&◌, cond, ◌==◌, nat_le, nat_lt, ℤ, pos, List, [], ◌∷◌, map, length, get_or, All, Option, Some, None, Result, Ok, Err, IsOk, refl, ap, sym, ◌∙◌, subst, arith}
+use Rattle.std.proofs.Common.{◌≡◌, ℕ, zero, suc, ◌+◌, ◌-◌, ◌*◌, ◌/◌, ◌^◌, ◌<◌, ◌≤◌, Bool, true, false, inl, inr, ◌&&◌, cond, ◌==◌, nat_le, nat_lt, ℤ, pos, List, [], ◌∷◌, map, length, get_or, All, Option, Some, None, Result, Ok, Err, IsOk, refl, ap, sym, ◌∙◌, subst, arith}
 use Rattle.std.proofs.lemmas.Bool.Decides.{leb_tells, eqb_tells, Decides-eqb}
 use Rattle.std.proofs.Math.Nat.{mul-le-mul_right, div-mul-le_self, lt-div-mul-add}
 use Rattle.smt_terms.specs.declared.ids.NodeId.{NodeId}
@@ -266,7 +266,7 @@ divisibility_rank t n ks r is = by (length (kid_sorts t ks) == 1) (first_misfit 
     by false m h = absurd cc
 
 pub divisible_zero : (t : Formulas) (n : ℕ) (ks : List NodeId) (r : Sort) → Ok r ≡ rank_over t Neg (trees_at t ks) → n ≡ 0 → written_rank (divisibility n) (kid_sorts t ks) ≡ Err bad_index
-divisible_zero t n ks r is none = divisibility_rank t n ks r is ∙ ap (λ m. accepted None (nat_le 1 m) bool) none
+divisible_zero t n ks r is zeroed = divisibility_rank t n ks r is ∙ ap (λ m. accepted None (nat_le 1 m) bool) zeroed
 
 pub divisible_ok : (t : Formulas) (n : ℕ) (ks : List NodeId) (r : Sort) → Ok r ≡ rank_over t Neg (trees_at t ks) → 0 < n → IsOk (written_rank (divisibility n) (kid_sorts t ks))
 divisible_ok t n ks r is some = is_ok (divisibility_rank t n ks r is ∙ ap (λ b. accepted None b bool) (le_true 1 n some))

@@ -19,4 +19,4 @@ loop-preserved c =
     c.pair.new.table c.in_ok-all.all c.in_ok-all.ensures.extends c.in_ok-all.ensures.node c.in_ok-all.ensures.term
 
 pub returns-clause-term : goal.returns-clause-term
-returns-clause-term c = copied_done c.args.table.now c.loop.table c.args.kid c.loop.all c.args.more c.loop.counter ? ? c.loop.invariant
+returns-clause-term c = copied_done c.args.table.now c.loop.table c.args.kid c.loop.all c.args.more c.loop.counter c.loop-test.false c.loop.auto.counter-end c.loop.invariant
