@@ -1,9 +1,11 @@
 pub mod Answering
 pub mod Folding
 pub mod Growing
+pub mod Linking
 pub mod Names
 pub mod Nodes
 pub mod Pairs
 pub mod Passing
+pub mod Repeating
 pub mod Theory
 pub mod Widths

@@ -18,7 +18,7 @@ use Rattle.sort_check.specs.Making.{made_over, term_algebra, term_width}
 
 -- ---- how many operands
 
-not_one : (n : ℕ) → (suc (suc n) == 1) ≡ false
+pub not_one : (n : ℕ) → (suc (suc n) == 1) ≡ false
 not_one n = elim (eqb_tells (suc (suc n)) 1) [ inl e ↦ absurd (let same : suc (suc n) ≡ 1 = e.1 in omega arith) | inr e ↦ e.0 ]
 
 refused_two : (b : Bool) (r : Result Sort Fault) → b ≡ false → IsOk (cond b r (Err wrong_arity)) → ⊥
@@ -35,7 +35,7 @@ no_fault None b s ok = ok
 
 -- ---- extensions
 
-gt_false : (a b : ℕ) → b < a → nat_le a b ≡ false
+pub gt_false : (a b : ℕ) → b < a → nat_le a b ≡ false
 gt_false a b lt = elim (leb_tells a b) [ inl e ↦ absurd (let le : a ≤ b = e.1 in omega arith) | inr e ↦ e.0 ]
 
 wide : (w i j : ℕ) → (w + i ≤ 128 → i ≡ j) → (128 < w + i → 128 < w + j) → accepted None true (bit_vector (w + i)) ≡ accepted None true (bit_vector (w + j))

@@ -39,6 +39,12 @@ form_seen ZeroExtend = with_index (λ i. plain (ZeroExt i))
 form_seen SignExtend = with_index (λ i. plain (SignExt i))
 form_seen ExtractForm = with_indices (λ high low. plain (Extract high low))
 
+-- how many indices an operator takes
+abbrev pub index_count : Indexed → ℕ
+index_count (without_index w) = 0
+index_count (with_index w) = 1
+index_count (with_indices w) = 2
+
 abbrev pub found : Option Form → Option Indexed
 found (Some f) = Some (form_seen f)
 found None = None

@@ -17,3 +17,4 @@ mod written;
 pub use fault::MakeFault;
 pub use making::make;
 pub use operators::make_form;
+pub use written::indices_taken;

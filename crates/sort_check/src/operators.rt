@@ -45,6 +45,7 @@ pub fn make_form(
     build(alloc, table, written_named(name, indices), kids)
 }
 
+#[tactic(auto, unfolding(crate::specs::Forms::is_apt))]
 fn build(
     alloc: Global,
     table: &mut Table,

@@ -1,8 +1,8 @@
 //! The written operators by their names and indices.
 
-ghost use Rattle.std.specs.Prelude.{◌≡◌, ◌<◌, ◌^◌, All, map, IsSome, IsTrue, Some};
+ghost use Rattle.std.specs.Prelude.{◌≡◌, ℕ, List, length, IfSome, option_map, ◌<◌, ◌^◌, All, map, IsSome, IsTrue, Some};
 ghost use Rattle.smt_terms.specs.Written.{operator_named, named_in, at_indices, written_named};
-ghost use Rattle.sort_check.specs.Forms.{form_seen, found, written_seen, is_apt, is_apt_at};
+ghost use Rattle.sort_check.specs.Forms.{form_seen, found, written_seen, is_apt, is_apt_at, index_count};
 
 use crate::written::Form::{
     Divisible, Extract, Repeat, RotateLeft, RotateRight, SignExtend, WithoutIndex, ZeroExtend,
@@ -161,6 +161,19 @@ fn at_indices(form: Form, indices: &[u128]) -> Operator
             high: indices[0],
             low: indices[1],
         },
+    }
+}
+
+/// How many indices the written operator of this name takes, and None exactly where there is no operator of this name.
+/// It takes no memory.
+pub fn indices_taken(name: &[u8]) -> Option<usize>
+    ensures number { result ≡ option_map index_count (operator_named name.now) }
+    ensures named { IfSome result (λ n. (indices : List ℕ) → length indices ≡ n → IsSome (written_named name.now indices)) }
+{
+    match form_named(name)? {
+        WithoutIndex(_) => Some(0),
+        Extract => Some(2),
+        _ => Some(1),
     }
 }
 
