@@ -1,0 +1,14 @@
+//! Walks over the formulas of a table. A formula shares its subterms, so that as a tree it may be exponentially larger
+//! than as nodes: a walk visits each node once, from below, and keeps one result for each.
+
+#![tactic(auto)]
+
+pub mod kept;
+pub mod node_step;
+mod stack;
+pub mod steps;
+pub mod walks;
+
+pub use kept::Kept;
+pub use node_step::NodeStep;
+pub use steps::Steps;
