@@ -1,6 +1,7 @@
 pub mod Aig
 pub mod AigShape
 mod AtTruth
+pub mod Clear
 mod Duals
 mod Inherited
 mod Keeps
