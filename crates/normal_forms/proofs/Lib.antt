@@ -4,6 +4,7 @@ mod AtTruth
 pub mod Clear
 mod Duals
 mod Inherited
+pub mod Inside
 mod Keeps
 pub mod Nnf
 pub mod NnfShape

@@ -4,21 +4,21 @@ ghost use Rattle.std.specs.Prelude.{IsTrue};
 ghost use Rattle.smt_terms.specs.Term.{Term};
 ghost use Rattle.smt_terms.specs.Shapes.{is_nnf, is_aig, no_bool_quantifier};
 ghost use Rattle.smt_terms.specs.Keeps.{KeepsValues};
-ghost use Rattle.normal_forms.specs.Laws.{KeepsFormulas};
+ghost use Rattle.normal_forms.specs.Laws.{RewritesAs};
 ghost use Rattle.normal_forms.specs.Nnf.{nnf};
 ghost use Rattle.normal_forms.specs.Aig.{aig};
 ghost use Rattle.normal_forms.specs.Quantifiers.{shannon};
 
-/// Negation normal form keeps the values of formulas, and leaves no connectives but `and`, `or` and `not` over atoms.
+/// Negation normal form keeps the values of terms, and leaves no connectives but `and`, `or` and `not` over atoms.
 pub fn nnf_keeps_values()
-    ensures values { KeepsFormulas nnf }
+    ensures values { RewritesAs nnf }
     ensures shape { (t : Term) → IsTrue (is_nnf (nnf t)) }
 {}
 
-/// And-inverter form keeps the values of formulas, and leaves no connectives but `and` and `not`, and no `not` over a
+/// And-inverter form keeps the values of terms, and leaves no connectives but `and` and `not`, and no `not` over a
 /// `not`.
 pub fn aig_keeps_values()
-    ensures values { KeepsFormulas aig }
+    ensures values { RewritesAs aig }
     ensures shape { (t : Term) → IsTrue (is_aig (aig t)) }
 {}
 
