@@ -4,11 +4,13 @@ use Rattle.std.specs.Prelude.{⊤}
 use Rattle.smt_terms.specs.declared.op.Op.{Op}
 use Rattle.smt_terms.specs.declared.op.Op.TheVariants.{Truth, Not, And, Or}
 use Rattle.smt_terms.specs.Sorts.{Name, Symbol, Variable}
-use Rattle.smt_terms.specs.Term.{Quantifier, Head, op, Term, apply, quantified, Terms, none, ◌⨾◌, terms}
+use Rattle.smt_terms.specs.Term.{Quantifier, Head, op, symbol, const_array, Term, apply, quantified, Terms, none, ◌⨾◌, terms}
+use Rattle.smt_terms.specs.Equal.{name_eq, symbol_eq}
 use Rattle.smt_terms.specs.Free.{is_among, name_among, names_of, without, head_symbols, free, free_of}
 use Rattle.smt_terms.specs.SubstLaws.{names_within, names_within_each}
 use Rattle.smt_terms.specs.Connectives.{Kind, truth_value, negation, conjunction, disjunction, exclusive, implication, equivalence, difference, conditional, atom, kind_of, truth_term, negated, all_of, any_of, both, either, opposite, nth}
 use Rattle.smt_terms.proofs.Tests.{either_true, left_true, right_true}
+use Rattle.smt_terms.proofs.Equal.{Decides-name_eq, Decides-symbol_eq}
 use Rattle.smt_terms.proofs.Cuts.{name_among-append}
 use Rattle.normal_forms.specs.Nnf.{differ, agree, positive_distinct, negative_distinct, positive, negative, dual, nnf, nnf_not, nnf_each, nnf_not_each}
 use Rattle.normal_forms.specs.Aig.{same_sides, aig_distinct, inverted, aig, aig_each}
@@ -28,20 +30,23 @@ in-both ms ns n among = either_true (name_among ms n) (name_among ns n) (sym (na
 
 -- ---- what stands within a term
 
--- no free symbols but these, no names but these, and clear where C holds
-pub record Within (fs : List Symbol) (ns : List Name) (C : Type 0) (r : Term) : Type 0 where
+-- no free symbols but these, no names but such, and clear where C holds
+pub record Within (fs : List Symbol) (N : Name → Type 0) (C : Type 0) (r : Term) : Type 0 where
   pub symbols : (g : Symbol) → is_among (free r) g ≡ true → is_among fs g ≡ true
-  pub names : (n : Name) → name_among (names_within r) n ≡ true → name_among ns n ≡ true
+  pub names : (n : Name) → name_among (names_within r) n ≡ true → N n
   pub clear : C → Clear r
 
+abbrev pub NamedIn : List Name → Name → Type 0
+NamedIn ns n = name_among ns n ≡ true
+
 abbrev pub Inside : Term → Term → Type 0
-Inside t r = Within (free t) (names_within t) (Clear t) r
+Inside t r = Within (free t) (NamedIn (names_within t)) (Clear t) r
 
 pub inside-itself : (t : Term) → Inside t t
 inside-itself t = record { symbols = λ g among. among; names = λ n among. among; clear = λ c. c }
 
-wider : (fs gs : List Symbol) (ms ns : List Name) (C D : Type 0) (r : Term) → ((g : Symbol) → is_among fs g ≡ true → is_among gs g ≡ true) → ((n : Name) → name_among ms n ≡ true → name_among ns n ≡ true) → (D → C) → Within fs ms C r → Within gs ns D r
-wider fs gs ms ns C D r symbols names clear i = record {
+pub wider : (fs gs : List Symbol) (M N : Name → Type 0) (C D : Type 0) (r : Term) → ((g : Symbol) → is_among fs g ≡ true → is_among gs g ≡ true) → ((n : Name) → M n → N n) → (D → C) → Within fs M C r → Within gs N D r
+wider fs gs M N C D r symbols names clear i = record {
   symbols = λ g among. symbols g (i.symbols g among);
   names = λ n among. names n (i.names n among);
   clear = λ d. i.clear (clear d);
@@ -50,19 +55,19 @@ wider fs gs ms ns C D r symbols names clear i = record {
 -- ---- operands and bodies
 
 -- inside one of these operands
-abbrev InsideOne : Terms → Term → Type 0
-InsideOne ts r = Within (free_of ts) (names_within_each ts) (ClearEach ts) r
+abbrev pub InsideOne : Terms → Term → Type 0
+InsideOne ts r = Within (free_of ts) (NamedIn (names_within_each ts)) (ClearEach ts) r
 
-inside-first : (t : Term) (ts : Terms) (r : Term) → Inside t r → InsideOne (t ⨾ ts) r
-inside-first t ts r i = wider (free t) (free_of (t ⨾ ts)) (names_within t) (names_within_each (t ⨾ ts)) (Clear t) (ClearEach (t ⨾ ts)) r (in-first (free t) (free_of ts)) (in-left (names_within t) (names_within_each ts)) (λ c. c.0) i
+pub inside-first : (t : Term) (ts : Terms) (r : Term) → Inside t r → InsideOne (t ⨾ ts) r
+inside-first t ts r i = wider (free t) (free_of (t ⨾ ts)) (NamedIn (names_within t)) (NamedIn (names_within_each (t ⨾ ts))) (Clear t) (ClearEach (t ⨾ ts)) r (in-first (free t) (free_of ts)) (in-left (names_within t) (names_within_each ts)) (λ c. c.0) i
 
-inside-rest : (t : Term) (ts : Terms) (r : Term) → InsideOne ts r → InsideOne (t ⨾ ts) r
-inside-rest t ts r i = wider (free_of ts) (free_of (t ⨾ ts)) (names_within_each ts) (names_within_each (t ⨾ ts)) (ClearEach ts) (ClearEach (t ⨾ ts)) r (in-second (free t) (free_of ts)) (in-right (names_within t) (names_within_each ts)) (λ c. c.1) i
+pub inside-rest : (t : Term) (ts : Terms) (r : Term) → InsideOne ts r → InsideOne (t ⨾ ts) r
+inside-rest t ts r i = wider (free_of ts) (free_of (t ⨾ ts)) (NamedIn (names_within_each ts)) (NamedIn (names_within_each (t ⨾ ts))) (ClearEach ts) (ClearEach (t ⨾ ts)) r (in-second (free t) (free_of ts)) (in-right (names_within t) (names_within_each ts)) (λ c. c.1) i
 
-inside-operand : (h : Head) (ts : Terms) (r : Term) → InsideOne ts r → Inside (apply h ts) r
-inside-operand h ts r i = wider (free_of ts) (free (apply h ts)) (names_within_each ts) (names_within (apply h ts)) (ClearEach ts) (Clear (apply h ts)) r (in-second (head_symbols h) (free_of ts)) (in-right (names_of (head_symbols h)) (names_within_each ts)) (λ c. c) i
+pub inside-operand : (h : Head) (ts : Terms) (r : Term) → InsideOne ts r → Inside (apply h ts) r
+inside-operand h ts r i = wider (free_of ts) (free (apply h ts)) (NamedIn (names_within_each ts)) (NamedIn (names_within (apply h ts))) (ClearEach ts) (Clear (apply h ts)) r (in-second (head_symbols h) (free_of ts)) (in-right (names_of (head_symbols h)) (names_within_each ts)) (λ c. c) i
 
-all-map : (P Q : Term → Type 0) → ((r : Term) → P r → Q r) → (rs : List Term) → All P rs → All Q rs
+pub all-map : (P Q : Term → Type 0) → ((r : Term) → P r → Q r) → (rs : List Term) → All P rs → All Q rs
 all-map P Q step [] all = tt
 all-map P Q step (r ∷ rs) all = (step r all.0, all-map P Q step rs all.1)
 
@@ -78,11 +83,20 @@ inside-body q p xs body b i = record {
     go n (inl here) = in-left (map (λ x. x.name) xs) (names_within body) n here
     go n (inr there) = in-right (map (λ x. x.name) xs) (names_within body) n (i.names n there)
 
--- ---- operators add nothing
+-- ---- heads and operators
 
-module _ (fs : List Symbol) (ns : List Name) (C : Type 0) where
+named-head : (h : Head) (n : Name) → name_among (names_of (head_symbols h)) n ≡ true → (g : Symbol) × (is_among (head_symbols h) g ≡ true) × (g.name ≡ n)
+named-head (op o) n among = absurd cc
+named-head (const_array s) n among = absurd cc
+named-head (symbol f) n among = (f, left_true (symbol_eq f f) false ((Decides-symbol_eq f f).1 refl), go (either_true (name_eq f.name n) false among))
+  where
+    go : (name_eq f.name n ≡ true) ⊎ (false ≡ true) → f.name ≡ n
+    go (inl here) = (Decides-name_eq f.name n).0 here
+    go (inr never) = absurd cc
+
+module _ (fs : List Symbol) (N : Name → Type 0) (C : Type 0) where
   abbrev P : Term → Type 0
-  P = Within fs ns C
+  P = Within fs N C
 
   each-symbols : (us : Terms) → AllOf P us → (g : Symbol) → is_among (free_of us) g ≡ true → is_among fs g ≡ true
   each-symbols none all g among = absurd cc
@@ -92,11 +106,11 @@ module _ (fs : List Symbol) (ns : List Name) (C : Type 0) where
       go (inl here) below = all.0.symbols g here
       go (inr there) below = below there
 
-  each-names : (us : Terms) → AllOf P us → (n : Name) → name_among (names_within_each us) n ≡ true → name_among ns n ≡ true
+  each-names : (us : Terms) → AllOf P us → (n : Name) → name_among (names_within_each us) n ≡ true → N n
   each-names none all n among = absurd cc
   each-names (u ⨾ us) all n among = go (in-both (names_within u) (names_within_each us) n among) (each-names us all.1 n)
     where
-      go : (name_among (names_within u) n ≡ true) ⊎ (name_among (names_within_each us) n ≡ true) → (name_among (names_within_each us) n ≡ true → name_among ns n ≡ true) → name_among ns n ≡ true
+      go : (name_among (names_within u) n ≡ true) ⊎ (name_among (names_within_each us) n ≡ true) → (name_among (names_within_each us) n ≡ true → N n) → N n
       go (inl here) below = all.0.names n here
       go (inr there) below = below there
 
@@ -104,16 +118,23 @@ module _ (fs : List Symbol) (ns : List Name) (C : Type 0) where
   each-clear none all c = tt
   each-clear (u ⨾ us) all c = (all.0.clear c, each-clear us all.1 c)
 
-  pub op-within : (o : Op) (us : Terms) → AllOf P us → P (apply (op o) us)
-  op-within o us all = record {
-    symbols = λ g among. go g (in-more [] (free_of us) g among);
-    names = each-names us all;
+  pub head-within : (h : Head) (us : Terms) → ((g : Symbol) → is_among (head_symbols h) g ≡ true → (is_among fs g ≡ true) × N g.name) → AllOf P us → P (apply h us)
+  head-within h us head all = record {
+    symbols = λ g among. symbol g (in-more (head_symbols h) (free_of us) g among);
+    names = λ n among. name n (in-both (names_of (head_symbols h)) (names_within_each us) n among);
     clear = each-clear us all;
   }
     where
-      go : (g : Symbol) → (false ≡ true) ⊎ (is_among (free_of us) g ≡ true) → is_among fs g ≡ true
-      go g (inl never) = absurd cc
-      go g (inr there) = each-symbols us all g there
+      symbol : (g : Symbol) → (is_among (head_symbols h) g ≡ true) ⊎ (is_among (free_of us) g ≡ true) → is_among fs g ≡ true
+      symbol g (inl here) = (head g here).0
+      symbol g (inr there) = each-symbols us all g there
+
+      name : (n : Name) → (name_among (names_of (head_symbols h)) n ≡ true) ⊎ (name_among (names_within_each us) n ≡ true) → N n
+      name n (inl here) = let found = named-head h n here in subst N found.2 (head found.0 found.1).1
+      name n (inr there) = each-names us all n there
+
+  pub op-within : (o : Op) (us : Terms) → AllOf P us → P (apply (op o) us)
+  op-within o us all = head-within (op o) us (λ g among. absurd cc) all
 
   under : (o : Op) (u : Term) → P (apply (op o) (u ⨾ none)) → P u
   under o u p = record {
@@ -220,7 +241,7 @@ mutual
   both-inside : (t : Term) → Inside t (nnf t) × Inside t (nnf_not t)
   both-inside (apply h ts) =
       let each : All (InsideOne ts) (nnf_each ts) × All (InsideOne ts) (nnf_not_each ts) = all-forms ts in
-      forms-within (free (apply h ts)) (names_within (apply h ts)) (Clear (apply h ts)) (kind_of h ts) (apply h ts) (nnf_each ts) (nnf_not_each ts) (inside-itself (apply h ts))
+      forms-within (free (apply h ts)) (NamedIn (names_within (apply h ts))) (Clear (apply h ts)) (kind_of h ts) (apply h ts) (nnf_each ts) (nnf_not_each ts) (inside-itself (apply h ts))
       (all-map (InsideOne ts) (Inside (apply h ts)) (inside-operand h ts) (nnf_each ts) each.0)
       (all-map (InsideOne ts) (Inside (apply h ts)) (inside-operand h ts) (nnf_not_each ts) each.1)
   both-inside (quantified q xs body) =
@@ -244,7 +265,7 @@ nnf-inside t = (both-inside t).0
 mutual
   pub aig-inside : (t : Term) → Inside t (aig t)
   aig-inside (apply h ts) =
-      inverted-within (free (apply h ts)) (names_within (apply h ts)) (Clear (apply h ts)) (kind_of h ts) (apply h ts) (aig_each ts) (inside-itself (apply h ts))
+      inverted-within (free (apply h ts)) (NamedIn (names_within (apply h ts))) (Clear (apply h ts)) (kind_of h ts) (apply h ts) (aig_each ts) (inside-itself (apply h ts))
       (all-map (InsideOne ts) (Inside (apply h ts)) (inside-operand h ts) (aig_each ts) (aigs-inside ts))
   aig-inside (quantified q xs body) = inside-body q q xs body (aig body) (aig-inside body)
 

@@ -2,8 +2,9 @@
 use Rattle.std.proofs.Common.{◌≡◌, Bool, true, false, Some, refl, ap, sym, ◌∙◌, subst}
 use Rattle.std.specs.Prelude.{is_some}
 use Rattle.std.specs.Bool.{beq}
-use Rattle.smt_terms.specs.Sorts.{Sort, bool}
+use Rattle.smt_terms.specs.Sorts.{Sort, bool, Symbol}
 use Rattle.smt_terms.specs.Term.{Head, Term, apply, quantified, Terms}
+use Rattle.smt_terms.specs.Free.{is_among, free}
 use Rattle.smt_terms.specs.Rank.{is_regular, sort_of, IsWellSorted}
 use Rattle.smt_terms.specs.Values.{is_true, same}
 use Rattle.smt_terms.specs.Val.{val}
@@ -15,10 +16,10 @@ use Rattle.smt_terms.proofs.Sorted.{quantified_sort}
 use Rattle.smt_terms.proofs.Connected.{is_logical, connected}
 use Rattle.smt_terms.proofs.Built.{Means, sense}
 use Rattle.smt_terms.proofs.Keeping.{the_sort, keeps_itself}
-use Rattle.normal_forms.specs.Laws.{RewritesAs}
+use Rattle.normal_forms.specs.Laws.{Rewrites, RewritesAs}
 use Rattle.normal_forms.specs.Nnf.{positive, nnf, nnf_each, nnf_not_each}
 use Rattle.normal_forms.specs.Aig.{inverted, aig, aig_each}
-use Rattle.normal_forms.proofs.Clear.{stays-clear}
+use Rattle.normal_forms.proofs.Clear.{Clear, stays-clear}
 use Rattle.normal_forms.proofs.Inside.{Inside}
 
 beq-same : (a b : Bool) → a ≡ b → beq a b ≡ true
@@ -81,14 +82,14 @@ pub keeps-all : (form : Term → Term) → ((t : Term) → sort_of t ≡ Some bo
 keeps-all form means regular plain t sorted =
     by-sort t (form t) sorted (λ has. keeps-formula t (form t) sorted has (means t has) (regular t (both_true (is_some (sort_of t)) (is_regular t) sorted).1)) (plain t)
 
-pub rewrites-as : (form : Term → Term) → KeepsValues form → ((t : Term) → Inside t (form t)) → RewritesAs form
-rewrites-as form keeps inside = record {
-  rewrites = λ t sorted.
-      let found = the_sort (sort_of t) (both_true (is_some (sort_of t)) (is_regular t) sorted).0 in
-      record {
-        keeps = keeps t sorted;
-        symbols = (inside t).symbols;
-        clear = stays-clear t (form t) found.0 found.1 (inside t).symbols (inside t).clear;
-      };
-  names = λ t. (inside t).names;
-}
+pub rewrites-from : (t r : Term) (s : Sort) → sort_of t ≡ Some s → Keeps t r → ((g : Symbol) → is_among (free r) g ≡ true → is_among (free t) g ≡ true) → (Clear t → Clear r) → Rewrites t r
+rewrites-from t r s has keeps symbols clear = record { keeps = keeps; symbols = symbols; clear = stays-clear t r s has symbols clear }
+
+pub sort-known : (t : Term) → IsWellSorted t → (s : Sort) × (sort_of t ≡ Some s)
+sort-known t sorted = the_sort (sort_of t) (both_true (is_some (sort_of t)) (is_regular t) sorted).0
+
+pub rewrites-as : (form : Term → Term) → KeepsValues form → ((t : Term) (s : Sort) → sort_of t ≡ Some s → Inside t (form t)) → RewritesAs form
+rewrites-as form keeps within t sorted =
+    let found = sort-known t sorted in
+    let inside : Inside t (form t) = within t found.0 found.1 in
+    record { rewrites = rewrites-from t (form t) found.0 found.1 (keeps t sorted) inside.symbols inside.clear; names = inside.names }

@@ -11,4 +11,5 @@ pub mod NnfShape
 mod NoBool
 mod Rows
 pub mod Shannon
+pub mod ShannonInside
 pub mod ShannonRegular

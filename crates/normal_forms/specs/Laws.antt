@@ -15,10 +15,14 @@ pub record Rewrites (t r : Term) : Type 0 where
   pub symbols : (g : Symbol) → IsTrue (is_among (free r) g) → IsTrue (is_among (free t) g)
   pub clear : IsTrue (is_clear t) → IsTrue (is_clear r)
 
--- a form that needs no names: every name in it stands in the term
-pub record RewritesAs (form : Term → Term) : Type 0 where
-  pub rewrites : (t : Term) → IsWellSorted t → Rewrites t (form t)
-  pub names : (t : Term) (n : Name) → IsTrue (name_among (names_within (form t)) n) → IsTrue (name_among (names_within t) n)
+-- every name in r stands in t too
+pub record RewritesAlone (t r : Term) : Type 0 where
+  pub rewrites : Rewrites t r
+  pub names : (n : Name) → IsTrue (name_among (names_within r) n) → IsTrue (name_among (names_within t) n)
+
+-- a form that draws no names
+abbrev pub RewritesAs : (Term → Term) → Type 0
+RewritesAs form = (t : Term) → IsWellSorted t → RewritesAlone t (form t)
 
 -- of a term none of whose names the supply gives, with the supply that is left: that gives none of the result's names, and
 -- none that the first one didn't give

@@ -3,7 +3,6 @@
 ghost use Rattle.std.specs.Prelude.{IsTrue};
 ghost use Rattle.smt_terms.specs.Term.{Term};
 ghost use Rattle.smt_terms.specs.Shapes.{is_nnf, is_aig, no_bool_quantifier};
-ghost use Rattle.smt_terms.specs.Keeps.{KeepsValues};
 ghost use Rattle.normal_forms.specs.Laws.{RewritesAs};
 ghost use Rattle.normal_forms.specs.Nnf.{nnf};
 ghost use Rattle.normal_forms.specs.Aig.{aig};
@@ -24,6 +23,6 @@ pub fn aig_keeps_values()
 
 /// Shannon's expansion keeps the values of terms, and leaves no quantifier over truth values.
 pub fn shannon_keeps_values()
-    ensures values { KeepsValues shannon }
+    ensures values { RewritesAs shannon }
     ensures shape { (t : Term) → IsTrue (no_bool_quantifier (shannon t)) }
 {}

@@ -6,4 +6,4 @@ use Rattle.normal_forms.proofs.Keeps.{nnf-plain, keeps-all, rewrites-as}
 use Rattle.normal_forms.proofs.laws.nnf_keeps_values.Goals as goal
 
 pub returns : goal.returns
-returns c = record { values = rewrites-as nnf (keeps-all nnf nnf-means nnf-regular nnf-plain) nnf-inside; shape = nnf-shape }
+returns c = record { values = rewrites-as nnf (keeps-all nnf nnf-means nnf-regular nnf-plain) (λ t s has. nnf-inside t); shape = nnf-shape }
