@@ -13,3 +13,4 @@ mod Rows
 pub mod Shannon
 pub mod ShannonInside
 pub mod ShannonRegular
+pub mod Substituted
