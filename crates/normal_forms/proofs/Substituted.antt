@@ -16,7 +16,7 @@ use Rattle.smt_terms.specs.Constants.{whole_term}
 use Rattle.smt_terms.specs.Shapes.{is_bool, no_bool_quantifier, no_bool_quantifiers}
 use Rattle.smt_terms.specs.Subst.{Map, image, cut_to, names_in, Renamed, bind, renaming, Chosen, Choices, map_eq, chosen_for, keep, kept_or, quantify, image_or_itself, rebuilt, subst_from, substs_from, subst}
 use Rattle.smt_terms.specs.SubstLaws.{names_within, names_within_each, GivesNone, GivesNoImage, ReplacesConstants, LeftFree, stays, comes, Later}
-use Rattle.smt_terms.proofs.Tests.{both_true, and_true, either_true, left_true, both_false, not_true}
+use Rattle.smt_terms.proofs.Tests.{both_true, and_true, either_true, left_true, right_true, both_false, not_true}
 use Rattle.smt_terms.proofs.Equal.{Decides-name_eq, Decides-symbol_eq, Decides-term_eq}
 use Rattle.smt_terms.proofs.Fresh.{never-next, never-after}
 use Rattle.smt_terms.proofs.Sorted.{applied, sorted, quantified_sort}
@@ -337,3 +337,108 @@ mutual
       omega arith
   substs-fewer none f (u ⨾ us) are have = absurd are
   substs-fewer (t ⨾ ts) f none are have = absurd are
+
+-- ---- clear terms
+
+-- what isn't given has another name than each new variable
+renamed-sees : (c : List Name) (xs : List Variable) (f : Map) (s : Supply) (g : Symbol) → NeverGives s g.name → Sees xs g → Sees (renaming c xs f s).variables g
+renamed-sees c [] f s g never sees = tt
+renamed-sees c (x ∷ xs) f s g never sees = go (name_among c x.name) (λ k t h. renamed-sees c xs k t g h sees.1)
+  where
+    go : (b : Bool) → ((k : Map) (t : Supply) → NeverGives t g.name → Sees (renaming c xs k t).variables g) → Sees (bind b x f s (λ k t. renaming c xs k t)).variables g
+    go true below = ((λ same. absurd (never-next s g.name never (sym same))), below ((constant_of x, variable (fresh_for x s)) ∷ f) (after_draw s) (never-after s g.name never))
+    go false below = (sees.0, below f s never)
+
+-- and so has what no variable that keeps its name is named
+unnamed-sees : (c : List Name) (xs : List Variable) (f : Map) (s : Supply) (g : Symbol) → NeverGives s g.name → NoneNamed c xs g.name → Sees (renaming c xs f s).variables g
+unnamed-sees c [] f s g never unnamed = tt
+unnamed-sees c (x ∷ xs) f s g never unnamed = go (name_among c x.name) refl (λ k t h. unnamed-sees c xs k t g h unnamed.1)
+  where
+    go : (b : Bool) → name_among c x.name ≡ b → ((k : Map) (t : Supply) → NeverGives t g.name → Sees (renaming c xs k t).variables g) → Sees (bind b x f s (λ k t. renaming c xs k t)).variables g
+    go true e below = ((λ same. absurd (never-next s g.name never (sym same))), below ((constant_of x, variable (fresh_for x s)) ∷ f) (after_draw s) (never-after s g.name never))
+    go false e below = ((λ same. absurd (unnamed.0 e same)), below f s never)
+
+among-has : (ys : List Variable) (n : Name) (g : Symbol) → is_among (map constant_of ys) g ≡ true → n ≡ g.name → has_name n (map (λ y. y.name) ys) ≡ true
+among-has [] n g among same = absurd cc
+among-has (y ∷ ys) n g among same = go (either_true (symbol_eq (constant_of y) g) (is_among (map constant_of ys) g) among) (λ there. among-has ys n g there same)
+  where
+    go : (symbol_eq (constant_of y) g ≡ true) ⊎ (is_among (map constant_of ys) g ≡ true) → (is_among (map constant_of ys) g ≡ true → has_name n (map (λ z. z.name) ys) ≡ true) → (name_eq n y.name || has_name n (map (λ z. z.name) ys)) ≡ true
+    go (inl here) below = left_true (name_eq n y.name) (has_name n (map (λ z. z.name) ys)) ((Decides-name_eq n y.name).1 (same ∙ sym (ap (λ (k : Symbol). k.name) ((Decides-symbol_eq (constant_of y) g).0 here))))
+    go (inr there) below = right_true (name_eq n y.name) (has_name n (map (λ z. z.name) ys)) (below there)
+
+unnamed-all : (ys : List Variable) (g : Symbol) → has_name g.name (map (λ y. y.name) ys) ≡ false → Sees ys g
+unnamed-all [] g apart = tt
+unnamed-all (y ∷ ys) g apart =
+    let parts = both_false (name_eq g.name y.name) (has_name g.name (map (λ z. z.name) ys)) apart in
+    ((λ same. absurd (differ parts.0 ((Decides-name_eq g.name y.name).1 (sym same)))), unnamed-all ys g parts.1)
+  where
+    differ : name_eq g.name y.name ≡ false → name_eq g.name y.name ≡ true → ⊥
+    differ e h = absurd cc
+
+-- one of the variables, whose names differ
+pub bound-sees : (ys : List Variable) (g : Symbol) → are_distinct (map (λ y. y.name) ys) ≡ true → is_among (map constant_of ys) g ≡ true → Sees ys g
+bound-sees [] g distinct among = tt
+bound-sees (y ∷ ys) g distinct among =
+    let parts = both_true (not (has_name y.name (map (λ z. z.name) ys))) (are_distinct (map (λ z. z.name) ys)) distinct in
+    go parts.0 (either_true (symbol_eq (constant_of y) g) (is_among (map constant_of ys) g) among) (bound-sees ys g parts.1)
+  where
+    named : (zs : List Variable) → is_among (map constant_of zs) g ≡ true → y.name ≡ g.name → has_name y.name (map (λ z. z.name) zs) ≡ true
+    named zs inside same = among-has zs y.name g inside same
+
+    never : (a : Bool) → not a ≡ true → a ≡ true → ⊥
+    never true h e = absurd cc
+    never false h e = absurd cc
+
+    go : not (has_name y.name (map (λ z. z.name) ys)) ≡ true → (symbol_eq (constant_of y) g ≡ true) ⊎ (is_among (map constant_of ys) g ≡ true) → (is_among (map constant_of ys) g ≡ true → Sees ys g) → Sees (y ∷ ys) g
+    go apart (inl here) below =
+        let same : constant_of y ≡ g = (Decides-symbol_eq (constant_of y) g).0 here in
+        ((λ e. same), unnamed-all ys g (ap (λ n. has_name n (map (λ z. z.name) ys)) (ap (λ (k : Symbol). k.name) (sym same)) ∙ not_true (has_name y.name (map (λ z. z.name) ys)) apart))
+    go apart (inr there) below = ((λ e. absurd (never (has_name y.name (map (λ z. z.name) ys)) apart (named ys there e))), below there)
+
+-- free below the renamed quantifier: what it was before, or what comes with an image
+quantified-clear : (f : Map) (q : Quantifier) (xs : List Variable) (body : Term) (r : Term) (sort : Sort) → sort_of (quantified q xs body) ≡ Some sort → (is : Bound (λ g b. IsSubst g body b) (cut_to (without xs (free body)) f) q xs body r) → Clear (quantified q xs body)
+    → (g : Symbol) → is_among (free is.inner) g ≡ true → Sees (renaming (names_in (cut_to (without xs (free body)) f)) xs (cut_to (without xs (free body)) f) is.supply).variables g
+unfolding IsLeft
+quantified-clear f q xs body r sort has is clear g among = go (is.left bool (quantified_sort q xs body sort has).body g among)
+  where
+    cut : Map
+    cut = cut_to (without xs (free body)) f
+
+    distinct : are_distinct (map (λ y. y.name) (renaming (names_in (cut_to (without xs (free body)) f)) xs (cut_to (without xs (free body)) f) is.supply).variables) ≡ true
+    distinct = distinct-names (renaming (names_in cut) xs cut is.supply).variables (renaming-bindable (names_in cut) xs cut is.supply (quantified_sort q xs body sort has).bindable (variables-spared is.supply xs (λ n inside. is.names n (in-left (map (λ x. x.name) xs) (names_within body) n inside))))
+
+    go : LeftFree (renaming (names_in (cut_to (without xs (free body)) f)) xs (cut_to (without xs (free body)) f) is.supply).map (free body) g → Sees (renaming (names_in (cut_to (without xs (free body)) f)) xs (cut_to (without xs (free body)) f) is.supply).variables g
+    go (stays there none_) =
+        renamed-sees (names_in cut) xs cut is.supply g (symbols-spared is.supply body (λ n inside. is.names n (in-right (map (λ x. x.name) xs) (names_within body) n inside)) g there) (clear.0 g there)
+    go (comes h u there found inside) = from (renaming-source (names_in cut) xs cut is.supply h u found)
+      where
+        from : Source (cut_to (without xs (free body)) f) (renaming (names_in (cut_to (without xs (free body)) f)) xs (cut_to (without xs (free body)) f) is.supply).variables h u → Sees (renaming (names_in (cut_to (without xs (free body)) f)) xs (cut_to (without xs (free body)) f) is.supply).variables g
+        from (before e) =
+            unnamed-sees (names_in cut) xs cut is.supply g (is.images h u e g.name (among-name (free u) g inside)) (names-apart xs cut h u e g.name (among-name (free u) g inside))
+        from (bound y e within) =
+            let same : constant_of y ≡ g = one-symbol (constant_of y) g (ap (λ t. is_among (free t) g) (sym e) ∙ inside) in
+            bound-sees (renaming (names_in cut) xs cut is.supply).variables g distinct (ap (is_among (map constant_of (renaming (names_in cut) xs cut is.supply).variables)) (sym same) ∙ within)
+
+rebuilt-clear : (f : Map) (h : Head) (us : Terms) → ImagesHave Clear f → ClearEach us → Clear (rebuilt f h us)
+rebuilt-clear f (symbol g) none have each = image-has Clear f g (image f g) refl tt have
+rebuilt-clear f (symbol g) (u ⨾ us) have each = each
+rebuilt-clear f (op o) us have each = made-has Clear (op o) us (λ e. each) (λ n. tt)
+rebuilt-clear f (const_array s) us have each = each
+
+mutual
+  pub subst-clear : (t : Term) (f : Map) (r : Term) (s : Sort) → sort_of t ≡ Some s → IsSubst f t r → Clear t → ImagesHave Clear f → Clear r
+  subst-clear (apply h ts) f r s has is clear have =
+      let a = applied h ts s has in
+      carry Clear is.result (rebuilt-clear f h is.operands have (substs-clear ts f is.operands a.sorts a.operands is.each clear have))
+  subst-clear (quantified q xs body) f r s has is clear have =
+      let cut : Map = cut_to (without xs (free body)) f in
+      let images : ImagesHave Clear (renaming (names_in cut) xs cut is.supply).map = renamed-have Clear any-sort (λ y e. tt) (names_in cut) xs cut is.supply (all-any xs) (cut-have Clear (without xs (free body)) f have) in
+      carry Clear is.result (quantified-clear f q xs body r s has is clear, subst-clear body (renaming (names_in cut) xs cut is.supply).map is.inner bool (quantified_sort q xs body s has).body is.below clear.1 images)
+
+  substs-clear : (ts : Terms) (f : Map) (us : Terms) (ss : List Sort) → sorts_of ts ≡ Some ss → AreSubsts f ts us → ClearEach ts → ImagesHave Clear f → ClearEach us
+  substs-clear none f none ss has are clear have = tt
+  substs-clear (t ⨾ ts) f (u ⨾ us) ss has are clear have =
+      let a = sorted t ts ss has in
+      (subst-clear t f u a.sort a.first are.0 clear.0 have, substs-clear ts f us a.sorts a.others are.1 clear.1 have)
+  substs-clear none f (u ⨾ us) ss has are clear have = absurd are
+  substs-clear (t ⨾ ts) f none ss has are clear have = absurd are
