@@ -10,6 +10,7 @@ pub mod Nnf
 pub mod NnfShape
 mod NoBool
 mod Rows
+pub mod SelfSub
 pub mod Shannon
 pub mod ShannonInside
 pub mod ShannonRegular

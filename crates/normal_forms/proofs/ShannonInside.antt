@@ -159,17 +159,17 @@ mutual
 
 -- ---- the Bool variables of a quantifier, and the others
 
-abbrev pub bools : List Variable → List Variable
-bools xs = filter (λ x. is_bool x.sort) xs
+abbrev pub bool_variables : List Variable → List Variable
+bool_variables xs = filter (λ x. is_bool x.sort) xs
 
-pub neither-part : (xs : List Variable) (g : Symbol) → is_among (map constant_of (not_bool xs)) g ≡ false → is_among (map constant_of (bools xs)) g ≡ false → is_among (map constant_of xs) g ≡ false
+pub neither-part : (xs : List Variable) (g : Symbol) → is_among (map constant_of (not_bool xs)) g ≡ false → is_among (map constant_of (bool_variables xs)) g ≡ false → is_among (map constant_of xs) g ≡ false
 neither-part [] g a b = refl
 neither-part (x ∷ xs) g a b = go (is_bool x.sort) a b (neither-part xs g)
   where
-    go : (c : Bool) → is_among (map constant_of (cond (not c) (x ∷ not_bool xs) (not_bool xs))) g ≡ false → is_among (map constant_of (cond c (x ∷ bools xs) (bools xs))) g ≡ false
-        → (is_among (map constant_of (not_bool xs)) g ≡ false → is_among (map constant_of (bools xs)) g ≡ false → is_among (map constant_of xs) g ≡ false) → is_among (map constant_of (x ∷ xs)) g ≡ false
+    go : (c : Bool) → is_among (map constant_of (cond (not c) (x ∷ not_bool xs) (not_bool xs))) g ≡ false → is_among (map constant_of (cond c (x ∷ bool_variables xs) (bool_variables xs))) g ≡ false
+        → (is_among (map constant_of (not_bool xs)) g ≡ false → is_among (map constant_of (bool_variables xs)) g ≡ false → is_among (map constant_of xs) g ≡ false) → is_among (map constant_of (x ∷ xs)) g ≡ false
     go true p q below =
-        let parts = both_false (symbol_eq (constant_of x) g) (is_among (map constant_of (bools xs)) g) q in
+        let parts = both_false (symbol_eq (constant_of x) g) (is_among (map constant_of (bool_variables xs)) g) q in
         or_false (symbol_eq (constant_of x) g) (is_among (map constant_of xs) g) parts.0 (below p parts.1)
     go false p q below =
         let parts = both_false (symbol_eq (constant_of x) g) (is_among (map constant_of (not_bool xs)) g) p in
@@ -196,22 +196,22 @@ fewer-names (x ∷ xs) n among = go (is_bool x.sort) among (fewer-names xs n)
         first (inr there) = right_true (name_eq x.name n) (name_among (map (λ y. y.name) xs) n) (below there)
 
 -- the quantifier over the variables that stay, over a body in which the Bool ones aren't free
-pub over-left-within : (q : Quantifier) (xs : List Variable) (body b : Term) (N : Name → Type 0) → ((n : Name) → name_among (map (λ x. x.name) xs) n ≡ true → N n) → Within (without (bools xs) (free body)) N (Clear body) b → Within (free (quantified q xs body)) N (Clear (quantified q xs body)) (over_left q (not_bool xs) b)
+pub over-left-within : (q : Quantifier) (xs : List Variable) (body b : Term) (N : Name → Type 0) → ((n : Name) → name_among (map (λ x. x.name) xs) n ≡ true → N n) → Within (without (bool_variables xs) (free body)) N (Clear body) b → Within (free (quantified q xs body)) N (Clear (quantified q xs body)) (over_left q (not_bool xs) b)
 over-left-within q xs body b N names i = go (not_bool xs) (neither-part xs) (fewer-sees xs) (λ n among. names n (fewer-names xs n among))
   where
-    go : (ys : List Variable) → ((g : Symbol) → is_among (map constant_of ys) g ≡ false → is_among (map constant_of (bools xs)) g ≡ false → is_among (map constant_of xs) g ≡ false) → ((g : Symbol) → Sees xs g → Sees ys g) → ((n : Name) → name_among (map (λ x. x.name) ys) n ≡ true → N n) → Within (free (quantified q xs body)) N (Clear (quantified q xs body)) (over_left q ys b)
+    go : (ys : List Variable) → ((g : Symbol) → is_among (map constant_of ys) g ≡ false → is_among (map constant_of (bool_variables xs)) g ≡ false → is_among (map constant_of xs) g ≡ false) → ((g : Symbol) → Sees xs g → Sees ys g) → ((n : Name) → name_among (map (λ x. x.name) ys) n ≡ true → N n) → Within (free (quantified q xs body)) N (Clear (quantified q xs body)) (over_left q ys b)
     go [] neither sees named = record {
-      symbols = λ g among. let parts = in-without (bools xs) (free body) g (i.symbols g among) in to-without xs (free body) g parts.0 (neither g refl parts.1);
+      symbols = λ g among. let parts = in-without (bool_variables xs) (free body) g (i.symbols g among) in to-without xs (free body) g parts.0 (neither g refl parts.1);
       names = i.names;
       clear = λ c. i.clear c.1;
     }
     go (y ∷ ys) neither sees named = record {
       symbols = λ g among.
           let outer = in-without (y ∷ ys) (free b) g among in
-          let parts = in-without (bools xs) (free body) g (i.symbols g outer.0) in
+          let parts = in-without (bool_variables xs) (free body) g (i.symbols g outer.0) in
           to-without xs (free body) g parts.0 (neither g outer.1 parts.1);
       names = λ n among. name n (in-both (map (λ x. x.name) (y ∷ ys)) (names_within b) n among);
-      clear = λ c. ((λ g among. sees g (c.0 g (in-without (bools xs) (free body) g (i.symbols g among)).0)), i.clear c.1);
+      clear = λ c. ((λ g among. sees g (c.0 g (in-without (bool_variables xs) (free body) g (i.symbols g among)).0)), i.clear c.1);
     }
       where
         name : (n : Name) → (name_among (map (λ x. x.name) (y ∷ ys)) n ≡ true) ⊎ (name_among (names_within b) n ≡ true) → N n
@@ -234,7 +234,7 @@ expanded-within universal x b is has = op-within (without (x ∷ []) (free b)) (
 -- without these Bool variables, of a body
 record Expanded (xs : List Variable) (b r : Term) : Type 0 where
   sort : Formula r
-  within : Within (without (bools xs) (free b)) (NamedIn (names_within b)) (Clear b) r
+  within : Within (without (bool_variables xs) (free b)) (NamedIn (names_within b)) (Clear b) r
 
 -- one Bool variable less, below the others
 pub more-without : (x : Variable) (ys : List Variable) (fs : List Symbol) (g : Symbol) → symbol_eq (constant_of x) g ≡ false → is_among (without ys fs) g ≡ true → is_among (without (x ∷ ys) fs) g ≡ true
@@ -259,7 +259,7 @@ expand_each-within q [] b has = record {
 }
 expand_each-within q (x ∷ xs) b has =
     let below : Expanded xs b (expand_each q xs b) = expand_each-within q xs b has in
-    let here = expand_bool-within x.sort q x (bools xs) b (expand_each q xs b) refl below.sort below.within in
+    let here = expand_bool-within x.sort q x (bool_variables xs) b (expand_each q xs b) refl below.sort below.within in
     record { sort = here.0; within = here.1 }
 
 -- ---- all terms
@@ -275,8 +275,8 @@ mutual
       let inner : Inside body (shannon body) = shannon-inside body bool (quantified_sort q xs body s has).body in
       let out : Expanded xs (shannon body) (expand_each q xs (shannon body)) = expand_each-within q xs (shannon body) (shannon-sort body bool (quantified_sort q xs body s has).body) in
       over-left-within q xs body (expand_each q xs (shannon body)) (NamedIn (names_within (quantified q xs body))) (λ n among. in-left (map (λ x. x.name) xs) (names_within body) n among)
-      (wider (without (bools xs) (free (shannon body))) (without (bools xs) (free body)) (NamedIn (names_within (shannon body))) (NamedIn (names_within (quantified q xs body))) (Clear (shannon body)) (Clear body) (expand_each q xs (shannon body))
-      (λ g among. let parts = in-without (bools xs) (free (shannon body)) g among in to-without (bools xs) (free body) g (inner.symbols g parts.0) parts.1)
+      (wider (without (bool_variables xs) (free (shannon body))) (without (bool_variables xs) (free body)) (NamedIn (names_within (shannon body))) (NamedIn (names_within (quantified q xs body))) (Clear (shannon body)) (Clear body) (expand_each q xs (shannon body))
+      (λ g among. let parts = in-without (bool_variables xs) (free (shannon body)) g among in to-without (bool_variables xs) (free body) g (inner.symbols g parts.0) parts.1)
       (λ n among. in-right (map (λ x. x.name) xs) (names_within body) n (inner.names n among)) inner.clear out.within)
 
   shannons-inside : (ts : Terms) (ss : List Sort) → sorts_of ts ≡ Some ss → AllOf (InsideOne ts) (shannon_each ts)
