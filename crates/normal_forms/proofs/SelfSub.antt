@@ -309,3 +309,177 @@ formula-minus p (apply (op c) none) has = nothing (is_minus p)
     nothing : (b : Bool) → (b && false) ≡ false
     nothing true = refl
     nothing false = refl
+
+-- ---- all terms, with the results that were kept
+
+abbrev AllSound : Supply → List Solved → Type 0
+AllSound left [] = ⊤
+AllSound left (e ∷ es) = ((s : Sort) → sort_of e.term ≡ Some s → Sound e.term e.result left s) × AllSound left es
+
+all-later : (left after : Supply) (es : List Solved) → Later left after → AllSound left es → AllSound after es
+all-later left after [] later all = tt
+all-later left after (e ∷ es) later all = ((λ s has. sound-later e.term e.result left after s later (all.0 s has)), all-later left after es later all.1)
+
+found-sound : (left : Supply) (es : List Solved) (t r : Term) (s : Sort) → AllSound left es → solved_for es t ≡ Some r → sort_of t ≡ Some s → Sound t r left s
+found-sound left [] t r s all found has = absurd cc
+found-sound left (e ∷ es) t r s all found has = go (term_eq e.term t) refl found (λ there. found-sound left es t r s all.1 there has)
+  where
+    go : (b : Bool) → term_eq e.term t ≡ b → elim b [ true ↦ Some e.result | false ↦ solved_for es t ] ≡ Some r → (solved_for es t ≡ Some r → Sound t r left s) → Sound t r left s
+    go true h k below =
+        let same : e.term ≡ t = (Decides-term_eq e.term t).0 h in
+        let result : e.result ≡ r = cc in
+        carry (λ u. Sound u r left s) same (carry (λ u. Sound e.term u left s) result (all.0 s (ap sort_of same ∙ has)))
+    go false h k below = below k
+
+record Start (ns : List Name) (s : Solving) : Type 0 where
+  names : GivesNone s.names ns
+  solved : AllSound s.names s.solved
+
+record End (t : Term) (sort : Sort) (s : Solving) (r : Term × Solving) : Type 0 where
+  sound : Sound t r.0 r.1.names sort
+  solved : AllSound r.1.names r.1.solved
+  later : Later s.names r.1.names
+
+-- of operands: what stands in them, as of one term
+abbrev WithinEach : Terms → Supply → Term → Type 0
+WithinEach ts left r = Within (free_of ts) (NeverGives left) (ClearEach ts) r
+
+record Ends (ts : Terms) (ss : List Sort) (s : Solving) (r : Terms × Solving) : Type 0 where
+  sorts : sorts_of r.0 ≡ Some ss
+  values : (m : Model) (e : Env) → IsModel m → IsEnv m.sizes e → vals m r.0 e ≡ vals m ts e
+  regular : are_regular ts ≡ true → are_regular r.0 ≡ true
+  minus : (h : Head) → is_minus_of h r.0 ≡ is_minus_of h ts
+  plain : no_bool_quantifiers r.0 ≡ true
+  within : AllOf (WithinEach ts r.1.names) r.0
+  solved : AllSound r.1.names r.1.solved
+  later : Later s.names r.1.names
+
+quantified-end : (q : Quantifier) (xs : List Variable) (body : Term) (sort : Sort) (s : Solving) → sort_of (quantified q xs body) ≡ Some sort → Start (names_within (quantified q xs body)) s
+    → End body bool s (selfsub_from body s)
+    → (o : Option Term) → solved_for s.solved (quantified q xs body) ≡ o
+    → End (quantified q xs body) sort s (solved_or o s (λ s'. solve (quantified q xs body) q xs (selfsub_from body s')))
+quantified-end q xs body sort s has start below (Some r) found = record {
+  sound = found-sound s.names s.solved (quantified q xs body) r sort start.solved found has;
+  solved = start.solved;
+  later = λ n never. never;
+}
+quantified-end q xs body sort s has start below None found = record {
+  sound = sound sort has;
+  solved = (sound, all-later b.1.names r.1 b.1.solved taken.later below.solved);
+  later = λ n never. taken.later n (below.later n never);
+}
+  where
+    b : Term × Solving
+    b = selfsub_from body s
+
+    r : Term × Supply
+    r = substitute_each q xs ((selfsub_from body s).0, (selfsub_from body s).1.names)
+
+    begun : Taken (λ m e. is_true (val m (selfsub_from body s).0 e)) (is_regular body ≡ true) (without [] (free body)) (Clear body) (selfsub_from body s).1.names ((selfsub_from body s).0, (selfsub_from body s).1.names)
+    begun = record {
+      sort = below.sound.sort;
+      value = λ m e model env. refl;
+      regular = below.sound.regular;
+      plain = below.sound.plain;
+      within = wider (free body) (without [] (free body)) (NeverGives (selfsub_from body s).1.names) (NeverGives (selfsub_from body s).1.names) (Clear body) (Clear body) (selfsub_from body s).0 (λ g among. to-without [] (free body) g among refl) (λ n never. never) (λ c. c) below.sound.within;
+      later = λ n never. never;
+    }
+
+    taken : Taken (λ m e. bools q xs (λ d. is_true (val m (selfsub_from body s).0 d)) e) (is_regular body ≡ true) (without (bool_variables xs) (free body)) (Clear body) (selfsub_from body s).1.names (substitute_each q xs ((selfsub_from body s).0, (selfsub_from body s).1.names))
+    taken = each-taken (λ m e. is_true (val m (selfsub_from body s).0 e)) (is_regular body ≡ true) (free body) (Clear body) (selfsub_from body s).1.names q xs ((selfsub_from body s).0, (selfsub_from body s).1.names) begun
+
+    sound : (t : Sort) → sort_of (quantified q xs body) ≡ Some t → Sound (quantified q xs body) (over_left q (not_bool xs) (substitute_each q xs ((selfsub_from body s).0, (selfsub_from body s).1.names)).0) (substitute_each q xs ((selfsub_from body s).0, (selfsub_from body s).1.names)).1 t
+    sound t known =
+        quantified-sound q xs body (selfsub_from body s).0 t (selfsub_from body s).1.names (substitute_each q xs ((selfsub_from body s).0, (selfsub_from body s).1.names)) known below.sound.value
+        (λ k among. taken.later k (below.later k (start.names k (in-left (map (λ x. x.name) xs) (names_within body) k among)))) taken
+
+-- a single operand, and two or more
+first-minus : (h : Head) (t : Term) (ts : Terms) (s : Solving) (sort : Sort) → sort_of t ≡ Some sort → sort_of (selfsub_from t s).0 ≡ Some sort → (v : Solving) → is_minus_of h ((selfsub_from t s).0 ⨾ (selfsubs_from ts v).0) ≡ is_minus_of h (t ⨾ ts)
+unfolding is_minus_of
+first-minus (symbol f) t ts s sort has after v = refl
+first-minus (const_array r) t ts s sort has after v = refl
+first-minus (op p) t (u ⨾ ts) s sort has after v = two_or_more p (selfsub_from t s).0 (selfsub_from u v).0 (selfsubs_from ts (selfsub_from u v).1).0 ∙ sym (two_or_more p t u ts)
+first-minus (op p) (apply (symbol f) ws) none s sort has after v = refl
+first-minus (op p) (apply (const_array r) ws) none s sort has after v = refl
+first-minus (op p) (apply (op c) none) none s sort has after v = refl
+first-minus (op p) (apply (op c) (w ⨾ ws)) none s sort has after v = refl
+first-minus (op p) (quantified q xs w) none s sort has after v = formula-minus p (selfsub_from (quantified q xs w) s).0 (after ∙ ap Some (quantified_sort q xs w sort has).sort)
+
+mutual
+  selfsub-end : (t : Term) (sort : Sort) (s : Solving) → sort_of t ≡ Some sort → Start (names_within t) s → End t sort s (selfsub_from t s)
+  selfsub-end (apply h ts) sort s has start =
+      let a = applied h ts sort has in
+      let out : Ends ts a.sorts s (selfsubs_from ts s) = selfsubs-end ts a.sorts s a.operands (record { names = λ n among. start.names n (in-right (names_of (head_symbols h)) (names_within_each ts) n among); solved = start.solved }) in
+      let us : Terms = (selfsubs_from ts s).0 in
+      let left : Supply = (selfsubs_from ts s).1.names in
+      let same : sorts_of (selfsubs_from ts s).0 ≡ sorts_of ts = out.sorts ∙ sym a.operands in
+      record {
+        sound = record {
+          sort = ap (sort_over h) same ∙ has;
+          value = λ m e model env i. head_value m e h (unwrap_or (same i) []) (out.values m e model env i);
+          regular = λ given. head-regular h ts (selfsubs_from ts s).0 (out.minus h) given (out.regular (regular h ts given).operands);
+          plain = out.plain;
+          within = head-within (free (apply h ts)) (NeverGives left) (ClearEach ts) h (selfsubs_from ts s).0
+              (λ g among. (in-first (head_symbols h) (free_of ts) g among, out.later g.name (start.names g.name (in-left (names_of (head_symbols h)) (names_within_each ts) g.name (among-name (head_symbols h) g among)))))
+              (each-map (WithinEach ts left) (Within (free (apply h ts)) (NeverGives left) (ClearEach ts)) (λ r i. wider (free_of ts) (free (apply h ts)) (NeverGives left) (NeverGives left) (ClearEach ts) (ClearEach ts) r (in-second (head_symbols h) (free_of ts)) (λ n never. never) (λ c. c) i) (selfsubs_from ts s).0 out.within);
+        };
+        solved = out.solved;
+        later = out.later;
+      }
+  selfsub-end (quantified q xs body) sort s has start =
+      quantified-end q xs body sort s has start
+      (selfsub-end body bool s (quantified_sort q xs body sort has).body (record { names = λ n among. start.names n (in-right (map (λ x. x.name) xs) (names_within body) n among); solved = start.solved }))
+      (solved_for s.solved (quantified q xs body)) refl
+
+  selfsubs-end : (ts : Terms) (ss : List Sort) (s : Solving) → sorts_of ts ≡ Some ss → Start (names_within_each ts) s → Ends ts ss s (selfsubs_from ts s)
+  selfsubs-end none ss s has start = record {
+    sorts = has;
+    values = λ m e model env. refl;
+    regular = λ given. refl;
+    minus = λ h. refl;
+    plain = refl;
+    within = tt;
+    solved = start.solved;
+    later = λ n never. never;
+  }
+  selfsubs-end (t ⨾ ts) ss s has start =
+      let a = sorted t ts ss has in
+      let first : End t a.sort s (selfsub_from t s) = selfsub-end t a.sort s a.first (record { names = λ n among. start.names n (in-left (names_within t) (names_within_each ts) n among); solved = start.solved }) in
+      let v : Solving = (selfsub_from t s).1 in
+      let rest : Ends ts a.sorts (selfsub_from t s).1 (selfsubs_from ts (selfsub_from t s).1) = selfsubs-end ts a.sorts (selfsub_from t s).1 a.others (record { names = λ n among. first.later n (start.names n (in-right (names_within t) (names_within_each ts) n among)); solved = first.solved }) in
+      let left : Supply = (selfsubs_from ts (selfsub_from t s).1).1.names in
+      record {
+        sorts = (λ i. with_sort (first.sound.sort i) (rest.sorts i)) ∙ ap Some (sym a.all);
+        values = λ m e model env i. first.sound.value m e model env i ∷ rest.values m e model env i;
+        regular = λ given. let parts = both_true (is_regular t) (are_regular ts) given in and_true (is_regular (selfsub_from t s).0) (are_regular (selfsubs_from ts (selfsub_from t s).1).0) (first.sound.regular parts.0) (rest.regular parts.1);
+        minus = λ h. first-minus h t ts s a.sort a.first first.sound.sort v;
+        plain = and_true (no_bool_quantifier (selfsub_from t s).0) (no_bool_quantifiers (selfsubs_from ts (selfsub_from t s).1).0) first.sound.plain rest.plain;
+        within = (
+          wider (free t) (free_of (t ⨾ ts)) (NeverGives v.names) (NeverGives left) (Clear t) (ClearEach (t ⨾ ts)) (selfsub_from t s).0 (in-first (free t) (free_of ts)) rest.later (λ c. c.0) first.sound.within,
+          each-map (WithinEach ts left) (WithinEach (t ⨾ ts) left) (λ r i. wider (free_of ts) (free_of (t ⨾ ts)) (NeverGives left) (NeverGives left) (ClearEach ts) (ClearEach (t ⨾ ts)) r (in-second (free t) (free_of ts)) (λ n never. never) (λ c. c.1) i) (selfsubs_from ts (selfsub_from t s).1).0 rest.within,
+        );
+        solved = rest.solved;
+        later = λ n never. rest.later n (first.later n never);
+      }
+
+-- ---- the law
+
+started : (t : Term) (s : Supply) → GivesNone s (names_within t) → Start (names_within t) (record { names = s; solved = [] })
+started t s names = record { names = names; solved = tt }
+
+pub selfsub-rewrites : RewritesWith selfsub
+selfsub-rewrites t s fine names =
+    let found = sort-known t fine in
+    let out : End t found.0 (record { names = s; solved = [] }) (selfsub_from t (record { names = s; solved = [] })) = selfsub-end t found.0 (record { names = s; solved = [] }) found.1 (started t s names) in
+    let parts = both_true (is_some (sort_of t)) (is_regular t) fine in
+    let keeps : Keeps t (selfsub t s).0 = record {
+      sorted = and_true (is_some (sort_of (selfsub t s).0)) (is_regular (selfsub t s).0) (ap is_some out.sound.sort) (out.sound.regular parts.1);
+      sort = out.sound.sort ∙ sym found.1;
+      value = λ m e sort model env has. equal_same sort m.sizes (sym (out.sound.value m e model env));
+    } in
+    record { rewrites = rewrites-from t (selfsub t s).0 found.0 found.1 keeps out.sound.within.symbols out.sound.within.clear; later = out.later; names = out.sound.within.names }
+
+pub selfsub-no_bool : (t : Term) (s : Supply) → IsWellSorted t → GivesNone s (names_within t) → no_bool_quantifier (selfsub t s).0 ≡ true
+selfsub-no_bool t s fine names =
+    let found = sort-known t fine in
+    (selfsub-end t found.0 (record { names = s; solved = [] }) found.1 (started t s names)).sound.plain

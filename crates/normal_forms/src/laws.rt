@@ -3,10 +3,10 @@
 ghost use Rattle.std.specs.Prelude.{IsTrue};
 ghost use Rattle.smt_terms.specs.Term.{Term};
 ghost use Rattle.smt_terms.specs.Shapes.{is_nnf, is_aig, no_bool_quantifier};
-ghost use Rattle.normal_forms.specs.Laws.{RewritesAs};
+ghost use Rattle.normal_forms.specs.Laws.{RewritesAs, RewritesWith, ShapesWith};
 ghost use Rattle.normal_forms.specs.Nnf.{nnf};
 ghost use Rattle.normal_forms.specs.Aig.{aig};
-ghost use Rattle.normal_forms.specs.Quantifiers.{shannon};
+ghost use Rattle.normal_forms.specs.Quantifiers.{shannon, selfsub};
 
 /// Negation normal form keeps the values of terms, and leaves no connectives but `and`, `or` and `not` over atoms.
 pub fn nnf_keeps_values()
@@ -25,4 +25,10 @@ pub fn aig_keeps_values()
 pub fn shannon_keeps_values()
     ensures values { RewritesAs shannon }
     ensures shape { (t : Term) → IsTrue (no_bool_quantifier (shannon t)) }
+{}
+
+/// Self-substitution keeps the values of terms, and leaves no quantifier over truth values.
+pub fn selfsub_keeps_values()
+    ensures values { RewritesWith selfsub }
+    ensures shape { ShapesWith selfsub no_bool_quantifier }
 {}
