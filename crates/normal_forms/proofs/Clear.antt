@@ -2,6 +2,7 @@
 -- variable; and no two free symbols of the term have one name.
 use Rattle.std.proofs.Common.{◌≡◌, Bool, true, false, not, cond, ◌&&◌, ◌||◌, ◌⊎◌, inl, inr, List, [], ◌∷◌, ◌++◌, map, reverse, Some, refl, ap, sym, ◌∙◌, subst}
 use Rattle.std.specs.Prelude.{⊤, filter}
+use Rattle.std.specs.List.{list_all}
 use mathlib.Core.List.{reverse_aux-eq}
 use Rattle.smt_terms.specs.Sorts.{Name, Sort, bool, Symbol, Variable}
 use Rattle.smt_terms.specs.Term.{Head, op, symbol, const_array, Term, apply, quantified, Terms, none, ◌⨾◌, constant_of}
@@ -106,9 +107,9 @@ sees-unnamed (y ∷ ys) g sees apart =
 
 -- ---- all terms
 
-pub distinct-names : (xs : List Variable) → are_bindable xs ≡ true → are_distinct (map (λ x. x.name) xs) ≡ true
-distinct-names [] e = absurd cc
-distinct-names (x ∷ xs) e = (both_true (are_distinct (map (λ y. y.name) (x ∷ xs))) _ e).0
+pub bindable-parts : (xs : List Variable) → are_bindable xs ≡ true → (are_distinct (map (λ x. x.name) xs) ≡ true) × (list_all (λ x. is_quantifiable x.sort) xs ≡ true)
+bindable-parts [] e = absurd cc
+bindable-parts (x ∷ xs) e = both_true (are_distinct (map (λ y. y.name) (x ∷ xs))) (list_all (λ y. is_quantifiable y.sort) (x ∷ xs)) e
 
 head-seen : (zs : List Variable) (h : Head) (g : Symbol) → is_head_seen zs h ≡ true → is_among (head_symbols h) g ≡ true → is_seen zs g ≡ true
 head-seen zs (symbol f) g seen among = go (either_true (symbol_eq f g) false among)
@@ -161,7 +162,7 @@ mutual
   clear-from (quantified q ys body) s zs has clear =
       let a = quantified_sort q ys body s has in
       let below : Clear body × SeenFree (reverse ys ++ zs) (free body) = clear-from body bool (reverse ys ++ zs) a.body clear in
-      let sees : (g : Symbol) → is_among (free body) g ≡ true → Sees ys g × (Unnamed ys g → is_seen zs g ≡ true) = λ g among. seen-sees ys zs g (distinct-names ys a.bindable) (below.1 g among) in
+      let sees : (g : Symbol) → is_among (free body) g ≡ true → Sees ys g × (Unnamed ys g → is_seen zs g ≡ true) = λ g among. seen-sees ys zs g (bindable-parts ys a.bindable).0 (below.1 g among) in
       (((λ g among. (sees g among).0), below.0), λ g among. let parts = in-without ys (free body) g among in (sees g parts.0).1 (sees-unnamed ys g (sees g parts.0).0 parts.1))
 
   clear-each : (ts : Terms) (ss : List Sort) (zs : List Variable) → sorts_of ts ≡ Some ss → are_clear_below zs ts ≡ true → ClearEach ts × SeenFree zs (free_of ts)

@@ -9,8 +9,9 @@ mod Keeps
 pub mod Nnf
 pub mod NnfShape
 mod NoBool
+pub mod Replaced
 mod Rows
-pub mod SelfSub
+pub mod SelfSubstituted
 pub mod Shannon
 pub mod ShannonInside
 pub mod ShannonRegular

@@ -28,7 +28,7 @@ use Rattle.smt_terms.proofs.Cuts.{cut-image, cut-spared, names-apart, map-same}
 use Rattle.smt_terms.proofs.Substitution.{symbols-spared, variables-spared}
 use Rattle.smt_terms.proofs.SubstFree.{Source, before, bound, renaming-source, IsLeft, AllLeft, Leaves, subst_from-leaves, renaming-constants, cut-constants, one-symbol}
 use Rattle.normal_forms.specs.Prenex.{quantifiers, quantifiers_of}
-use Rattle.normal_forms.proofs.Clear.{Sees, Clear, ClearEach, distinct-names}
+use Rattle.normal_forms.proofs.Clear.{Sees, Clear, ClearEach, bindable-parts}
 use Rattle.normal_forms.proofs.Inside.{in-left, in-right}
 
 -- ---- the relation
@@ -213,11 +213,10 @@ renamed-have P p variables c (x ∷ xs) f s all have =
     go here true below = below ((constant_of x, variable (fresh_for x s)) ∷ f) (after_draw s) (front-have P x (variable (fresh_for x s)) f (variables (fresh_for x s) here) have)
     go here false below = below f s have
 
-any-sort : Sort → Bool
-any-sort s = true
+abbrev pub any_sort : Sort → Bool
+any_sort s = true
 
-all-any : (xs : List Variable) → list_all (λ x. any-sort x.sort) xs ≡ true
-unfolding any-sort
+pub all-any : (xs : List Variable) → list_all (λ x. any_sort x.sort) xs ≡ true
 all-any [] = refl
 all-any (x ∷ xs) = all-any xs
 
@@ -296,7 +295,7 @@ mutual
   subst-no_bool (quantified q xs body) f r is given have =
       let cut : Map = cut_to (without xs (free body)) f in
       let parts = both_true (not (list_any (λ x. is_bool x.sort) xs)) (no_bool_quantifier body) given in
-      let images : ImagesHave NoBool (renaming (names_in cut) xs cut is.supply).map = renamed-have NoBool any-sort (λ y e. refl) (names_in cut) xs cut is.supply (all-any xs) (cut-have NoBool (without xs (free body)) f have) in
+      let images : ImagesHave NoBool (renaming (names_in cut) xs cut is.supply).map = renamed-have NoBool any_sort (λ y e. refl) (names_in cut) xs cut is.supply (all-any xs) (cut-have NoBool (without xs (free body)) f have) in
       carry NoBool is.result (and_true (not (list_any (λ x. is_bool x.sort) (renaming (names_in cut) xs cut is.supply).variables)) (no_bool_quantifier is.inner) (ap not (renamed-any is_bool (names_in cut) xs cut is.supply) ∙ parts.0) (subst-no_bool body (renaming (names_in cut) xs cut is.supply).map is.inner is.below parts.1 images))
 
   substs-no_bool : (ts : Terms) (f : Map) (us : Terms) → AreSubsts f ts us → no_bool_quantifiers ts ≡ true → ImagesHave NoBool f → no_bool_quantifiers us ≡ true
@@ -309,27 +308,27 @@ mutual
 
 -- ---- no more quantifiers, where the images have none
 
-abbrev None_in : Term → Type 0
-None_in t = quantifiers t ≡ 0
+abbrev pub Unquantified : Term → Type 0
+Unquantified t = quantifiers t ≡ 0
 
-rebuilt-fewer : (f : Map) (h : Head) (us : Terms) (n : ℕ) → ImagesHave None_in f → quantifiers_of us ≤ n → quantifiers (rebuilt f h us) ≤ n
+rebuilt-fewer : (f : Map) (h : Head) (us : Terms) (n : ℕ) → ImagesHave Unquantified f → quantifiers_of us ≤ n → quantifiers (rebuilt f h us) ≤ n
 rebuilt-fewer f (symbol g) none n have each =
-    let nothing : quantifiers (image_or_itself (image f g) g) ≡ 0 = image-has None_in f g (image f g) refl refl have in
+    let nothing : quantifiers (image_or_itself (image f g) g) ≡ 0 = image-has Unquantified f g (image f g) refl refl have in
     omega arith
 rebuilt-fewer f (symbol g) (u ⨾ us) n have each = each
 rebuilt-fewer f (op o) us n have each = made-has (λ t. quantifiers t ≤ n) (op o) us (λ e. each) (λ m. omega arith)
 rebuilt-fewer f (const_array s) us n have each = each
 
 mutual
-  pub subst-fewer : (t : Term) (f : Map) (r : Term) → IsSubst f t r → ImagesHave None_in f → quantifiers r ≤ quantifiers t
+  pub subst-fewer : (t : Term) (f : Map) (r : Term) → IsSubst f t r → ImagesHave Unquantified f → quantifiers r ≤ quantifiers t
   subst-fewer (apply h ts) f r is have = carry (λ u. quantifiers u ≤ quantifiers_of ts) is.result (rebuilt-fewer f h is.operands (quantifiers_of ts) have (substs-fewer ts f is.operands is.each have))
   subst-fewer (quantified q xs body) f r is have =
       let cut : Map = cut_to (without xs (free body)) f in
-      let images : ImagesHave None_in (renaming (names_in cut) xs cut is.supply).map = renamed-have None_in any-sort (λ y e. refl) (names_in cut) xs cut is.supply (all-any xs) (cut-have None_in (without xs (free body)) f have) in
+      let images : ImagesHave Unquantified (renaming (names_in cut) xs cut is.supply).map = renamed-have Unquantified any_sort (λ y e. refl) (names_in cut) xs cut is.supply (all-any xs) (cut-have Unquantified (without xs (free body)) f have) in
       let inner : quantifiers is.inner ≤ quantifiers body = subst-fewer body (renaming (names_in cut) xs cut is.supply).map is.inner is.below images in
       carry (λ u. quantifiers u ≤ suc (quantifiers body)) is.result (omega arith)
 
-  substs-fewer : (ts : Terms) (f : Map) (us : Terms) → AreSubsts f ts us → ImagesHave None_in f → quantifiers_of us ≤ quantifiers_of ts
+  substs-fewer : (ts : Terms) (f : Map) (us : Terms) → AreSubsts f ts us → ImagesHave Unquantified f → quantifiers_of us ≤ quantifiers_of ts
   substs-fewer none f none are have = omega arith
   substs-fewer (t ⨾ ts) f (u ⨾ us) are have =
       let first : quantifiers u ≤ quantifiers t = subst-fewer t f u are.0 have in
@@ -366,7 +365,7 @@ among-has (y ∷ ys) n g among same = go (either_true (symbol_eq (constant_of y)
     go (inl here) below = left_true (name_eq n y.name) (has_name n (map (λ z. z.name) ys)) ((Decides-name_eq n y.name).1 (same ∙ sym (ap (λ (k : Symbol). k.name) ((Decides-symbol_eq (constant_of y) g).0 here))))
     go (inr there) below = right_true (name_eq n y.name) (has_name n (map (λ z. z.name) ys)) (below there)
 
-unnamed-all : (ys : List Variable) (g : Symbol) → has_name g.name (map (λ y. y.name) ys) ≡ false → Sees ys g
+pub unnamed-all : (ys : List Variable) (g : Symbol) → has_name g.name (map (λ y. y.name) ys) ≡ false → Sees ys g
 unnamed-all [] g apart = tt
 unnamed-all (y ∷ ys) g apart =
     let parts = both_false (name_eq g.name y.name) (has_name g.name (map (λ z. z.name) ys)) apart in
@@ -405,7 +404,7 @@ quantified-clear f q xs body r sort has is clear g among = go (is.left bool (qua
     cut = cut_to (without xs (free body)) f
 
     distinct : are_distinct (map (λ y. y.name) (renaming (names_in (cut_to (without xs (free body)) f)) xs (cut_to (without xs (free body)) f) is.supply).variables) ≡ true
-    distinct = distinct-names (renaming (names_in cut) xs cut is.supply).variables (renaming-bindable (names_in cut) xs cut is.supply (quantified_sort q xs body sort has).bindable (variables-spared is.supply xs (λ n inside. is.names n (in-left (map (λ x. x.name) xs) (names_within body) n inside))))
+    distinct = (bindable-parts (renaming (names_in cut) xs cut is.supply).variables (renaming-bindable (names_in cut) xs cut is.supply (quantified_sort q xs body sort has).bindable (variables-spared is.supply xs (λ n inside. is.names n (in-left (map (λ x. x.name) xs) (names_within body) n inside))))).0
 
     go : LeftFree (renaming (names_in (cut_to (without xs (free body)) f)) xs (cut_to (without xs (free body)) f) is.supply).map (free body) g → Sees (renaming (names_in (cut_to (without xs (free body)) f)) xs (cut_to (without xs (free body)) f) is.supply).variables g
     go (stays there none_) =
@@ -432,7 +431,7 @@ mutual
       carry Clear is.result (rebuilt-clear f h is.operands have (substs-clear ts f is.operands a.sorts a.operands is.each clear have))
   subst-clear (quantified q xs body) f r s has is clear have =
       let cut : Map = cut_to (without xs (free body)) f in
-      let images : ImagesHave Clear (renaming (names_in cut) xs cut is.supply).map = renamed-have Clear any-sort (λ y e. tt) (names_in cut) xs cut is.supply (all-any xs) (cut-have Clear (without xs (free body)) f have) in
+      let images : ImagesHave Clear (renaming (names_in cut) xs cut is.supply).map = renamed-have Clear any_sort (λ y e. tt) (names_in cut) xs cut is.supply (all-any xs) (cut-have Clear (without xs (free body)) f have) in
       carry Clear is.result (quantified-clear f q xs body r s has is clear, subst-clear body (renaming (names_in cut) xs cut is.supply).map is.inner bool (quantified_sort q xs body s has).body is.below clear.1 images)
 
   substs-clear : (ts : Terms) (f : Map) (us : Terms) (ss : List Sort) → sorts_of ts ≡ Some ss → AreSubsts f ts us → ClearEach ts → ImagesHave Clear f → ClearEach us

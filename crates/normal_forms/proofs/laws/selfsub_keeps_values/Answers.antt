@@ -1,4 +1,4 @@
-use Rattle.normal_forms.proofs.SelfSub.{selfsub-rewrites, selfsub-no_bool}
+use Rattle.normal_forms.proofs.SelfSubstituted.{selfsub-rewrites, selfsub-no_bool}
 use Rattle.normal_forms.proofs.laws.selfsub_keeps_values.Goals as goal
 
 pub returns : goal.returns

@@ -35,7 +35,7 @@ use Rattle.smt_terms.proofs.SubstFree.{subst-leaves_free}
 use Rattle.normal_forms.specs.Laws.{RewritesFresh, RewritesWith}
 use Rattle.normal_forms.specs.Quantifiers.{over_left, not_bool, at_truth, witness, substitute_bool, substitute_each, Solved, Solving, solved_for, solved_or, solve, selfsub_from, selfsubs_from, selfsub}
 use Rattle.normal_forms.proofs.Inherited.{AllOf}
-use Rattle.normal_forms.proofs.Clear.{Clear, ClearEach, in-first, in-second, in-without, to-without}
+use Rattle.normal_forms.proofs.Clear.{bindable-parts, Clear, ClearEach, in-first, in-second, in-without, to-without}
 use Rattle.normal_forms.proofs.Inside.{in-left, in-right, Within, NamedIn, wider, head-within}
 use Rattle.normal_forms.proofs.AtTruth.{at_truth-sort, at_truth-value}
 use Rattle.normal_forms.proofs.Shannon.{bool_at, bools, runs-bools, kept-distinct, kept-quantifiable, over-left-sort}
@@ -281,10 +281,6 @@ quantified-sound q xs body b s n r has same names taken =
       plain = over-left-free q (not_bool xs) r.0 (kept-not_bool xs) taken.plain;
       within = over-left-within q xs body r.0 (NeverGives r.1) names taken.within;
     }
-  where
-    bindable-parts : (ys : List Variable) → are_bindable ys ≡ true → (are_distinct (map (λ y. y.name) ys) ≡ true) × (list_all (λ y. is_quantifiable y.sort) ys ≡ true)
-    bindable-parts [] e = absurd cc
-    bindable-parts (y ∷ ys) e = both_true (are_distinct (map (λ z. z.name) (y ∷ ys))) (list_all (λ z. is_quantifiable z.sort) (y ∷ ys)) e
 
 -- ---- operands: no unary minus comes to stand over a constant
 
