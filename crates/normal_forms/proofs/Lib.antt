@@ -2,6 +2,7 @@ pub mod Aig
 pub mod AigShape
 mod AtTruth
 pub mod Clear
+pub mod Drawn
 mod Duals
 mod Inherited
 pub mod Inside

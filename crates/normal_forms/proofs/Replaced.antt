@@ -4,25 +4,31 @@ use Rattle.std.proofs.Common.{◌≡◌, ℕ, zero, suc, ◌+◌, ◌≤◌, Boo
 use Rattle.std.specs.Prelude.{⊤, unwrap_or}
 use Rattle.std.specs.List.{list_all}
 use Rattle.smt_terms.specs.declared.op.Op.{Op}
+use Rattle.smt_terms.specs.declared.op.Op.TheVariants.{Neg}
 use Rattle.smt_terms.specs.Sorts.{Name, Sort, bool, int, bit_vector, array, free_sort, Symbol, Variable}
 use Rattle.smt_terms.specs.Term.{Quantifier, universal, existential, Head, op, symbol, const_array, Term, apply, quantified, Terms, none, ◌⨾◌, constant_of}
 use Rattle.smt_terms.specs.BitVectors.{BitVector}
 use Rattle.smt_terms.specs.Equal.{symbol_eq, term_eq}
-use Rattle.smt_terms.specs.Free.{is_among, head_symbols, free, free_of}
-use Rattle.smt_terms.specs.Rank.{is_quantifiable, sort_over, with_sort, sort_of, sorts_of, is_minus_of, is_regular, are_regular}
+use Rattle.smt_terms.specs.Free.{is_among, name_among, names_of, head_symbols, free, free_of}
+use Rattle.smt_terms.specs.Rank.{is_quantifiable, sort_over, with_sort, sort_of, sorts_of, is_minus, is_minus_of, is_regular, are_regular}
 use Rattle.smt_terms.specs.Values.{Value, Sizes, truth, bits, is_true, joined, over_bits, over_values}
 use Rattle.smt_terms.specs.Models.{Model}
 use Rattle.smt_terms.specs.Val.{Env, assign, runs, val, vals}
-use Rattle.smt_terms.specs.Connectives.{Kind, truth_value, negation, conjunction, disjunction, exclusive, implication, equivalence, difference, conditional, atom, kind, kind_of}
+use Rattle.smt_terms.specs.Connectives.{Kind, truth_value, negation, conjunction, disjunction, exclusive, implication, equivalence, difference, conditional, atom, operator_kind, kind, kind_of}
+use Rattle.smt_terms.specs.SubstLaws.{names_within, names_within_each}
 use Rattle.smt_terms.specs.Shapes.{reached, reaches_quantifier, reach_quantifier, is_prenex}
 use Rattle.smt_terms.proofs.Tests.{both_true, and_true}
 use Rattle.smt_terms.proofs.Equal.{Decides-symbol_eq, Decides-term_eq}
 use Rattle.smt_terms.proofs.Agree.{SameAt, val_same, same_left, same_right}
+use Rattle.smt_terms.proofs.Runs.{among-name}
+use Rattle.smt_terms.proofs.Keeping.{not_minus}
 use Rattle.smt_terms.proofs.Sorted.{applied, sorted}
 use Rattle.smt_terms.proofs.SortsOfTerms.{regular, regular_over}
 use Rattle.smt_terms.proofs.Connected.{is_logical, kind_value, connective-value, all_bits, any_bit}
 use Rattle.normal_forms.specs.Prenex.{Quantified, whole, through, or_next, leftmost, leftmost_of, through_or, by_if, replaced, replaced_each, quantifiers, quantifiers_of}
 use Rattle.normal_forms.proofs.Inherited.{AllOf}
+use Rattle.normal_forms.proofs.Clear.{Clear, ClearEach, in-first, in-second}
+use Rattle.normal_forms.proofs.Inside.{in-left, in-right, Within, head-within}
 
 some-same : {A : Type 0} (a b : A) → Some a ≡ Some b → a ≡ b
 some-same a b e = cc
@@ -150,6 +156,76 @@ mutual
   replaceds-sort : (f by : Term) (ts : Terms) → sort_of by ≡ sort_of f → sorts_of (replaced_each f by ts) ≡ sorts_of ts
   replaceds-sort f by none same = refl
   replaceds-sort f by (t ⨾ ts) same = λ i. with_sort (replaced-sort f by t same i) (replaceds-sort f by ts same i)
+
+-- ---- regular terms
+
+abbrev Regular : Term → Type 0
+Regular t = is_regular t ≡ true
+
+not-minus-kind : (o : Op) (ss : Option (List Sort)) → is_logical (operator_kind o ss) ≡ true → is_minus o ≡ false
+unfolding operator_kind is_minus
+not-minus-kind Neg ss e = absurd cc
+not-minus-kind _ ss e = refl
+
+logical-minus : (h : Head) (ts us : Terms) → is_logical (kind_of h ts) ≡ true → is_minus_of h us ≡ false
+unfolding is_minus_of
+logical-minus (op o) ts us e = not_minus o us (not-minus-kind o (sorts_of ts) e)
+logical-minus (symbol f) ts us e = refl
+logical-minus (const_array s) ts us e = refl
+
+either-regular : (k : Kind) (h : Head) (ts us : Terms) → kind_of h ts ≡ k → Regular (apply h ts) → are_regular us ≡ true → Regular (through_or k h ts us)
+either-regular conjunction h ts us is given each = regular_over h us (record { head = (regular h ts given).head; no_minus = ap not (logical-minus h ts us (ap is_logical is)); operands = each })
+either-regular disjunction h ts us is given each = regular_over h us (record { head = (regular h ts given).head; no_minus = ap not (logical-minus h ts us (ap is_logical is)); operands = each })
+either-regular _ h ts us is given each = given
+
+by-has : (P : Term → Type 0) (b : Bool) (by t : Term) → P by → P t → P (by_if b by t)
+by-has P true by t p r = p
+by-has P false by t p r = r
+
+mutual
+  pub replaced-regular : (f by t : Term) → is_regular by ≡ true → is_regular t ≡ true → is_regular (replaced f by t) ≡ true
+  replaced-regular f by (apply h ts) new given = either-regular (kind_of h ts) h ts (replaced_each f by ts) refl given (replaceds-regular f by ts new (regular h ts given).operands)
+  replaced-regular f by (quantified q xs body) new given = by-has Regular (term_eq f (quantified q xs body)) by (quantified q xs body) new given
+
+  replaceds-regular : (f by : Term) (ts : Terms) → is_regular by ≡ true → are_regular ts ≡ true → are_regular (replaced_each f by ts) ≡ true
+  replaceds-regular f by none new given = refl
+  replaceds-regular f by (t ⨾ ts) new given =
+      let parts = both_true (is_regular t) (are_regular ts) given in
+      and_true (is_regular (replaced f by t)) (are_regular (replaced_each f by ts)) (replaced-regular f by t new parts.0) (replaceds-regular f by ts new parts.1)
+
+-- ---- what stands in the term
+
+module _ (fs : List Symbol) (N : Name → Type 0) (C : Type 0) where
+  abbrev P : Term → Type 0
+  P = Within fs N C
+
+  each-within : (ts : Terms) → ((g : Symbol) → is_among (free_of ts) g ≡ true → is_among fs g ≡ true) → ((n : Name) → name_among (names_within_each ts) n ≡ true → N n) → (C → ClearEach ts) → AllOf P ts
+  each-within none symbols names clear = tt
+  each-within (t ⨾ ts) symbols names clear = (
+    record { symbols = λ g among. symbols g (in-first (free t) (free_of ts) g among); names = λ n among. names n (in-left (names_within t) (names_within_each ts) n among); clear = λ c. (clear c).0 },
+    each-within ts (λ g among. symbols g (in-second (free t) (free_of ts) g among)) (λ n among. names n (in-right (names_within t) (names_within_each ts) n among)) (λ c. (clear c).1),
+  )
+
+  pub operands-within : (h : Head) (ts : Terms) → P (apply h ts) → AllOf P ts
+  operands-within h ts p =
+      each-within ts (λ g among. p.symbols g (in-second (head_symbols h) (free_of ts) g among)) (λ n among. p.names n (in-right (names_of (head_symbols h)) (names_within_each ts) n among)) p.clear
+
+  head-within-again : (h : Head) (ts us : Terms) → P (apply h ts) → AllOf P us → P (apply h us)
+  head-within-again h ts us p all = head-within fs N C h us (λ g among. (p.symbols g (in-first (head_symbols h) (free_of ts) g among), p.names g.name (in-left (names_of (head_symbols h)) (names_within_each ts) g.name (among-name (head_symbols h) g among)))) all
+
+  either-within : (k : Kind) (h : Head) (ts us : Terms) → P (apply h ts) → AllOf P us → P (through_or k h ts us)
+  either-within conjunction h ts us p all = head-within-again h ts us p all
+  either-within disjunction h ts us p all = head-within-again h ts us p all
+  either-within _ h ts us p all = p
+
+  mutual
+    pub replaced-within : (f by t : Term) → P by → P t → P (replaced f by t)
+    replaced-within f by (apply h ts) new p = either-within (kind_of h ts) h ts (replaced_each f by ts) p (replaceds-within f by ts new (operands-within h ts p))
+    replaced-within f by (quantified q xs body) new p = by-has P (term_eq f (quantified q xs body)) by (quantified q xs body) new p
+
+    replaceds-within : (f by : Term) (ts : Terms) → P by → AllOf P ts → AllOf P (replaced_each f by ts)
+    replaceds-within f by none new all = tt
+    replaceds-within f by (t ⨾ ts) new all = (replaced-within f by t new all.0, replaceds-within f by ts new all.1)
 
 -- ---- what a term says, where f in it says b
 

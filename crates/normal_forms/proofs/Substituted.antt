@@ -186,7 +186,7 @@ front-have P x t f here have g u found = go (symbol_eq (constant_of x) g) found
     go false e = have g u e
 
 -- a test of sorts says of the new variables what it says of the old ones
-renamed-all : (p : Sort → Bool) (c : List Name) (xs : List Variable) (f : Map) (s : Supply) → list_all (λ x. p x.sort) (renaming c xs f s).variables ≡ list_all (λ x. p x.sort) xs
+pub renamed-all : (p : Sort → Bool) (c : List Name) (xs : List Variable) (f : Map) (s : Supply) → list_all (λ x. p x.sort) (renaming c xs f s).variables ≡ list_all (λ x. p x.sort) xs
 renamed-all p c [] f s = refl
 renamed-all p c (x ∷ xs) f s = go (name_among c x.name) (λ g t. renamed-all p c xs g t)
   where
@@ -242,7 +242,7 @@ made-has P (op p) us plain whole = plain (not_minus p us refl)
 abbrev Regular : Term → Type 0
 Regular t = is_regular t ≡ true
 
-variable-regular : (y : Variable) → is_sort y.sort ≡ true → Regular (variable y)
+pub variable-regular : (y : Variable) → is_sort y.sort ≡ true → Regular (variable y)
 unfolding is_minus_of
 variable-regular y e = and_true (is_sort y.sort) true e refl
 
