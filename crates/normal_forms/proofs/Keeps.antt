@@ -41,7 +41,7 @@ keeps-formula t r sorted has a regular =
 
 -- ---- terms that are no formulas
 
-truly : (s : Sort) → is_bool s ≡ true → s ≡ bool
+pub truly : (s : Sort) → is_bool s ≡ true → s ≡ bool
 truly bool e = refl
 truly _ e = absurd cc
 
@@ -56,7 +56,7 @@ plain-kind h ts s has other = go (is_logical (kind_of h ts)) refl
     go true e = let never : is_bool s ≡ true = ap is_bool (connected h ts s has e).sort in absurd cc
     go false e = only-atom (kind_of h ts) e
 
-never-bool : (s : Sort) → s ≡ bool → is_bool s ≡ false → ⊥
+pub never-bool : (s : Sort) → s ≡ bool → is_bool s ≡ false → ⊥
 never-bool s e other = let yes : is_bool s ≡ true = ap is_bool e in absurd cc
 
 pub nnf-plain : (t : Term) (s : Sort) → sort_of t ≡ Some s → is_bool s ≡ false → nnf t ≡ t

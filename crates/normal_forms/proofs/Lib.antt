@@ -17,3 +17,4 @@ pub mod Shannon
 pub mod ShannonInside
 pub mod ShannonRegular
 pub mod Substituted
+pub mod Turns
