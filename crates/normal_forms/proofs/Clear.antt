@@ -1,6 +1,6 @@
 -- Clear terms, said without what is bound above: below each quantifier, a free symbol with a variable's name is that
 -- variable; and no two free symbols of the term have one name.
-use Rattle.std.proofs.Common.{◌≡◌, Bool, true, false, not, cond, ◌&&◌, ◌||◌, ◌⊎◌, inl, inr, List, [], ◌∷◌, ◌++◌, map, reverse, Some, refl, ap, sym, ◌∙◌, subst}
+use Rattle.std.proofs.Common.{◌≡◌, Bool, true, false, not, cond, ◌&&◌, ◌||◌, ◌⊎◌, inl, inr, List, [], ◌∷◌, ◌++◌, map, reverse, Some, refl, ap, sym, ◌∙◌}
 use Rattle.std.specs.Prelude.{⊤, filter}
 use Rattle.std.specs.List.{list_all}
 use mathlib.Core.List.{reverse_aux-eq}
@@ -293,7 +293,6 @@ apart-distinct (f ∷ fs) once apart =
         absurd cc
 
 -- ---- what stays clear
-
 
 pub stays-clear : (t r : Term) (s : Sort) → sort_of t ≡ Some s → ((g : Symbol) → is_among (free r) g ≡ true → is_among (free t) g ≡ true) → (Clear t → Clear r) → is_clear t ≡ true → is_clear r ≡ true
 stays-clear t r s has symbols clear given =

@@ -1,11 +1,10 @@
 -- Fresh names for all variables of a quantified formula: the quantifier over the new ones, and the body over them.
-use Rattle.std.proofs.Common.{◌≡◌, ℕ, ◌≤◌, Bool, true, false, not, cond, ◌&&◌, ◌||◌, ◌⊎◌, inl, inr, List, [], ◌∷◌, ◌++◌, map, Some, None, refl, ap, sym, ◌∙◌}
-use Rattle.std.specs.Prelude.{⊤}
+use Rattle.std.proofs.Common.{◌≡◌, ◌≤◌, Bool, true, false, ◌⊎◌, inl, inr, List, [], ◌∷◌, map, Some, refl, ap, sym, ◌∙◌}
 use Rattle.std.specs.List.{list_all}
 use Rattle.smt_terms.specs.Sorts.{Name, Sort, bool, Symbol, Variable}
-use Rattle.smt_terms.specs.Term.{Term, quantified, constant_of, variable}
-use Rattle.smt_terms.specs.Equal.{name_eq, symbol_eq}
-use Rattle.smt_terms.specs.Free.{is_among, name_among, without, free}
+use Rattle.smt_terms.specs.Term.{Term, constant_of, variable}
+use Rattle.smt_terms.specs.Equal.{name_eq}
+use Rattle.smt_terms.specs.Free.{is_among, name_among, free}
 use Rattle.smt_terms.specs.Rank.{has_name, are_bindable, is_sort, is_regular, sort_of}
 use Rattle.smt_terms.specs.Values.{is_true}
 use Rattle.smt_terms.specs.Models.{Model}
@@ -13,8 +12,8 @@ use Rattle.smt_terms.specs.Val.{Env, runs, val}
 use Rattle.smt_terms.specs.Fresh.{Supply, next_name, after_draw, fresh_for, NeverGives}
 use Rattle.smt_terms.specs.Subst.{Map, image, Renamed, bind, renaming, subst}
 use Rattle.smt_terms.specs.SubstLaws.{under, HaveSorts, names_within, GivesNone, GivesNoImage, ReplacesConstants, LeftFree, stays, comes, Later}
-use Rattle.smt_terms.proofs.Tests.{both_true, and_true, or_false, left_true, right_true}
-use Rattle.smt_terms.proofs.Equal.{Decides-name_eq, Decides-symbol_eq}
+use Rattle.smt_terms.proofs.Tests.{both_true, or_false, left_true, right_true}
+use Rattle.smt_terms.proofs.Equal.{Decides-name_eq}
 use Rattle.smt_terms.proofs.Fresh.{never-next, never-after}
 use Rattle.smt_terms.proofs.Agree.{val_same}
 use Rattle.smt_terms.proofs.Sorted.{IsQuantified, quantified_sort}
@@ -26,7 +25,7 @@ use Rattle.smt_terms.proofs.SubstFree.{Source, before, bound, renaming-source, N
 use Rattle.normal_forms.specs.Prenex.{Quantified, whole, quantifiers}
 use Rattle.normal_forms.proofs.Clear.{Clear, to-without}
 use Rattle.normal_forms.proofs.Inside.{in-left, in-right}
-use Rattle.normal_forms.proofs.Substituted.{IsSubst, ImagesHave, renamed-have, renamed-all, any_sort, all-any, Unquantified, variable-regular, subst-is, subst-regular, subst-fewer, subst-clear}
+use Rattle.normal_forms.proofs.Substituted.{IsSubst, renamed-have, renamed-all, any_sort, all-any, Unquantified, variable-regular, subst-is, subst-regular, subst-fewer, subst-clear}
 
 abbrev pub names : List Variable → List Name
 names xs = map (λ x. x.name) xs
@@ -83,7 +82,7 @@ draws f s sort has given = record {
   runs = λ m e.
       ap (λ (A : Env → Bool). runs f.quantifier (drawn f s).variables m.sizes A e) (λ i d. is_true (told.1 m d i))
       ∙ renaming-runs c xs [] s f.quantifier m.sizes m (free f.body) (λ d. is_true (val m f.body d)) (λ d k same. ap is_true (val_same f.body m d k same)) e e
-          (λ g u found. no-image g u found) (keys-none c xs) variables (λ g u found. no-image g u found) symbols (λ g among. refl);
+      (λ g u found. no-image g u found) (keys-none c xs) variables (λ g u found. no-image g u found) symbols (λ g among. refl);
   sorts = λ regular. renamed-all is_sort c xs [] s ∙ (both_true (list_all (λ y. is_sort y.sort) xs) (is_regular f.body) regular).0;
   regular = λ regular.
       let rules = both_true (list_all (λ y. is_sort y.sort) xs) (is_regular f.body) regular in

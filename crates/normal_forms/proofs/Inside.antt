@@ -1,21 +1,20 @@
 -- Terms that are made of what stands in another: no other free symbols, no other names, and clear where it is.
-use Rattle.std.proofs.Common.{◌≡◌, ℕ, zero, suc, Bool, true, false, not, ◌||◌, ◌⊎◌, inl, inr, List, [], ◌∷◌, ◌++◌, map, refl, ap, sym, ◌∙◌, subst}
-use Rattle.std.specs.Prelude.{⊤}
+use Rattle.std.proofs.Common.{◌≡◌, ℕ, Bool, true, false, not, ◌⊎◌, inl, inr, List, [], ◌∷◌, ◌++◌, map, refl, sym, ◌∙◌, subst}
 use Rattle.smt_terms.specs.declared.op.Op.{Op}
 use Rattle.smt_terms.specs.declared.op.Op.TheVariants.{Truth, Not, And, Or}
 use Rattle.smt_terms.specs.Sorts.{Name, Symbol, Variable}
 use Rattle.smt_terms.specs.Term.{Quantifier, Head, op, symbol, const_array, Term, apply, quantified, Terms, none, ◌⨾◌, terms}
 use Rattle.smt_terms.specs.Equal.{name_eq, symbol_eq}
-use Rattle.smt_terms.specs.Free.{is_among, name_among, names_of, without, head_symbols, free, free_of}
+use Rattle.smt_terms.specs.Free.{is_among, name_among, names_of, head_symbols, free, free_of}
 use Rattle.smt_terms.specs.SubstLaws.{names_within, names_within_each}
-use Rattle.smt_terms.specs.Connectives.{Kind, truth_value, negation, conjunction, disjunction, exclusive, implication, equivalence, difference, conditional, atom, kind_of, truth_term, negated, all_of, any_of, both, either, opposite, nth}
+use Rattle.smt_terms.specs.Connectives.{Kind, truth_value, negation, conjunction, disjunction, exclusive, implication, equivalence, difference, conditional, atom, kind_of, truth_term, negated, all_of, both, either, opposite, nth}
 use Rattle.smt_terms.proofs.Tests.{either_true, left_true, right_true}
 use Rattle.smt_terms.proofs.Equal.{Decides-name_eq, Decides-symbol_eq}
 use Rattle.smt_terms.proofs.Cuts.{name_among-append}
 use Rattle.normal_forms.specs.Nnf.{differ, agree, positive_distinct, negative_distinct, positive, negative, dual, nnf, nnf_not, nnf_each, nnf_not_each}
 use Rattle.normal_forms.specs.Aig.{same_sides, aig_distinct, inverted, aig, aig_each}
 use Rattle.normal_forms.proofs.Inherited.{All, AllOf, nth-inherits}
-use Rattle.normal_forms.proofs.Clear.{Sees, Clear, ClearEach, in-more, in-first, in-second, in-without, to-without}
+use Rattle.normal_forms.proofs.Clear.{Clear, ClearEach, in-more, in-first, in-second, in-without, to-without}
 
 -- ---- names of two parts
 

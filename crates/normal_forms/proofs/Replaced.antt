@@ -1,7 +1,7 @@
 -- A quantified formula that is reached through `and` and `or` alone, and another one in its place: what that does to sorts, to
 -- values and to what stands in the term. What a formula says, as a function of what the one in it says, is monotone.
 use Rattle.std.proofs.Common.{◌≡◌, ℕ, zero, suc, ◌+◌, ◌≤◌, Bool, true, false, not, cond, ◌&&◌, ◌||◌, List, [], ◌∷◌, map, Option, Some, None, refl, ap, sym, ◌∙◌, subst, arith}
-use Rattle.std.specs.Prelude.{⊤, unwrap_or}
+use Rattle.std.specs.Prelude.{⊤}
 use Rattle.std.specs.List.{list_all}
 use Rattle.smt_terms.specs.declared.op.Op.{Op}
 use Rattle.smt_terms.specs.declared.op.Op.TheVariants.{Neg}
@@ -14,11 +14,11 @@ use Rattle.smt_terms.specs.Rank.{is_quantifiable, sort_over, with_sort, sort_of,
 use Rattle.smt_terms.specs.Values.{Value, Sizes, truth, bits, is_true, joined, over_bits, over_values}
 use Rattle.smt_terms.specs.Models.{Model}
 use Rattle.smt_terms.specs.Val.{Env, assign, runs, val, vals}
-use Rattle.smt_terms.specs.Connectives.{Kind, truth_value, negation, conjunction, disjunction, exclusive, implication, equivalence, difference, conditional, atom, operator_kind, kind, kind_of}
+use Rattle.smt_terms.specs.Connectives.{Kind, conjunction, disjunction, operator_kind, kind, kind_of}
 use Rattle.smt_terms.specs.SubstLaws.{names_within, names_within_each}
 use Rattle.smt_terms.specs.Shapes.{reached, reaches_quantifier, reach_quantifier, is_prenex}
 use Rattle.smt_terms.proofs.Tests.{both_true, and_true}
-use Rattle.smt_terms.proofs.Equal.{Decides-symbol_eq, Decides-term_eq}
+use Rattle.smt_terms.proofs.Equal.{Decides-term_eq}
 use Rattle.smt_terms.proofs.Agree.{SameAt, val_same, same_left, same_right}
 use Rattle.smt_terms.proofs.Runs.{among-name}
 use Rattle.smt_terms.proofs.Keeping.{not_minus}
@@ -27,7 +27,7 @@ use Rattle.smt_terms.proofs.SortsOfTerms.{regular, regular_over}
 use Rattle.smt_terms.proofs.Connected.{is_logical, kind_value, connective-value, all_bits, any_bit}
 use Rattle.normal_forms.specs.Prenex.{Quantified, whole, through, or_next, leftmost, leftmost_of, through_or, by_if, replaced, replaced_each, quantifiers, quantifiers_of}
 use Rattle.normal_forms.proofs.Inherited.{AllOf}
-use Rattle.normal_forms.proofs.Clear.{Clear, ClearEach, in-first, in-second}
+use Rattle.normal_forms.proofs.Clear.{ClearEach, in-first, in-second}
 use Rattle.normal_forms.proofs.Inside.{in-left, in-right, Within, head-within}
 
 some-same : {A : Type 0} (a b : A) → Some a ≡ Some b → a ≡ b

@@ -1,15 +1,15 @@
 -- Self-substitution: the term has its sort and its value in every model, no quantifier over truth values, no other free
 -- symbols, and it is clear where it was. What was kept of quantified terms has all this too.
-use Rattle.std.proofs.Common.{◌≡◌, Bool, true, false, not, cond, ◌&&◌, ◌||◌, ◌⊎◌, inl, inr, ℤ, List, [], ◌∷◌, map, Option, Some, None, refl, ap, sym, ◌∙◌, subst as carry}
+use Rattle.std.proofs.Common.{◌≡◌, Bool, true, false, cond, ◌&&◌, ◌||◌, ◌⊎◌, inl, inr, ℤ, List, [], ◌∷◌, map, Option, Some, None, refl, ap, sym, ◌∙◌, subst as carry}
 use Rattle.std.specs.Prelude.{⊤, unwrap_or, is_some}
-use Rattle.std.specs.List.{list_all, list_any}
+use Rattle.std.specs.List.{list_all}
 use Rattle.smt_terms.specs.declared.op.Op.{Op}
 use Rattle.smt_terms.specs.declared.op.Op.TheVariants.{Whole}
 use Rattle.smt_terms.specs.Sorts.{Name, Sort, bool, int, bit_vector, array, free_sort, Symbol, Variable}
 use Rattle.smt_terms.specs.Term.{Quantifier, universal, existential, Head, op, symbol, const_array, Term, apply, quantified, Terms, none, ◌⨾◌, constant_of, constant, variable}
 use Rattle.smt_terms.specs.Equal.{name_eq, symbol_eq, term_eq}
 use Rattle.smt_terms.specs.Free.{is_among, name_among, names_of, without, head_symbols, free, free_of}
-use Rattle.smt_terms.specs.Rank.{rank, shape, are_distinct, are_bindable, is_quantifiable, is_sort, is_minus_of, is_minus, is_whole, is_regular, are_regular, sort_over, with_sort, sort_of, sorts_of, IsWellSorted}
+use Rattle.smt_terms.specs.Rank.{rank, shape, is_sort, is_minus_of, is_minus, is_whole, is_regular, are_regular, sort_over, with_sort, sort_of, sorts_of, IsWellSorted}
 use Rattle.smt_terms.specs.Values.{Value, Sizes, truth, is_true, is_value, joined}
 use Rattle.smt_terms.specs.Models.{Model, IsModel}
 use Rattle.smt_terms.specs.Val.{Env, assign, runs, head_value, val, vals}
@@ -18,7 +18,7 @@ use Rattle.smt_terms.specs.Keeps.{Keeps}
 use Rattle.smt_terms.specs.Constants.{whole_term}
 use Rattle.smt_terms.specs.Fresh.{Supply, NeverGives}
 use Rattle.smt_terms.specs.Subst.{Map, image, subst}
-use Rattle.smt_terms.specs.SubstLaws.{under, value_or, HaveSorts, names_within, names_within_each, GivesNone, GivesNoImage, GivesNoNameIn, ReplacesConstants, LeftFree, stays, comes, Later}
+use Rattle.smt_terms.specs.SubstLaws.{under, value_or, HaveSorts, names_within, names_within_each, GivesNone, GivesNoImage, ReplacesConstants, LeftFree, stays, comes, Later}
 use Rattle.smt_terms.specs.Shapes.{is_bool, no_bool_quantifier, no_bool_quantifiers}
 use Rattle.smt_terms.proofs.Tests.{both_true, and_true, either_true, left_true, right_true}
 use Rattle.smt_terms.proofs.Equal.{Decides-name_eq, Decides-symbol_eq, Decides-term_eq}
@@ -32,15 +32,15 @@ use Rattle.smt_terms.proofs.Runs.{among-name}
 use Rattle.smt_terms.proofs.Substitution.{symbols-spared, subst-keeps_meaning, subst-gives_later}
 use Rattle.smt_terms.proofs.SubstNames.{subst-spares_names}
 use Rattle.smt_terms.proofs.SubstFree.{subst-leaves_free}
-use Rattle.normal_forms.specs.Laws.{RewritesFresh, RewritesWith}
+use Rattle.normal_forms.specs.Laws.{RewritesWith}
 use Rattle.normal_forms.specs.Quantifiers.{over_left, not_bool, at_truth, witness, substitute_bool, substitute_each, Solved, Solving, solved_for, solved_or, solve, selfsub_from, selfsubs_from, selfsub}
 use Rattle.normal_forms.proofs.Inherited.{AllOf}
-use Rattle.normal_forms.proofs.Clear.{bindable-parts, Clear, ClearEach, in-first, in-second, in-without, to-without}
+use Rattle.normal_forms.proofs.Clear.{bindable-parts, Clear, ClearEach, in-first, in-second, to-without}
 use Rattle.normal_forms.proofs.Inside.{in-left, in-right, Within, NamedIn, wider, head-within}
 use Rattle.normal_forms.proofs.AtTruth.{at_truth-sort, at_truth-value}
 use Rattle.normal_forms.proofs.Shannon.{bool_at, bools, runs-bools, kept-distinct, kept-quantifiable, over-left-sort}
 use Rattle.normal_forms.proofs.ShannonRegular.{at_truth-regular, kept-sorts, over-left-regular, head-regular}
-use Rattle.normal_forms.proofs.ShannonInside.{bool_variables, in-less, one-less, more-without, at_truth-within, over-left-within, each-map}
+use Rattle.normal_forms.proofs.ShannonInside.{bool_variables, in-less, more-without, at_truth-within, over-left-within, each-map}
 use Rattle.normal_forms.proofs.NoBool.{at_truth-free, kept-not_bool, over-left-free}
 use Rattle.normal_forms.proofs.Substituted.{IsSubst, ImagesHave, subst-is, subst-regular, subst-no_bool, subst-clear}
 use Rattle.normal_forms.proofs.Keeps.{rewrites-from, sort-known}
@@ -271,9 +271,9 @@ quantified-sound q xs body b s n r has same names taken =
       value = λ m e model env.
           over-left-exact q (not_bool xs) r.0 m e (formula-exact r.0 m e taken.sort model env)
           ∙ ap truth (
-              runs_alike q (not_bool xs) m.sizes (λ d. is_true (val m r.0 d)) (bools q xs (λ d. is_true (val m b d))) (λ d valid. taken.value m d model valid) e env
-              ∙ runs-bools q xs m.sizes (λ d. is_true (val m b d)) e
-              ∙ runs_alike q xs m.sizes (λ d. is_true (val m b d)) (λ d. is_true (val m body d)) (λ d valid. ap is_true (same m d model valid)) e env
+          runs_alike q (not_bool xs) m.sizes (λ d. is_true (val m r.0 d)) (bools q xs (λ d. is_true (val m b d))) (λ d valid. taken.value m d model valid) e env
+          ∙ runs-bools q xs m.sizes (λ d. is_true (val m b d)) e
+          ∙ runs_alike q xs m.sizes (λ d. is_true (val m b d)) (λ d. is_true (val m body d)) (λ d valid. ap is_true (same m d model valid)) e env
           );
       regular = λ given.
           let rules = both_true (list_all (λ x. is_sort x.sort) xs) (is_regular body) given in

@@ -1,6 +1,6 @@
 -- What Shannon's expansion leaves: no other free symbols and no other names, and clear terms are clear still. A truth value
 -- for a variable takes it out of the free symbols.
-use Rattle.std.proofs.Common.{◌≡◌, Bool, true, false, not, cond, ◌||◌, ◌⊎◌, inl, inr, List, [], ◌∷◌, ◌++◌, map, Some, refl, ap, sym, ◌∙◌, subst}
+use Rattle.std.proofs.Common.{◌≡◌, Bool, true, false, not, cond, ◌||◌, ◌⊎◌, inl, inr, List, [], ◌∷◌, map, Some, refl, ap, sym, ◌∙◌, subst}
 use Rattle.std.specs.Prelude.{⊤, filter}
 use Rattle.smt_terms.specs.declared.op.Op.TheVariants.{Truth, And, Or}
 use Rattle.smt_terms.specs.Sorts.{Name, Sort, bool, int, bit_vector, array, free_sort, Symbol, Variable}

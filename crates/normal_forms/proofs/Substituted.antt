@@ -1,28 +1,27 @@
 -- What a substitution gives, said by the term alone and not by what was kept on the way; and that it stays regular and clear,
 -- binds no Bool that wasn't bound, and adds no quantifier.
-use Rattle.std.proofs.Common.{◌≡◌, ℕ, zero, suc, ◌+◌, ◌≤◌, Bool, true, false, not, cond, ◌&&◌, ◌||◌, ◌⊎◌, inl, inr, ℤ, List, [], ◌∷◌, ◌++◌, map, Option, Some, None, refl, ap, sym, ◌∙◌, subst as carry, arith}
+use Rattle.std.proofs.Common.{◌≡◌, ℕ, suc, ◌≤◌, Bool, true, false, not, cond, ◌&&◌, ◌||◌, ◌⊎◌, inl, inr, ℤ, List, [], ◌∷◌, map, Option, Some, None, refl, ap, sym, ◌∙◌, subst as carry, arith}
 use Rattle.std.specs.Prelude.{⊤}
 use Rattle.std.specs.List.{list_all, list_any}
-use Rattle.smt_terms.specs.declared.op.Op.{Op}
 use Rattle.smt_terms.specs.declared.op.Op.TheVariants.{Whole, Neg}
 use Rattle.smt_terms.specs.Sorts.{Name, Sort, bool, Symbol, Variable}
 use Rattle.smt_terms.specs.Term.{Quantifier, Head, op, symbol, const_array, Term, apply, quantified, Terms, none, ◌⨾◌, constant_of, constant, variable}
 use Rattle.smt_terms.specs.Equal.{name_eq, symbol_eq, term_eq}
-use Rattle.smt_terms.specs.Free.{is_among, name_among, names_of, without, head_symbols, free, free_of}
-use Rattle.smt_terms.specs.Rank.{has_name, are_distinct, are_bindable, is_sort, has_sorts, is_minus, is_whole, is_minus_of, is_regular, are_regular, sort_of, sorts_of}
-use Rattle.smt_terms.specs.Fresh.{Supply, next_name, after_draw, fresh_for, NeverGives}
+use Rattle.smt_terms.specs.Free.{is_among, name_among, names_of, without, head_symbols, free}
+use Rattle.smt_terms.specs.Rank.{has_name, are_distinct, is_sort, has_sorts, is_minus, is_whole, is_minus_of, is_regular, are_regular, sort_of, sorts_of}
+use Rattle.smt_terms.specs.Fresh.{Supply, after_draw, fresh_for, NeverGives}
 use Rattle.smt_terms.specs.Made.{made}
 use Rattle.smt_terms.specs.Constants.{whole_term}
 use Rattle.smt_terms.specs.Shapes.{is_bool, no_bool_quantifier, no_bool_quantifiers}
-use Rattle.smt_terms.specs.Subst.{Map, image, cut_to, names_in, Renamed, bind, renaming, Chosen, Choices, map_eq, chosen_for, keep, kept_or, quantify, image_or_itself, rebuilt, subst_from, substs_from, subst}
+use Rattle.smt_terms.specs.Subst.{Map, image, cut_to, names_in, bind, renaming, Chosen, Choices, map_eq, chosen_for, keep, kept_or, quantify, image_or_itself, rebuilt, subst_from, substs_from, subst}
 use Rattle.smt_terms.specs.SubstLaws.{names_within, names_within_each, GivesNone, GivesNoImage, ReplacesConstants, LeftFree, stays, comes, Later}
 use Rattle.smt_terms.proofs.Tests.{both_true, and_true, either_true, left_true, right_true, both_false, not_true}
 use Rattle.smt_terms.proofs.Equal.{Decides-name_eq, Decides-symbol_eq, Decides-term_eq}
 use Rattle.smt_terms.proofs.Fresh.{never-next, never-after}
 use Rattle.smt_terms.proofs.Sorted.{applied, sorted, quantified_sort}
-use Rattle.smt_terms.proofs.SortsOfTerms.{IsRegular, regular, regular_over}
+use Rattle.smt_terms.proofs.SortsOfTerms.{regular, regular_over}
 use Rattle.smt_terms.proofs.Keeping.{not_minus, two_or_more}
-use Rattle.smt_terms.proofs.Renaming.{VariablesSpared, renaming-later, renaming-spared, renaming-bindable}
+use Rattle.smt_terms.proofs.Renaming.{renaming-later, renaming-spared, renaming-bindable}
 use Rattle.smt_terms.proofs.Runs.{NoneNamed, among-name}
 use Rattle.smt_terms.proofs.Cuts.{cut-image, cut-spared, names-apart, map-same}
 use Rattle.smt_terms.proofs.Substitution.{symbols-spared, variables-spared}

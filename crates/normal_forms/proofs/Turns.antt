@@ -1,6 +1,6 @@
 -- Prenex form: each turn keeps the value of the matrix, and takes at least one quantifier out of it.
-use Rattle.std.proofs.Common.{◌≡◌, ℕ, zero, suc, ◌≤◌, Bool, true, false, not, ◌&&◌, ◌⊎◌, inl, inr, List, [], ◌∷◌, map, Option, Some, None, refl, ap, sym, ◌∙◌, subst as carry, arith}
-use Rattle.std.specs.Prelude.{⊤, is_some}
+use Rattle.std.proofs.Common.{◌≡◌, ℕ, zero, suc, ◌≤◌, Bool, true, false, ◌⊎◌, inl, inr, List, [], ◌∷◌, map, Option, Some, None, refl, ap, sym, ◌∙◌, subst as carry, arith}
+use Rattle.std.specs.Prelude.{is_some}
 use Rattle.std.specs.List.{list_all}
 use Rattle.smt_terms.specs.Sorts.{Name, Sort, bool, Symbol, Variable}
 use Rattle.smt_terms.specs.Term.{Head, Term, apply, quantified, Terms, none, ◌⨾◌, constant_of}
@@ -11,7 +11,6 @@ use Rattle.smt_terms.specs.Values.{is_true}
 use Rattle.smt_terms.specs.Models.{Model}
 use Rattle.smt_terms.specs.Val.{Env, runs, val}
 use Rattle.smt_terms.specs.Fresh.{Supply, NeverGives}
-use Rattle.smt_terms.specs.Connectives.{kind_of}
 use Rattle.smt_terms.specs.Shapes.{is_bool, is_prenex}
 use Rattle.smt_terms.specs.SubstLaws.{names_within, GivesNone, Later}
 use Rattle.smt_terms.proofs.Tests.{both_true, and_true, both_false}
@@ -161,7 +160,7 @@ module _ (t : Term) (f : Quantified) (s : Supply) (e : leftmost t ≡ Some f) (h
   turn-value r before m d =
       ap (λ (A : Env → Bool). runs f.quantifier (drawn f s).variables m.sizes A d) (λ i k. (before m k ∙ replaced-says m (whole f) (renamed_body f s).0 t k bool same has) i)
       ∙ runs-past f.quantifier (drawn f s).variables m.sizes (free t) (λ k b. says m (whole f) t k b) (λ k l b alike. says-same m (whole f) t k l b alike) (λ k. says-monotone m (whole f) t k) (λ k. is_true (val m (renamed_body f s).0 k))
-          (bindable-parts (drawn f s).variables new.bindable).1 (all-apart (free t) (drawn f s).variables (λ g among. new.fresh g.name (symbols-spared s t given g among))) d
+      (bindable-parts (drawn f s).variables new.bindable).1 (all-apart (free t) (drawn f s).variables (λ g among. new.fresh g.name (symbols-spared s t given g among))) d
       ∙ ap (says m (whole f) t d) (new.runs m d)
       ∙ says-itself m (whole f) t d bool has
 
