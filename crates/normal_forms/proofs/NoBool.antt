@@ -31,7 +31,7 @@ unless-free true t u a c = a
 unless-free false t u a c = c
 
 mutual
-  at_truth-free : (t : Term) (v : Bool) (x : Variable) → Free t → Free (at_truth v x t)
+  pub at_truth-free : (t : Term) (v : Bool) (x : Variable) → Free t → Free (at_truth v x t)
   at_truth-free (apply h ts) v x all = head-free v x h (at_truth_each v x ts) (at_truth-all ts v x all)
   at_truth-free (quantified q xs body) v x all =
       let parts = both_true (not (list_any (λ y. is_bool y.sort) xs)) (no_bool_quantifier body) all in

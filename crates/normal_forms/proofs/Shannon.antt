@@ -67,11 +67,11 @@ runs-joined q (y ∷ ys) sizes F G e =
 -- ---- both truth values of each Bool variable
 
 -- both truth values of one variable, where it is Bool
-abbrev bool_at : Sort → Quantifier → Variable → (Env → Bool) → Env → Bool
+abbrev pub bool_at : Sort → Quantifier → Variable → (Env → Bool) → Env → Bool
 bool_at bool q x B d = joined q (B (assign x (truth false) d)) (B (assign x (truth true) d))
 bool_at _ q x B d = B d
 
-abbrev bools : Quantifier → List Variable → (Env → Bool) → Env → Bool
+abbrev pub bools : Quantifier → List Variable → (Env → Bool) → Env → Bool
 bools q [] A d = A d
 bools q (x ∷ xs) A d = bool_at x.sort q x (bools q xs A) d
 
@@ -91,7 +91,7 @@ bool-apart x (y ∷ xs) s = go (is_bool y.sort) refl (bool-apart x xs s)
             absurd cc
         first false k = below
 
-runs-bools : (q : Quantifier) (xs : List Variable) (sizes : Sizes) (A : Env → Bool) (e : Env) → runs q (not_bool xs) sizes (bools q xs A) e ≡ runs q xs sizes A e
+pub runs-bools : (q : Quantifier) (xs : List Variable) (sizes : Sizes) (A : Env → Bool) (e : Env) → runs q (not_bool xs) sizes (bools q xs A) e ≡ runs q xs sizes A e
 runs-bools q [] sizes A e = refl
 runs-bools q (x ∷ xs) sizes A e = go x.sort refl (λ d. runs-bools q xs sizes A d)
   where
@@ -159,7 +159,7 @@ kept-apart n (x ∷ xs) e =
     go true here below = below
     go false here below = ap (λ c. c || has_name n (map (λ y. y.name) (not_bool xs))) here ∙ below
 
-kept-distinct : (xs : List Variable) → are_distinct (map (λ x. x.name) xs) ≡ true → are_distinct (map (λ x. x.name) (not_bool xs)) ≡ true
+pub kept-distinct : (xs : List Variable) → are_distinct (map (λ x. x.name) xs) ≡ true → are_distinct (map (λ x. x.name) (not_bool xs)) ≡ true
 kept-distinct [] e = refl
 kept-distinct (x ∷ xs) e =
     let parts = both_true (not (has_name x.name (map (λ y. y.name) xs))) (are_distinct (map (λ y. y.name) xs)) e in
@@ -169,7 +169,7 @@ kept-distinct (x ∷ xs) e =
     go true here below = below
     go false here below = and_true (not (has_name x.name (map (λ y. y.name) (not_bool xs)))) (are_distinct (map (λ y. y.name) (not_bool xs))) (ap not here) below
 
-kept-quantifiable : (xs : List Variable) → list_all (λ x. is_quantifiable x.sort) xs ≡ true → list_all (λ x. is_quantifiable x.sort) (not_bool xs) ≡ true
+pub kept-quantifiable : (xs : List Variable) → list_all (λ x. is_quantifiable x.sort) xs ≡ true → list_all (λ x. is_quantifiable x.sort) (not_bool xs) ≡ true
 kept-quantifiable [] e = refl
 kept-quantifiable (x ∷ xs) e =
     let parts = both_true (is_quantifiable x.sort) (list_all (λ y. is_quantifiable y.sort) xs) e in
@@ -183,7 +183,7 @@ some-bindable : (x : Variable) (xs : List Variable) → are_distinct (map (λ y.
 some-bindable x xs distinct all = and_true _ _ distinct all
 
 -- the quantifier over the variables that stay, or the body where none does
-over-left-sort : (q : Quantifier) (ys : List Variable) (b : Term) → are_distinct (map (λ y. y.name) ys) ≡ true → list_all (λ y. is_quantifiable y.sort) ys ≡ true → sort_of b ≡ Some bool → sort_of (over_left q ys b) ≡ Some bool
+pub over-left-sort : (q : Quantifier) (ys : List Variable) (b : Term) → are_distinct (map (λ y. y.name) ys) ≡ true → list_all (λ y. is_quantifiable y.sort) ys ≡ true → sort_of b ≡ Some bool → sort_of (over_left q ys b) ≡ Some bool
 over-left-sort q [] b distinct all has = has
 over-left-sort q (y ∷ ys) b distinct all has = sort_of-quantified q (y ∷ ys) b (some-bindable y ys distinct all) has
 
@@ -238,7 +238,7 @@ quantified-kept q (x ∷ xs) body b s bindable is below =
           ∙ ap truth (runs-bools q (x ∷ xs) m.sizes (λ d. is_true (val m body d)) e);
     }
 
-operand-sorts : (h : Head) (o : Option (List Sort)) (s : Sort) → sort_over h o ≡ Some s → (ss : List Sort) × (o ≡ Some ss)
+pub operand-sorts : (h : Head) (o : Option (List Sort)) (s : Sort) → sort_over h o ≡ Some s → (ss : List Sort) × (o ≡ Some ss)
 operand-sorts h None s e = absurd cc
 operand-sorts h (Some ss) s e = (ss, refl)
 

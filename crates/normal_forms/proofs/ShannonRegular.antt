@@ -26,7 +26,7 @@ Regular t = is_regular t ≡ true
 -- ---- a truth value for a variable
 
 -- the same head over other operands, as long as none becomes a constant
-head-regular : (h : Head) (ts us : Terms) → is_minus_of h us ≡ is_minus_of h ts → Regular (apply h ts) → are_regular us ≡ true → Regular (apply h us)
+pub head-regular : (h : Head) (ts us : Terms) → is_minus_of h us ≡ is_minus_of h ts → Regular (apply h ts) → are_regular us ≡ true → Regular (apply h us)
 head-regular h ts us same given each =
     let parts = both_true (has_sorts h) (not (is_minus_of h ts) && are_regular ts) given in
     let rest = both_true (not (is_minus_of h ts)) (are_regular ts) parts.1 in
@@ -87,7 +87,7 @@ operands-regular : (h : Head) (ts : Terms) → Regular (apply h ts) → are_regu
 operands-regular h ts given = (both_true (not (is_minus_of h ts)) (are_regular ts) (both_true (has_sorts h) (not (is_minus_of h ts) && are_regular ts) given).1).1
 
 mutual
-  at_truth-regular : (t : Term) (v : Bool) (x : Variable) → Regular t → Regular (at_truth v x t)
+  pub at_truth-regular : (t : Term) (v : Bool) (x : Variable) → Regular t → Regular (at_truth v x t)
   at_truth-regular (apply h ts) v x given =
       at_head-regular v x h (at_truth_each v x ts) (head-regular h ts (at_truth_each v x ts) (at-minus h v x ts) given (at_truths-regular ts v x (operands-regular h ts given)))
   at_truth-regular (quantified q xs body) v x given =
@@ -119,7 +119,7 @@ expand_each-regular : (q : Quantifier) (xs : List Variable) (b : Term) → Regul
 expand_each-regular q [] b a = a
 expand_each-regular q (x ∷ xs) b a = expand_bool-regular x.sort q x (expand_each q xs b) (expand_each-regular q xs b a)
 
-kept-sorts : (xs : List Variable) → list_all (λ x. is_sort x.sort) xs ≡ true → list_all (λ x. is_sort x.sort) (not_bool xs) ≡ true
+pub kept-sorts : (xs : List Variable) → list_all (λ x. is_sort x.sort) xs ≡ true → list_all (λ x. is_sort x.sort) (not_bool xs) ≡ true
 kept-sorts [] e = refl
 kept-sorts (x ∷ xs) e =
     let parts = both_true (is_sort x.sort) (list_all (λ y. is_sort y.sort) xs) e in
@@ -129,7 +129,7 @@ kept-sorts (x ∷ xs) e =
     go true here below = below
     go false here below = and_true (is_sort x.sort) (list_all (λ y. is_sort y.sort) (not_bool xs)) here below
 
-over-left-regular : (q : Quantifier) (ys : List Variable) (b : Term) → list_all (λ y. is_sort y.sort) ys ≡ true → Regular b → Regular (over_left q ys b)
+pub over-left-regular : (q : Quantifier) (ys : List Variable) (b : Term) → list_all (λ y. is_sort y.sort) ys ≡ true → Regular b → Regular (over_left q ys b)
 over-left-regular q [] b sorts a = a
 over-left-regular q (y ∷ ys) b sorts a = and_true (list_all (λ z. is_sort z.sort) (y ∷ ys)) (is_regular b) sorts a
 

@@ -1,10 +1,40 @@
--- Statements of the laws of the normal forms.
-use Rattle.std.specs.Prelude.{◌≡◌, Some}
-use Rattle.smt_terms.specs.Sorts.{bool}
+-- Statements of the laws of the normal forms: what holds of a term's form, whichever form it is.
+use Rattle.std.specs.Prelude.{Bool, IsTrue}
+use Rattle.smt_terms.specs.Sorts.{Name, Symbol}
 use Rattle.smt_terms.specs.Term.{Term}
-use Rattle.smt_terms.specs.Rank.{sort_of, IsWellSorted}
+use Rattle.smt_terms.specs.Free.{is_among, name_among, free}
+use Rattle.smt_terms.specs.Fresh.{Supply}
+use Rattle.smt_terms.specs.Rank.{IsWellSorted}
 use Rattle.smt_terms.specs.Keeps.{Keeps}
+use Rattle.smt_terms.specs.Shapes.{is_clear}
+use Rattle.smt_terms.specs.SubstLaws.{names_within, GivesNone, Later}
 
--- a well-sorted formula becomes one that has the same value in every model
-abbrev pub KeepsFormulas : (Term → Term) → Type 0
-KeepsFormulas pass = (t : Term) → IsWellSorted t → sort_of t ≡ Some bool → Keeps t (pass t)
+-- r is well sorted and has t's sort and value in every model; its free symbols are t's; it is clear where t is
+pub record Rewrites (t r : Term) : Type 0 where
+  pub keeps : Keeps t r
+  pub symbols : (g : Symbol) → IsTrue (is_among (free r) g) → IsTrue (is_among (free t) g)
+  pub clear : IsTrue (is_clear t) → IsTrue (is_clear r)
+
+-- every name in r stands in t too
+pub record RewritesAlone (t r : Term) : Type 0 where
+  pub rewrites : Rewrites t r
+  pub names : (n : Name) → IsTrue (name_among (names_within r) n) → IsTrue (name_among (names_within t) n)
+
+-- a form that draws no names
+abbrev pub RewritesAs : (Term → Term) → Type 0
+RewritesAs form = (t : Term) → IsWellSorted t → RewritesAlone t (form t)
+
+-- of a term none of whose names the supply gives, with the supply that is left: that gives none of the result's names, and
+-- none that the first one didn't give
+pub record RewritesFresh (t r : Term) (before left : Supply) : Type 0 where
+  pub rewrites : Rewrites t r
+  pub later : Later before left
+  pub names : GivesNone left (names_within r)
+
+-- a form that draws names
+abbrev pub RewritesWith : (Term → Supply → Term × Supply) → Type 0
+RewritesWith form = (t : Term) (s : Supply) → IsWellSorted t → GivesNone s (names_within t) → RewritesFresh t (form t s).0 s (form t s).1
+
+-- and this test says yes of what it gives
+abbrev pub ShapesWith : (Term → Supply → Term × Supply) → (Term → Bool) → Type 0
+ShapesWith form shape = (t : Term) (s : Supply) → IsWellSorted t → GivesNone s (names_within t) → IsTrue (shape (form t s).0)

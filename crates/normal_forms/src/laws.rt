@@ -2,28 +2,41 @@
 
 ghost use Rattle.std.specs.Prelude.{IsTrue};
 ghost use Rattle.smt_terms.specs.Term.{Term};
-ghost use Rattle.smt_terms.specs.Shapes.{is_nnf, is_aig, no_bool_quantifier};
-ghost use Rattle.smt_terms.specs.Keeps.{KeepsValues};
-ghost use Rattle.normal_forms.specs.Laws.{KeepsFormulas};
+ghost use Rattle.smt_terms.specs.Shapes.{is_nnf, is_aig, is_prenex, no_bool_quantifier};
+ghost use Rattle.normal_forms.specs.Laws.{RewritesAs, RewritesWith, ShapesWith};
 ghost use Rattle.normal_forms.specs.Nnf.{nnf};
 ghost use Rattle.normal_forms.specs.Aig.{aig};
-ghost use Rattle.normal_forms.specs.Quantifiers.{shannon};
+ghost use Rattle.normal_forms.specs.Prenex.{prenex};
+ghost use Rattle.normal_forms.specs.Quantifiers.{shannon, selfsub};
 
-/// Negation normal form keeps the values of formulas, and leaves no connectives but `and`, `or` and `not` over atoms.
+/// Negation normal form keeps the values of terms, and leaves no connectives but `and`, `or` and `not` over atoms.
 pub fn nnf_keeps_values()
-    ensures values { KeepsFormulas nnf }
+    ensures values { RewritesAs nnf }
     ensures shape { (t : Term) → IsTrue (is_nnf (nnf t)) }
 {}
 
-/// And-inverter form keeps the values of formulas, and leaves no connectives but `and` and `not`, and no `not` over a
+/// And-inverter form keeps the values of terms, and leaves no connectives but `and` and `not`, and no `not` over a
 /// `not`.
 pub fn aig_keeps_values()
-    ensures values { KeepsFormulas aig }
+    ensures values { RewritesAs aig }
     ensures shape { (t : Term) → IsTrue (is_aig (aig t)) }
+{}
+
+/// Prenex form keeps the values of terms, and leaves no quantified formula that is reached from the matrix's root through
+/// `and` and `or` alone.
+pub fn prenex_keeps_values()
+    ensures values { RewritesWith prenex }
+    ensures shape { ShapesWith prenex is_prenex }
 {}
 
 /// Shannon's expansion keeps the values of terms, and leaves no quantifier over truth values.
 pub fn shannon_keeps_values()
-    ensures values { KeepsValues shannon }
+    ensures values { RewritesAs shannon }
     ensures shape { (t : Term) → IsTrue (no_bool_quantifier (shannon t)) }
+{}
+
+/// Self-substitution keeps the values of terms, and leaves no quantifier over truth values.
+pub fn selfsub_keeps_values()
+    ensures values { RewritesWith selfsub }
+    ensures shape { ShapesWith selfsub no_bool_quantifier }
 {}

@@ -21,7 +21,7 @@ use Rattle.smt_terms.proofs.Cuts.{cut-image, image-cut, map-same}
 -- ---- renaming: where its images come from, and that what it binds anew has an image
 
 -- an image of the renamed map is one of the map, or a variable that is bound now
-data Source (f : Map) (ys : List Variable) (h : Symbol) (u : Term) : Type 0 where
+pub data Source (f : Map) (ys : List Variable) (h : Symbol) (u : Term) : Type 0 where
   before : image f h ≡ Some u → Source f ys h u
   bound : (y : Variable) → u ≡ variable y → is_among (map constant_of ys) (constant_of y) ≡ true → Source f ys h u
 
@@ -44,14 +44,14 @@ bind-source : (b : Bool) (x : Variable) (f : Map) (s : Supply) (below : Map → 
 bind-source true x f s below h u source e = from-front f x (fresh_for x s) (below ((constant_of x, variable (fresh_for x s)) ∷ f) (after_draw s)).variables h u (source ((constant_of x, variable (fresh_for x s)) ∷ f) (after_draw s) e)
 bind-source false x f s below h u source e = more-bound f x (below f s).variables h u (source f s e)
 
-renaming-source : (c : List Name) (xs : List Variable) (f : Map) (s : Supply) (h : Symbol) (u : Term) → image (renaming c xs f s).map h ≡ Some u → Source f (renaming c xs f s).variables h u
+pub renaming-source : (c : List Name) (xs : List Variable) (f : Map) (s : Supply) (h : Symbol) (u : Term) → image (renaming c xs f s).map h ≡ Some u → Source f (renaming c xs f s).variables h u
 renaming-source c [] f s h u e = before e
 renaming-source c (x ∷ xs) f s h u e = bind-source (name_among c x.name) x f s (λ g t. renaming c xs g t) h u (λ g t k. renaming-source c xs g t h u k) e
 
 -- no image after renaming: none before, and if it was bound, it is bound still
-record NoImage (f : Map) (xs ys : List Variable) (g : Symbol) : Type 0 where
-  before : image f g ≡ None
-  still : is_among (map constant_of xs) g ≡ true → is_among (map constant_of ys) g ≡ true
+pub record NoImage (f : Map) (xs ys : List Variable) (g : Symbol) : Type 0 where
+  pub before : image f g ≡ None
+  pub still : is_among (map constant_of xs) g ≡ true → is_among (map constant_of ys) g ≡ true
 
 bind-none : (b : Bool) (c : List Name) (x : Variable) (xs : List Variable) (f : Map) (s : Supply) (g : Symbol) → ((k : Map) (t : Supply) → image (renaming c xs k t).map g ≡ None → NoImage k xs (renaming c xs k t).variables g) → image (bind b x f s (λ k t. renaming c xs k t)).map g ≡ None → NoImage f (x ∷ xs) (bind b x f s (λ k t. renaming c xs k t)).variables g
 bind-none true c x xs f s g below e =
@@ -75,13 +75,13 @@ bind-none false c x xs f s g below e =
     either_still true b d h k = refl
     either_still false b d h k = k h
 
-renaming-none : (c : List Name) (xs : List Variable) (f : Map) (s : Supply) (g : Symbol) → image (renaming c xs f s).map g ≡ None → NoImage f xs (renaming c xs f s).variables g
+pub renaming-none : (c : List Name) (xs : List Variable) (f : Map) (s : Supply) (g : Symbol) → image (renaming c xs f s).map g ≡ None → NoImage f xs (renaming c xs f s).variables g
 renaming-none c [] f s g e = record { before = e; still = λ among. among }
 renaming-none c (x ∷ xs) f s g e = bind-none (name_among c x.name) c x xs f s g (λ k t h. renaming-none c xs k t g h) e
 
 -- ---- what is left free
 
-IsLeft : Map → Term → Term → Type 0
+unfoldable pub IsLeft : Map → Term → Term → Type 0
 IsLeft f t r = (s : Sort) → sort_of t ≡ Some s → (g : Symbol) → is_among (free r) g ≡ true → LeftFree f (free t) g
 
 AreLeft : Map → Terms → Terms → Type 0
@@ -111,7 +111,7 @@ made-free : (h : Head) (ts : Terms) (g : Symbol) → is_among (free (made h ts))
 made-free (op Neg) (t ⨾ none) g among = minus-free t g among
 made-free h ts g among = among
 
-one-symbol : (k g : Symbol) → is_among (free (constant k)) g ≡ true → k ≡ g
+pub one-symbol : (k g : Symbol) → is_among (free (constant k)) g ≡ true → k ≡ g
 one-symbol k g among = go (either_true (symbol_eq k g) false among)
   where
     go : (symbol_eq k g ≡ true) ⊎ (false ≡ true) → k ≡ g
@@ -201,7 +201,7 @@ quantified-left f q xs body b c s left sort has g among =
 
 -- ---- maps of constants
 
-cut-constants : (fs : List Symbol) (f : Map) → ReplacesConstants f → ReplacesConstants (cut_to fs f)
+pub cut-constants : (fs : List Symbol) (f : Map) → ReplacesConstants f → ReplacesConstants (cut_to fs f)
 cut-constants fs f constants g u e = constants g u (cut-image fs f g u e).1
 
 front-constants : (x : Variable) (u : Term) (f : Map) → ReplacesConstants f → ReplacesConstants ((constant_of x, u) ∷ f)
@@ -215,13 +215,13 @@ bind-constants : (b : Bool) (x : Variable) (f : Map) (s : Supply) (below : Map �
 bind-constants true x f s below constants given = constants ((constant_of x, variable (fresh_for x s)) ∷ f) (after_draw s) (front-constants x (variable (fresh_for x s)) f given)
 bind-constants false x f s below constants given = constants f s given
 
-renaming-constants : (c : List Name) (xs : List Variable) (f : Map) (s : Supply) → ReplacesConstants f → ReplacesConstants (renaming c xs f s).map
+pub renaming-constants : (c : List Name) (xs : List Variable) (f : Map) (s : Supply) → ReplacesConstants f → ReplacesConstants (renaming c xs f s).map
 renaming-constants c [] f s given = given
 renaming-constants c (x ∷ xs) f s given = bind-constants (name_among c x.name) x f s (λ g t. renaming c xs g t) (λ g t h. renaming-constants c xs g t h) given
 
 -- ---- all terms, with what is kept
 
-AllLeft : List Chosen → Type 0
+unfoldable pub AllLeft : List Chosen → Type 0
 AllLeft [] = ⊤
 AllLeft (c ∷ cs) = IsLeft c.cut c.term c.result × AllLeft cs
 
@@ -243,9 +243,9 @@ uncut-left : (f : Map) (t r : Term) → IsLeft (cut_to (free t) f) t r → IsLef
 unfolding IsLeft
 uncut-left f t r left s has g among = left-uncut f (free t) g (left s has g among)
 
-record Leaves (f : Map) (t : Term) (r : Term × Choices) : Type 0 where
-  result : IsLeft f t r.0
-  kept : AllLeft r.1.chosen
+pub record Leaves (f : Map) (t : Term) (r : Term × Choices) : Type 0 where
+  pub result : IsLeft f t r.0
+  pub kept : AllLeft r.1.chosen
 
 record LeavesEach (f : Map) (ts : Terms) (r : Terms × Choices) : Type 0 where
   results : AreLeft f ts r.0
@@ -291,7 +291,7 @@ unfolding AreLeft
 nothing-left f ss has g among = absurd cc
 
 mutual
-  subst_from-leaves : (t : Term) (f : Map) (s : Choices) → ReplacesConstants f → AllLeft s.chosen → Leaves f t (subst_from f t s)
+  pub subst_from-leaves : (t : Term) (f : Map) (s : Choices) → ReplacesConstants f → AllLeft s.chosen → Leaves f t (subst_from f t s)
   subst_from-leaves (apply h ts) f s constants kept =
       let out : LeavesEach f ts (substs_from f ts s) = substs_from-leaves ts f s constants kept in
       record { result = rebuilt-left f h ts (substs_from f ts s).0 constants out.shape out.results; kept = out.kept }

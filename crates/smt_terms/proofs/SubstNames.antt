@@ -59,9 +59,9 @@ front-named s x y f never given g u found = go (symbol_eq (constant_of x) g) fou
 images-later : (s t : Supply) (f : Map) → Later s t → GivesNoNameIn s f → GivesNoNameIn t f
 images-later s t f later given g u found = spare-later s t (names_within u) later (given g u found)
 
-record RenamedSpared (r : Renamed) : Type 0 where
-  variables : GivesNone r.names (map (λ x. x.name) r.variables)
-  images : GivesNoNameIn r.names r.map
+pub record RenamedSpared (r : Renamed) : Type 0 where
+  pub variables : GivesNone r.names (map (λ x. x.name) r.variables)
+  pub images : GivesNoNameIn r.names r.map
 
 bind-spared : (b : Bool) (c : List Name) (x : Variable) (xs : List Variable) (f : Map) (s : Supply) → ((g : Map) (t : Supply) → GivesNone t (map (λ y. y.name) xs) → GivesNoNameIn t g → RenamedSpared (renaming c xs g t)) → GivesNone s (map (λ y. y.name) (x ∷ xs)) → GivesNoNameIn s f → RenamedSpared (bind b x f s (λ g t. renaming c xs g t))
 bind-spared true c x xs f s below names images =
@@ -80,7 +80,7 @@ bind-spared false c x xs f s below names images =
       images = rest.images;
     }
 
-renaming-named : (c : List Name) (xs : List Variable) (f : Map) (s : Supply) → GivesNone s (map (λ x. x.name) xs) → GivesNoNameIn s f → RenamedSpared (renaming c xs f s)
+pub renaming-named : (c : List Name) (xs : List Variable) (f : Map) (s : Supply) → GivesNone s (map (λ x. x.name) xs) → GivesNoNameIn s f → RenamedSpared (renaming c xs f s)
 renaming-named c [] f s names images = record { variables = names; images = images }
 renaming-named c (x ∷ xs) f s names images = bind-spared (name_among c x.name) c x xs f s (λ g t n i. renaming-named c xs g t n i) names images
 

@@ -32,7 +32,7 @@ gives-left s ms ns given n among = given n (name_among-append ms ns n ∙ left_t
 gives-right : (s : Supply) (ms ns : List Name) → GivesNone s (ms ++ ns) → GivesNone s ns
 gives-right s ms ns given n among = given n (name_among-append ms ns n ∙ right_true (name_among ms n) (name_among ns n) among)
 
-variables-spared : (s : Supply) (xs : List Variable) → GivesNone s (map (λ x. x.name) xs) → VariablesSpared s xs
+pub variables-spared : (s : Supply) (xs : List Variable) → GivesNone s (map (λ x. x.name) xs) → VariablesSpared s xs
 variables-spared s [] given = tt
 variables-spared s (x ∷ xs) given = (
   given x.name (left_true (name_eq x.name x.name) (name_among (map (λ y. y.name) xs) x.name) ((Decides-name_eq x.name x.name).1 refl)),
@@ -61,7 +61,7 @@ mutual
       ∙ or-else (is_among (free t) g) (is_among (free_of ts) g) (name_among (names_within t) g.name) (name_among (names_within_each ts) g.name)
       (sym (is_among-with_more (free t) (free_of ts) g) ∙ among) (free-named t g) (free-named-each ts g)
 
-symbols-spared : (s : Supply) (t : Term) → GivesNone s (names_within t) → SymbolsSpared s (free t)
+pub symbols-spared : (s : Supply) (t : Term) → GivesNone s (names_within t) → SymbolsSpared s (free t)
 symbols-spared s t given g among = given g.name (free-named t g among)
 
 -- ---- results that are kept
