@@ -1,5 +1,5 @@
 -- What the first reader and its rewriting rely on in a table of formulas.
-use Rattle.std.specs.Prelude.{◌≡◌, ◌<◌, ◌≤◌, Some, length}
+use Rattle.std.specs.Prelude.{◌≡◌, ℕ, ◌≤◌, ◌==◌, Bool, not, ◌&&◌, Some, length}
 use Rattle.smt_terms.specs.Rank.{sort_of}
 use Rattle.smt_terms.specs.Sorts.{bool}
 use Rattle.smt_terms.specs.declared.ids.NodeId.{NodeId}
@@ -24,6 +24,10 @@ abbrev pub IsMadeIn : Formulas → Command → Type 0
 IsMadeIn t (Declare s) = IsSymbol t s
 IsMadeIn t (Assert id) = IsFormula t id
 IsMadeIn t Check = Unit {0}
+
+-- a byte that may stand between bars
+abbrev pub is_writable_byte : ℕ → Bool
+is_writable_byte b = not (b == 124) && not (b == 92)
 
 -- the term that is still to be printed is in the table
 abbrev pub IsStepIn : Formulas → Step → Type 0

@@ -1,7 +1,8 @@
 //! Which names a script may declare (SMT-LIB 2.6, sections 3.1 and 3.9, and the declarations of the theories).
 
-ghost use Rattle.std.specs.Prelude.{◌≡◌, true};
-ghost use Rattle.smt_values.specs.SortIds.{IsPlain};
+ghost use Rattle.std.specs.Prelude.{◌≡◌, true, not};
+ghost use Rattle.smt_values.specs.SortIds.{IsPlain, is_plain};
+ghost use Rattle.smtrw.specs.Tables.{is_writable_byte};
 
 /// The words of the language that aren't symbols.
 const RESERVED_WORDS: [&[u8]; 13] = [
@@ -136,9 +137,20 @@ pub fn is_declarable(word: &[u8]) -> bool
 
 /// Whether a name can be written between bars.
 pub fn is_plain(name: &[u8]) -> bool
-    ensures { result ≡ true → IsPlain name.now }
+    ensures { result ≡ is_plain name.now }
 {
-    name.iter().all(|byte| *byte != b'|' && *byte != b'\\')
+    for byte in name {
+        if is_bar(*byte) {
+            return false;
+        }
+    }
+    true
+}
+
+fn is_bar(byte: u8) -> bool
+    ensures { not result ≡ is_writable_byte byte }
+{
+    byte == b'|' || byte == b'\\'
 }
 
 fn is_among(names: &[&[u8]], word: &[u8]) -> bool {

@@ -124,6 +124,7 @@ fn declaration(
 }
 
 /// Declares a name that isn't declared yet.
+#[tactic(auto, unfolding(term_table::specs::Formulas::kind))]
 fn declared(alloc: Global, table: &mut Table, name: &[u8]) -> Result<Command, Unread>
     requires { IsPlain name.now }
     ensures grows { Grows table.old table.new }
@@ -276,6 +277,7 @@ fn truth(alloc: Global, table: &mut Table, truth: bool) -> Result<NodeId, Unread
 }
 
 /// The constant of this name, where it was declared.
+#[tactic(auto, unfolding(term_table::specs::Formulas::kind))]
 fn found(table: &mut Table, name: &[u8]) -> Result<NodeId, Unread>
     requires { IsPlain name.now }
     ensures grows { Grows table.old table.new }
