@@ -25,6 +25,9 @@ masked w n le =
     let width : 128 - (128 - w) ≡ w = omega arith in
     ap (bit_and n) (ones_shr 128 (128 - w) place ∙ ap (λ k. 2 ^ k - 1) width) ∙ and_mask n w
 
+pub masked_below : (w n : ℕ) → w ≤ 128 → bit_and n (340282366920938463463374607431768211455 / 2 ^ (128 - w)) < 2 ^ w
+masked_below w n le = subst (λ k. k < 2 ^ w) (sym (masked w n le)) (mod_below n (2 ^ w) (pow_pos w))
+
 pub not_zero : (n : ℕ) → (n ≡ 0 → ⊥) → (n == 0) ≡ false
 not_zero zero h = absurd (h refl)
 not_zero (suc n) h = grind (arith, nat_tests)
