@@ -1,7 +1,7 @@
 -- The operators on words as they are computed, against their values on bits.
 use Rattle.std.proofs.Common.{◌≡◌, ℕ, zero, suc, ◌+◌, ◌-◌, ◌*◌, ◌/◌, ◌%◌, ◌^◌, ◌<◌, ◌≤◌, zero-add, Bool, true, false, cond, ◌==◌, [], ◌∷◌, length, refl, ap, sym, ◌∙◌, subst, arith, true≢false}
-use Rattle.std.specs.Prelude.{bit_and, bit_or, bit_xor, ℤ, pos, negsuc, ◌-ℤ◌, neg_ℤ, unsigned_abs, int_div, int_rem}
-use Rattle.std.specs.Int.{w128, cast_unsigned, cast_signed, int_rem_euclid, int_wrapping_div, IsNonZero, from_bool}
+use Rattle.std.specs.Prelude.{bit_and, bit_or, ℤ, pos, negsuc, ◌-ℤ◌, neg_ℤ, unsigned_abs, int_div}
+use Rattle.std.specs.Int.{w128, cast_unsigned, cast_signed, int_wrapping_div, IsNonZero, from_bool}
 use mir.Val.{SFits}
 use Rattle.std.proofs.lemmas.Int.{ints, of_z-to_z, to_z-of_z, to_z_pos}
 use Rattle.std.proofs.lemmas.Bool.Decides.{nat_tests, Decides-eqb}

@@ -1,4 +1,4 @@
-use Rattle.std.proofs.Common.{rules, ◌≡◌, ◌<◌, ◌^◌, not, ◌∙◌, ap, subst, sym, map}
+use Rattle.std.proofs.Common.{rules, ◌<◌, ◌^◌, not, ◌∙◌, ap, subst, sym, map}
 use Rattle.smt_terms.specs.Operators.{op_value, first_value, second_value, all_distinct, sum_of, product_of}
 use Rattle.smt_terms.specs.Values.{truth, whole, same, is_true, number}
 use Rattle.smt_values.specs.Meaning.{scalar_value, scalar_sort}
