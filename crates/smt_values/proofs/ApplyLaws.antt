@@ -1,6 +1,6 @@
 -- What an operator's rank says of scalars, and its value at them.
-use Rattle.std.proofs.Common.{◌≡◌, ℕ, zero, suc, ◌+◌, ◌-◌, ◌^◌, ◌<◌, ◌≤◌, Bool, true, false, cond, ◌||◌, List, [], ◌∷◌, map, Result, Ok, Err, Some, refl, ap, sym, ◌∙◌, subst, arith, true≢false, replicate, length, nat_lt, Option, None}
-use Rattle.std.specs.Prelude.{slice_get, IsOk, IsErr, IfOk, IfErr, IfSome, IfNone, IsTrue, ℤ, pos, negsuc, neg_ℤ, ◌-ℤ◌, unsigned_abs, All}
+use Rattle.std.proofs.Common.{◌≡◌, ℕ, zero, suc, ◌+◌, ◌^◌, ◌<◌, ◌≤◌, Bool, true, false, cond, ◌||◌, List, [], ◌∷◌, map, Result, Ok, Err, Some, refl, ap, sym, ◌∙◌, subst, arith, true≢false, replicate, length, nat_lt, Option, None}
+use Rattle.std.specs.Prelude.{slice_get, IsOk, IsErr, IfOk, IfErr, IfSome, IfNone, ℤ, pos, negsuc, neg_ℤ, ◌-ℤ◌, unsigned_abs, All}
 use Rattle.std.specs.Int.{w128, cast_signed, cast_unsigned}
 use Rattle.std.specs.List.{list_any}
 use Rattle.std.proofs.lemmas.Int.{to_z-of_z, fits_signed_from_abs}
@@ -12,7 +12,7 @@ use Rattle.std.proofs.Math.IntN.{+ℤ_idl}
 use mir.Val.{SFits}
 use Rattle.smt_terms.specs.declared.op.Op.{Op}
 use Rattle.smt_terms.specs.declared.op.Op.TheVariants.{Truth, Whole, Bits, Sym, Forall, Exists, ConstArray, Not, And, Or, Xor, Implies, Equal, Distinct, Ite, Neg, Sub, Add, Mul, Div, Mod, Abs, Le, Lt, Concat, Extract, BvNot, BvNeg, BvAnd, BvOr, BvXor, BvAdd, BvMul, BvSub, BvUdiv, BvUrem, BvSdiv, BvSrem, BvSmod, BvShl, BvLshr, BvAshr, BvComp, BvUlt, BvUle, BvSlt, BvSle, ZeroExt, SignExt, RotL, RotR, Select, Store}
-use Rattle.smt_terms.specs.Sorts.{Sort, bool, int, bit_vector, array}
+use Rattle.smt_terms.specs.Sorts.{Sort, bit_vector, array}
 use Rattle.smt_terms.specs.Term.{op}
 use Rattle.smt_terms.specs.BitVectors.{BitVector, nat2bv}
 use Rattle.smt_terms.specs.Values.{Value, truth, whole, bits, bits_of}

@@ -12,7 +12,7 @@ use Rattle.std.proofs.lemmas.Nat.{mul-le}
 use mir.Val.{SFits}
 use Rattle.smt_terms.proofs.Tests.{both_false}
 use Rattle.smt_values.specs.Operands.{is_zero}
-use Rattle.smt_terms.specs.Values.{Value, number}
+use Rattle.smt_terms.specs.Values.{number}
 use Rattle.smt_terms.specs.Operators.{sum_of, product_of}
 use Rattle.smt_values.specs.Meaning.{scalar_value}
 use Rattle.smt_values.specs.declared.scalar.Scalar.{Scalar}

@@ -1,6 +1,6 @@
 -- Operands by their places.
-use Rattle.std.proofs.Common.{◌≡◌, ℕ, zero, suc, ◌<◌, ◌≤◌, List, [], ◌∷◌, map, length, get_or, false, refl, ap, sym, ◌∙◌, arith}
-use Rattle.smt_terms.specs.Values.{Value, truth}
+use Rattle.std.proofs.Common.{◌≡◌, ℕ, zero, suc, ◌<◌, ◌≤◌, List, [], ◌∷◌, length, get_or, false, refl, ap, sym, arith}
+use Rattle.smt_terms.specs.Values.{truth}
 use Rattle.smt_terms.specs.Operators.{first_value}
 use Rattle.smt_values.specs.Meaning.{scalar_value}
 use Rattle.smt_values.specs.Operands.{operand, values_from}

@@ -1,7 +1,7 @@
 -- The operators on words as they are computed, against their values on bits.
 use Rattle.std.proofs.Common.{◌≡◌, ℕ, zero, suc, ◌+◌, ◌-◌, ◌*◌, ◌/◌, ◌%◌, ◌^◌, ◌<◌, ◌≤◌, zero-add, Bool, true, false, cond, ◌==◌, [], ◌∷◌, length, refl, ap, sym, ◌∙◌, subst, arith, true≢false}
-use Rattle.std.specs.Prelude.{bit_and, bit_or, bit_xor, ℤ, pos, negsuc, ◌-ℤ◌, neg_ℤ, unsigned_abs, int_div, int_rem}
-use Rattle.std.specs.Int.{w128, cast_unsigned, cast_signed, int_rem_euclid, int_wrapping_div, IsNonZero, from_bool}
+use Rattle.std.specs.Prelude.{bit_and, bit_or, ℤ, pos, negsuc, ◌-ℤ◌, neg_ℤ, unsigned_abs, int_div}
+use Rattle.std.specs.Int.{w128, cast_unsigned, cast_signed, int_wrapping_div, IsNonZero, from_bool}
 use mir.Val.{SFits}
 use Rattle.std.proofs.lemmas.Int.{ints, of_z-to_z, to_z-of_z, to_z_pos}
 use Rattle.std.proofs.lemmas.Bool.Decides.{nat_tests, Decides-eqb}
@@ -24,6 +24,9 @@ masked w n le =
     let place : 128 - w ≤ 128 = omega arith in
     let width : 128 - (128 - w) ≡ w = omega arith in
     ap (bit_and n) (ones_shr 128 (128 - w) place ∙ ap (λ k. 2 ^ k - 1) width) ∙ and_mask n w
+
+pub masked_below : (w n : ℕ) → w ≤ 128 → bit_and n (340282366920938463463374607431768211455 / 2 ^ (128 - w)) < 2 ^ w
+masked_below w n le = subst (λ k. k < 2 ^ w) (sym (masked w n le)) (mod_below n (2 ^ w) (pow_pos w))
 
 pub not_zero : (n : ℕ) → (n ≡ 0 → ⊥) → (n == 0) ≡ false
 not_zero zero h = absurd (h refl)

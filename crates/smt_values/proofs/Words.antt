@@ -1,13 +1,11 @@
 -- Operators on words, against their values on bits.
 use Rattle.std.proofs.Common.{◌≡◌, ℕ, zero, suc, ◌+◌, ◌-◌, ◌*◌, ◌/◌, ◌%◌, ◌^◌, ◌<◌, ◌≤◌, nat_lt, nat_le, Bool, true, false, cond, not, ◌&&◌, ◌||◌, ◌==◌, [], ◌∷◌, ◌++◌, length, take, drop, replicate, refl, ap, sym, ◌∙◌, subst, arith, min, true≢false}
 use Rattle.std.specs.Bool.{beq}
-use Rattle.std.specs.Prelude.{pos, ◌-ℤ◌, int_lt, int_le}
 use Rattle.std.proofs.Common.{length-drop}
-use Rattle.std.proofs.lemmas.Int.{ints}
 use Rattle.std.specs.Prelude.{bit_and, bit_or, bit_xor}
 use Rattle.std.proofs.Math.Nat.{pow-succ', mul-add-mod_self_right, div-eq_of_lt}
 use Rattle.std.proofs.lemmas.Nat.{pow_pos, mod-pow-add, mod_below, mod-mul-add, and_shr, or_shr, xor_shr, and_mod, or_mod, xor_mod, shr-shr, pow-add}
-use Rattle.std.proofs.lemmas.Bool.Decides.{nat_tests, Decides-eqb}
+use Rattle.std.proofs.lemmas.Bool.Decides.{Decides-eqb}
 use Rattle.smt_terms.specs.BitVectors.{BitVector, bv2nat, nat2bv, bvand, bvor, bvxor, bvnot, bvneg, bvsub, bvadd, bvmul, bvudiv, bvurem, zeros, ones, extract, zero_extend, sign_extend, sign, distance, bvshl, bvlshr, bvult, bvule, concat, rotate_left, rotate_right}
 use Rattle.smt_terms.proofs.BitLengths.{length-nat2bv}
 use Rattle.smt_values.proofs.Bits.{bv2nat-word, nat2bv-mod}
@@ -299,9 +297,6 @@ pub sign_extend-negative : (i : ℕ) (s : BitVector) → sign s ≡ true → bvn
 sign_extend-negative i s h =
     not_append (bvnot s) (zeros i) ∙ (λ j. not_not s j ++ (copies_not i ∙ ap (replicate i) (sym h)) j)
 
-pub sign_extend-positive : (i : ℕ) (s : BitVector) → sign s ≡ false → zero_extend i s ≡ sign_extend i s
-sign_extend-positive i s h = ap (λ b. s ++ replicate i b) (sym h)
-
 -- ---- rotations: a part of the word, and the other part behind it
 
 take_whole : (xs : BitVector) (k : ℕ) → length xs ≡ k → take k xs ≡ xs
@@ -328,17 +323,3 @@ rotate_right-parts i w s wide some lt =
     let top : take (w - 1 + 1 - i) (drop i s) ≡ drop i s = ap (λ k. take k (drop i s)) low ∙ take_whole (drop i s) (w - i) left in
     let rest : take (i - 1 + 1 - 0) s ≡ take i s = ap (λ k. take k s) high in
     λ j. top j ++ rest j
-
--- ---- signed comparisons
-
-lt_less : (m n p : ℕ) → int_lt (pos m -ℤ pos p) (pos n -ℤ pos p) ≡ nat_lt m n
-lt_less m n p = grind (arith, ints, nat_tests)
-
-le_less : (m n p : ℕ) → int_le (pos m -ℤ pos p) (pos n -ℤ pos p) ≡ nat_le m n
-le_less m n p = grind (arith, ints, nat_tests)
-
-lt_across : (m n p : ℕ) → m < p → int_lt (pos m -ℤ pos p) (pos n) ≡ true
-lt_across m n p h = grind (arith, ints, nat_tests)
-
-lt_back : (m n p : ℕ) → n < p → int_lt (pos m) (pos n -ℤ pos p) ≡ false
-lt_back m n p h = grind (arith, ints, nat_tests)

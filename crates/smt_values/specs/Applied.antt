@@ -1,5 +1,5 @@
 -- An operator at scalars: what it asks of them, and what it gives.
-use Rattle.std.specs.Prelude.{◌≡◌, ◌≢◌, ◌≤◌, ◌<◌, ◌^◌, ℕ, List, map, ℤ, pos, unsigned_abs, IsOk, IsFalse, Option, Some, None}
+use Rattle.std.specs.Prelude.{◌≡◌, ◌≢◌, ◌≤◌, ◌<◌, ◌^◌, List, map, ℤ, pos, unsigned_abs, IsOk, IsFalse, Option, Some, None}
 use Rattle.smt_terms.specs.declared.op.Op.{Op}
 use Rattle.smt_terms.specs.declared.op.Op.TheVariants.{Div, Mod}
 use Rattle.smt_terms.specs.Term.{op}

@@ -1,6 +1,6 @@
 //! Sorts and values as a program holds them: sorts that are numbers of a table, the sizes of declared sorts, scalars of at
-//! most 128 bits, and arrays as a default with pairs. Every answer is the one of the definitions over plain values. (What
-//! the operators of the theories give on scalars joins as the project grows.)
+//! most 128 bits with the operators of the theories on them, and arrays as a default with pairs. Every answer is the one of
+//! the definitions over plain values.
 
 #![tactic(auto)]
 

@@ -1,4 +1,4 @@
-use Rattle.std.proofs.Common.{rules, ◌≡◌, ◌<◌, ◌^◌, not, ◌∙◌, ap, subst, sym, map}
+use Rattle.std.proofs.Common.{rules, ◌<◌, ◌^◌, not, ◌∙◌, ap, subst, sym, map}
 use Rattle.smt_terms.specs.Operators.{op_value, first_value, second_value, all_distinct, sum_of, product_of}
 use Rattle.smt_terms.specs.Values.{truth, whole, same, is_true, number}
 use Rattle.smt_values.specs.Meaning.{scalar_value, scalar_sort}
@@ -22,31 +22,31 @@ chosen-requires-clause-three c =
 pub on_words-requires : goal.on_words-requires
 on_words-requires c =
     record {
-    words = words_left c.args.op c.args.args.now record {
-      is_truth = c.in_default.not-Truth;
-      is_whole = c.in_default.not-Whole;
-      is_bits = c.in_default.not-Bits;
-      is_not = c.in_default.not-Not;
-      is_and = c.in_default.not-And;
-      is_or = c.in_default.not-Or;
-      is_xor = c.in_default.not-Xor;
-      is_implies = c.in_default.not-Implies;
-      is_equal = c.in_default.not-Equal;
-      is_distinct = c.in_default.not-Distinct;
-      is_ite = c.in_default.not-Ite;
-      is_neg = c.in_default.not-Neg;
-      is_sub = c.in_default.not-Sub;
-      is_add = c.in_default.not-Add;
-      is_mul = c.in_default.not-Mul;
-      is_div = c.in_default.not-Div;
-      is_mod = c.in_default.not-Mod;
-      is_abs = c.in_default.not-Abs;
-      is_le = c.in_default.not-Le;
-      is_lt = c.in_default.not-Lt;
-    } c.requires.operands;
-    scalars = c.requires.scalars;
-    operands = c.requires.operands;
-  }
+      words = words_left c.args.op c.args.args.now record {
+        is_truth = c.in_default.not-Truth;
+        is_whole = c.in_default.not-Whole;
+        is_bits = c.in_default.not-Bits;
+        is_not = c.in_default.not-Not;
+        is_and = c.in_default.not-And;
+        is_or = c.in_default.not-Or;
+        is_xor = c.in_default.not-Xor;
+        is_implies = c.in_default.not-Implies;
+        is_equal = c.in_default.not-Equal;
+        is_distinct = c.in_default.not-Distinct;
+        is_ite = c.in_default.not-Ite;
+        is_neg = c.in_default.not-Neg;
+        is_sub = c.in_default.not-Sub;
+        is_add = c.in_default.not-Add;
+        is_mul = c.in_default.not-Mul;
+        is_div = c.in_default.not-Div;
+        is_mod = c.in_default.not-Mod;
+        is_abs = c.in_default.not-Abs;
+        is_le = c.in_default.not-Le;
+        is_lt = c.in_default.not-Lt;
+      } c.requires.operands;
+      scalars = c.requires.scalars;
+      operands = c.requires.operands;
+    }
 
 pub returns-in-Truth-clause-value : goal.returns-in-Truth-clause-value
 unfolding op_value

@@ -1,4 +1,4 @@
-use Rattle.std.proofs.Common.{◌∙◌, ap, map, subst, sym, refl, ◌≡◌}
+use Rattle.std.proofs.Common.{◌∙◌, ap, map, subst, ◌≡◌}
 use Rattle.std.proofs.Common.{◌+◌, ◌-◌}
 use Rattle.smt_terms.specs.Operators.{op_value}
 use Rattle.smt_terms.specs.Rank.{shape, extension, rotation}

@@ -6,7 +6,7 @@ use Rattle.smt_values.proofs.laws.same_is_an_equivalence.Goals as goal
 
 pub returns : goal.returns
 returns c = record {
-    reflexive = λ ss s sizes a. same-itself (sort_at ss s) sizes (meaning a);
-    symmetric = λ ss s sizes a b. same-back (sort_at ss s) sizes (meaning a) (meaning b);
-    transitive = λ ss s sizes a b d list id va vb vd. same-through (sort_at ss s) sizes (meaning a) (meaning b) (meaning d) (sort_is ss list s.0 id) va.valid vb.valid vd.valid;
-  }
+  reflexive = λ ss s sizes a. same-itself (sort_at ss s) sizes (meaning a);
+  symmetric = λ ss s sizes a b. same-back (sort_at ss s) sizes (meaning a) (meaning b);
+  transitive = λ ss s sizes a b d list id va vb vd. same-through (sort_at ss s) sizes (meaning a) (meaning b) (meaning d) (sort_is ss list s.0 id) va.valid vb.valid vd.valid;
+}

@@ -6,6 +6,6 @@ use Rattle.smt_values.proofs.laws.stored_values_are_read.Goals as goal
 
 pub returns : goal.returns
 returns c = record {
-    stored = λ i sizes a k v j plain h. value_at-put (same i sizes) (same_scalar i sizes plain) k v j (pairs_of a) (default_of a) ∙ ap (λ b. cond b v (select i sizes a j)) h;
-    others = λ i sizes a k v j plain h. value_at-put (same i sizes) (same_scalar i sizes plain) k v j (pairs_of a) (default_of a) ∙ ap (λ b. cond b v (select i sizes a j)) h;
-  }
+  stored = λ i sizes a k v j plain h. value_at-put (same i sizes) (same_scalar i sizes plain) k v j (pairs_of a) (default_of a) ∙ ap (λ b. cond b v (select i sizes a j)) h;
+  others = λ i sizes a k v j plain h. value_at-put (same i sizes) (same_scalar i sizes plain) k v j (pairs_of a) (default_of a) ∙ ap (λ b. cond b v (select i sizes a j)) h;
+}

@@ -1,6 +1,5 @@
-use Rattle.std.proofs.Common.{rules, ◌≡◌, ◌∙◌, ap, sym, map}
-use Rattle.std.specs.Prelude.{pos}
-use Rattle.std.specs.Int.{w128, cast_signed, cast_unsigned, int_rem_euclid}
+use Rattle.std.proofs.Common.{rules, ◌∙◌, sym}
+use Rattle.std.specs.Int.{w128, int_rem_euclid}
 use Rattle.std.proofs.lemmas.Int.{to_z-of_z}
 use mir.Val.{SFits}
 use Rattle.smt_values.proofs.IntegerLaws.{some_number}

@@ -1,12 +1,12 @@
-use Rattle.std.proofs.Common.{rules, arith, ap, subst, sym, ◌∙◌, ◌+◌, ◌^◌, ◌<◌, lit<, drop, map}
-use Rattle.std.specs.Prelude.{pos, ◌*ℤ◌, unsigned_abs}
+use Rattle.std.proofs.Common.{rules, ap, subst, sym, ◌∙◌, ◌+◌, ◌^◌, ◌<◌, lit<, drop, map}
+use Rattle.std.specs.Prelude.{◌*ℤ◌, unsigned_abs}
 use Rattle.std.specs.Int.{w128, cast_signed, cast_unsigned}
 use Rattle.std.proofs.lemmas.Int.{to_z-of_z}
 use mir.Val.{SFits}
 use Rattle.smt_terms.specs.Operators.{product_of}
 use Rattle.smt_values.specs.Applied.{IsWithin}
 use Rattle.smt_values.specs.Meaning.{scalar_value}
-use Rattle.smt_values.proofs.IntegerLaws.{number_at, product_of-drop, product_step, product_zero, product_some, none_later, product_out}
+use Rattle.smt_values.proofs.IntegerLaws.{product_of-drop, product_step, product_zero, product_some, none_later, product_out}
 use Rattle.smt_values.proofs.apply.integers.product.Goals as goal
 
 pub returns-then-has_zero : goal.returns-then-has_zero

@@ -1,6 +1,5 @@
-use Rattle.std.proofs.Common.{rules, ◌≡◌, ◌∙◌, ◌+◌, ◌-◌, ◌&&◌, ap, sym, not, false, true, take, drop, length, get_or, map, drop-cons, add-one}
+use Rattle.std.proofs.Common.{◌≡◌, ◌∙◌, ◌+◌, ◌&&◌, ap, sym, not, false, drop, get_or, map}
 use Rattle.std.specs.List.{list_any}
-use Rattle.std.proofs.lemmas.List.{take_all}
 use Rattle.smt_terms.specs.Values.{same}
 use Rattle.smt_terms.specs.Operators.{all_distinct}
 use Rattle.smt_values.specs.Meaning.{scalar_value}

@@ -1,4 +1,3 @@
-use Rattle.std.proofs.Common.{◌∙◌}
 use Rattle.smt_values.proofs.Alike.{equal_first}
 use Rattle.smt_values.proofs.apply.logic.equal.Goals as goal
 

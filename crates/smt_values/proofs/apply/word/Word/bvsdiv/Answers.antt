@@ -1,10 +1,9 @@
-use Rattle.std.proofs.Common.{rules, sym, ap, ◌≡◌, cond, ◌∙◌, ◌==◌, length}
+use Rattle.std.proofs.Common.{rules, sym, ap, ◌≡◌, cond, ◌∙◌, length}
 use mir.Val.{SFits}
 use Rattle.std.specs.Int.{w128}
-use Rattle.std.specs.Prelude.{int_div, int_rem}
-use Rattle.smt_terms.specs.BitVectors as vectors
-use Rattle.smt_terms.specs.BitVectors.{nat2bv, bv2int, bv2nat, int2bv, sign, ones}
-use Rattle.smt_values.proofs.WordLaws.{at_width, not_signed_zero, quotient_word, zero_divisor, some_divisor, sdiv_zero}
+use Rattle.std.specs.Prelude.{int_div}
+use Rattle.smt_terms.specs.BitVectors.{nat2bv, bv2int, int2bv, sign, ones}
+use Rattle.smt_values.proofs.WordLaws.{at_width, not_signed_zero, quotient_word, some_divisor, sdiv_zero}
 use Rattle.smt_values.proofs.apply.word.Word.bvsdiv.Goals as goal
 use Rattle.smt_values.proofs.apply.word.Word.bvsdiv.Goals.{then-sign, else-sign}
 

@@ -1,12 +1,11 @@
-use Rattle.std.proofs.Common.{◌≡◌, ◌∙◌, ap, subst, sym, ◌<◌, ◌^◌, ◌%◌}
-use Rattle.smt_values.proofs.WordLaws.{masked}
-use Rattle.std.proofs.lemmas.Nat.{mod_below, pow_pos}
+use Rattle.std.proofs.Common.{◌∙◌, ap}
+use Rattle.smt_values.proofs.WordLaws.{masked, masked_below}
 use Rattle.smt_terms.specs.BitVectors.{nat2bv}
 use Rattle.smt_values.proofs.Bits.{nat2bv-mod}
 use Rattle.smt_values.proofs.apply.word.Word.new.Goals as goal
 
 pub invariant_of-result : goal.invariant_of-result
-invariant_of-result c = record { some = c.requires.some; narrow = c.requires.narrow; below = subst (λ k. k < 2 ^ c.args.width) (sym (masked c.args.width c.args.bits c.requires.narrow)) (mod_below c.args.bits (2 ^ c.args.width) (pow_pos c.args.width)) }
+invariant_of-result c = record { some = c.requires.some; narrow = c.requires.narrow; below = masked_below c.args.width c.args.bits c.requires.narrow }
 
 pub returns-clause-bits : goal.returns-clause-bits
 returns-clause-bits c = masked c.args.width c.args.bits c.requires.narrow
