@@ -93,7 +93,7 @@ module _ (old : Formulas) (o : Op) (turned : Bool) (first : NodeId) (rest : List
     next_takes = record {
       sort = x.sort;
       operands = All-cons (λ n. IsOfSort new n x.sort) left (get_or rest k d ∷ []) (sorted-extends old new f.extends left x.sort (f.before x))
-        (All-cons (λ n. IsOfSort new n x.sort) (get_or rest k d) [] (sorted-extends old new f.extends (get_or rest k d) x.sort (right_sorted x)) (All-nil (λ n. IsOfSort new n x.sort)));
+          (All-cons (λ n. IsOfSort new n x.sort) (get_or rest k d) [] (sorted-extends old new f.extends (get_or rest k d) x.sort (right_sorted x)) (All-nil (λ n. IsOfSort new n x.sort)));
       result = x.result;
       ranked = x.ranked;
     }
@@ -120,11 +120,11 @@ module _ (old : Formulas) (o : Op) (turned : Bool) (first : NodeId) (rest : List
           before = right_sorted;
           truths = All-push (λ m. IsOfSort newer m bool) links n (All-weaker (λ m. IsOfSort new m bool) (λ m. IsOfSort newer m bool) (λ m is. sorted-extends new newer e m bool is) links f.truths) (link_sorted newer n turned node term);
           terms =
-            ap (λ ts. ts ++ neighbours (linked turned o) (tree old (get_or rest k d)) (drop (k + 1) (trees_at old rest))) (map-append (tree_in newer.trees) links (n ∷ []))
-            ∙ append_assoc (trees_at newer links) (tree newer n ∷ []) (neighbours (linked turned o) (tree old (get_or rest k d)) (drop (k + 1) (trees_at old rest)))
-            ∙ (λ i. kept i ++ made i ∷ neighbours (linked turned o) (kid_tree i) (drop (sym next i) (trees_at old rest)))
-            ∙ ap (λ ts. trees_at new links ++ neighbours (linked turned o) (tree old left) ts) (sym (drop-cons (trees_at old rest) k no_tree within))
-            ∙ f.terms;
+              ap (λ ts. ts ++ neighbours (linked turned o) (tree old (get_or rest k d)) (drop (k + 1) (trees_at old rest))) (map-append (tree_in newer.trees) links (n ∷ []))
+              ∙ append_assoc (trees_at newer links) (tree newer n ∷ []) (neighbours (linked turned o) (tree old (get_or rest k d)) (drop (k + 1) (trees_at old rest)))
+              ∙ (λ i. kept i ++ made i ∷ neighbours (linked turned o) (kid_tree i) (drop (sym next i) (trees_at old rest)))
+              ∙ ap (λ ts. trees_at new links ++ neighbours (linked turned o) (tree old left) ts) (sym (drop-cons (trees_at old rest) k no_tree within))
+              ∙ f.terms;
         }
 
   pub links_done : (new : Formulas) (links : List NodeId) (left : NodeId) (k : ℕ) → length rest ≤ k → k ≤ length rest → Links old new o turned first rest links left k → trees_at new links ≡ neighbours (linked turned o) (tree old first) (trees_at old rest)

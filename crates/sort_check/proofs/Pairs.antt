@@ -115,7 +115,7 @@ module _ (o : Op) (a b : Sort) (pair : is_pair (shape o) ≡ true) (narrow : nat
       let parts = accepted-ok (misfit 0 view.first a) (misfit 1 (only view.other) b) view.result s (sym ranked_both ∙ is) in
       let same : a ≡ view.other = view.fits parts.0 in (
         view.all b rest ∙ ap (λ m. before m (before (misfit 1 (only view.other) b) (unlike view.other 2 rest))) parts.0
-        ∙ ap (λ m. before m (unlike view.other 2 rest)) parts.1 ∙ ap (λ q. unlike q 2 rest) (sym same),
+            ∙ ap (λ m. before m (unlike view.other 2 rest)) parts.1 ∙ ap (λ q. unlike q 2 rest) (sym same),
         only_like view.other 1 b parts.1 ∙ sym same,
       )
 
@@ -178,7 +178,7 @@ module _ (t : Formulas) (o : Op) (pair : is_pair (shape o) ≡ true) (table : Is
         takes = λ none. record {
           sort = s;
           operands = all_of_sort t table s (k ∷ l ∷ rest) nodes
-          (All-cons (λ u. u ≡ s) (node_sort t k) (kid_sorts t (l ∷ rest)) at (All-cons (λ u. u ≡ s) (node_sort t l) (kid_sorts t rest) second (none_unlike s 2 (kid_sorts t rest) none)));
+              (All-cons (λ u. u ≡ s) (node_sort t k) (kid_sorts t (l ∷ rest)) at (All-cons (λ u. u ≡ s) (node_sort t l) (kid_sorts t rest) second (none_unlike s 2 (kid_sorts t rest) none)));
           result = r;
           ranked = (λ i. rank_pair o (sym at i) (sym second i)) ∙ ranked;
         };

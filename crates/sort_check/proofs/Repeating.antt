@@ -140,12 +140,12 @@ module _ (old new : Formulas) (kid all : NodeId) (more k : ℕ) (x : Repeats old
   copied_next newer n e node term = record {
     extends = extends-trans old new newer f.extends e;
     sorted = λ y.
-      let kid_is = sorted-extends old new f.extends kid (bit_vector y.width) y.vector in
-      let wide : y.width + (k + 1) * y.width ≡ (k + 1 + 1) * y.width = omega arith in
-      subst (λ w. IsOfSort newer n (bit_vector w)) wide (record {
-        node = node;
-        sort = ap sort_of term ∙ pair_sort Concat (tree new kid) (tree new all) (bit_vector y.width) (bit_vector ((k + 1) * y.width)) (bit_vector (y.width + (k + 1) * y.width)) kid_is.sort (f.sorted y).sort (joined y);
-      });
+        let kid_is = sorted-extends old new f.extends kid (bit_vector y.width) y.vector in
+        let wide : y.width + (k + 1) * y.width ≡ (k + 1 + 1) * y.width = omega arith in
+        subst (λ w. IsOfSort newer n (bit_vector w)) wide (record {
+          node = node;
+          sort = ap sort_of term ∙ pair_sort Concat (tree new kid) (tree new all) (bit_vector y.width) (bit_vector ((k + 1) * y.width)) (bit_vector (y.width + (k + 1) * y.width)) kid_is.sort (f.sorted y).sort (joined y);
+        });
     term = term ∙ (λ i. apply_to_both term_algebra Concat (tree-extends old new f.extends kid x.vector.node i) (f.term i)) ∙ (let next : suc k ≡ k + 1 = omega arith in ap (λ j. copies term_algebra j (tree old kid)) next);
   }
 
@@ -205,6 +205,7 @@ repeated_from o w is sort = let parts = both_true (nat_le 1 w) (nat_le w most_bi
     least : (w : ℕ) → nat_le 1 w ≡ true → 0 < w
     least zero e = absurd cc
     least (suc w) e = omega arith
+
     narrow : (w : ℕ) → nat_le w most_bits ≡ true → w ≤ 128
     narrow w e = elim (leb_tells w 128) [ inl f ↦ f.1 | inr f ↦ absurd (let no : true ≡ false = sym e ∙ f.0 in cc) ]
 

@@ -99,23 +99,24 @@ module _ (high low w h l : ℕ) (his : h ≡ min high w) (lis : l ≡ min low w)
   cut =
       elim (leb_tells (suc high) w) [
         | inl e ↦
-          let in_high : high < w = e.1 in
-          let same_high : h ≡ high = omega arith in
-          elim (leb_tells low high) [
-            | inl f ↦ let ordered : low ≤ high = f.1 in let same_low : l ≡ low = omega arith in
-              (λ i. accepted None (nat_lt (same_high i) w && nat_le (same_low i) (same_high i)) (bit_vector (same_high i - same_low i + 1)))
-            | inr f ↦ let above : high < low = f.1 in let above_held : h < l = omega arith in
-              none_of (nat_lt h w) (nat_le l h) (bit_vector (h - l + 1)) (gt_false l h above_held) ∙ sym (none_of (nat_lt high w) (nat_le low high) (bit_vector (high - low + 1)) f.0)
-          ]
+            let in_high : high < w = e.1 in
+            let same_high : h ≡ high = omega arith in
+            elim (leb_tells low high) [
+              | inl f ↦ let ordered : low ≤ high = f.1 in let same_low : l ≡ low = omega arith in
+                  (λ i. accepted None (nat_lt (same_high i) w && nat_le (same_low i) (same_high i)) (bit_vector (same_high i - same_low i + 1)))
+              | inr f ↦ let above : high < low = f.1 in let above_held : h < l = omega arith in
+                  none_of (nat_lt h w) (nat_le l h) (bit_vector (h - l + 1)) (gt_false l h above_held) ∙ sym (none_of (nat_lt high w) (nat_le low high) (bit_vector (high - low + 1)) f.0)
+            ]
         | inr e ↦
-          let out : w ≤ high = let lt : w < suc high = e.1 in omega arith in
-          let out_held : w ≤ h = omega arith in
-          first_of_two (nat_lt h w) (nat_le l h) (bit_vector (h - l + 1)) (gt_false (suc h) w (omega arith)) ∙ sym (first_of_two (nat_lt high w) (nat_le low high) (bit_vector (high - low + 1)) e.0)
+            let out : w ≤ high = let lt : w < suc high = e.1 in omega arith in
+            let out_held : w ≤ h = omega arith in
+            first_of_two (nat_lt h w) (nat_le l h) (bit_vector (h - l + 1)) (gt_false (suc h) w (omega arith)) ∙ sym (first_of_two (nat_lt high w) (nat_le low high) (bit_vector (high - low + 1)) e.0)
       ]
     where
       none_of : (a b : Bool) (s : Sort) → b ≡ false → accepted None (a && b) s ≡ Err bad_index
       none_of true b s e = ap (λ c. accepted None c s) e
       none_of false b s e = refl
+
       first_of_two : (a b : Bool) (s : Sort) → a ≡ false → accepted None (a && b) s ≡ Err bad_index
       first_of_two a b s e = ap (λ c. accepted None (c && b) s) e
 
@@ -127,10 +128,10 @@ module _ (high low w h l : ℕ) (his : h ≡ min high w) (lis : l ≡ min low w)
   in_place ok =
       elim (leb_tells (suc high) w) [
         | inl e ↦ let in_high : high < w = e.1 in
-          elim (leb_tells low high) [
-            | inl f ↦ let ordered : low ≤ high = f.1 in (omega arith, omega arith)
-            | inr f ↦ absurd (refuse (nat_lt high w) (nat_le low high) (bit_vector (high - low + 1)) ok f.0)
-          ]
+            elim (leb_tells low high) [
+              | inl f ↦ let ordered : low ≤ high = f.1 in (omega arith, omega arith)
+              | inr f ↦ absurd (refuse (nat_lt high w) (nat_le low high) (bit_vector (high - low + 1)) ok f.0)
+            ]
         | inr e ↦ absurd (refuse_first (nat_lt high w) (nat_le low high) (bit_vector (high - low + 1)) ok e.0)
       ]
     where
@@ -138,6 +139,7 @@ module _ (high low w h l : ℕ) (his : h ≡ min high w) (lis : l ≡ min low w)
       refuse true false s h e = absurd cc
       refuse false false s h e = absurd cc
       refuse a true s h e = absurd cc
+
       refuse_first : (a b : Bool) (s : Sort) → IsOk (accepted None (a && b) s) → a ≡ false → ⊥
       refuse_first true b s h e = absurd cc
       refuse_first false b s h e = absurd cc
@@ -149,10 +151,10 @@ module _ (high low w h l : ℕ) (t : Formulas) (ks : List NodeId) (of : length k
       let ss = kid_sorts t ks in
       elim (eqb_tells (length ss) 1) [
         | inl e ↦
-          let is : w ≡ width (operand 0 ss) = of (sym (length-kid_sorts t ks) ∙ e.1) in
-          ap (λ r. cond (length ss == 1) r (Err wrong_arity)) (cut_at high low (width (operand 0 ss)) h l (his ∙ ap (min high) is) (lis ∙ ap (min low) is) (first_misfit 0 (any_width ∷ []) ss))
+            let is : w ≡ width (operand 0 ss) = of (sym (length-kid_sorts t ks) ∙ e.1) in
+            ap (λ r. cond (length ss == 1) r (Err wrong_arity)) (cut_at high low (width (operand 0 ss)) h l (his ∙ ap (min high) is) (lis ∙ ap (min low) is) (first_misfit 0 (any_width ∷ []) ss))
         | inr e ↦ ap (λ b. cond b (accepted (first_misfit 0 (any_width ∷ []) ss) (nat_lt h (width (operand 0 ss)) && nat_le l h) (bit_vector (h - l + 1))) (Err wrong_arity)) e.0
-          ∙ sym (ap (λ b. cond b (accepted (first_misfit 0 (any_width ∷ []) ss) (nat_lt high (width (operand 0 ss)) && nat_le low high) (bit_vector (high - low + 1))) (Err wrong_arity)) e.0)
+            ∙ sym (ap (λ b. cond b (accepted (first_misfit 0 (any_width ∷ []) ss) (nat_lt high (width (operand 0 ss)) && nat_le low high) (bit_vector (high - low + 1))) (Err wrong_arity)) e.0)
       ]
 
   pub extract_term : IsOk (written_rank (plain (Extract high low)) (kid_sorts t ks)) → made_over t (Extract h l) (trees_at t ks) ≡ build term_algebra (plain (Extract high low)) (trees_at t ks)
