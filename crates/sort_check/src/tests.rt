@@ -246,36 +246,52 @@ fn node_of(made: Option<Result<NodeId, MakeFault>>) -> NodeId {
     }
 }
 
-#[test]
-fn makes_what_a_written_operator_stands_for(rt: HostRuntime) -> Result<(), Fail> {
-    let alloc = rt.alloc();
+// The place of the first line that isn't made as it is wanted.
+fn first_unmade(
+    alloc: Global,
+    lines: &[(&[u8], &[u128], &[usize], Op, &[usize])],
+) -> Result<Option<usize>, Fail> {
     let mut table = Table::new(alloc);
     let mut nodes = leaves(alloc, &mut table)?;
-    for (name, indices, places, op, wanted) in MADE {
-        let kids = at_places(alloc, &nodes, places)?;
-        let made = formed(alloc, &mut table, name, indices, &kids);
-        let want = at_places(alloc, &nodes, wanted)?;
-        assert!(rt; is_made(&table, made, op, &want), "{name:?} {places:?}");
+    for (place, line) in lines.iter().enumerate() {
+        let kids = at_places(alloc, &nodes, line.2)?;
+        let made = formed(alloc, &mut table, line.0, line.1, &kids);
+        let want = at_places(alloc, &nodes, line.4)?;
+        if !is_made(&table, made, line.3, &want) {
+            return Ok(Some(place));
+        }
         nodes.push(node_of(made))?;
     }
+    Ok(None)
+}
+
+// The place of the first line that isn't refused with its fault, or that leaves a node.
+fn first_unrefused(
+    alloc: Global,
+    lines: &[(&[u8], &[u128], &[usize], RankFault)],
+) -> Result<Option<usize>, Fail> {
+    let mut table = Table::new(alloc);
+    let nodes = leaves(alloc, &mut table)?;
+    let before = table.len();
+    for (place, line) in lines.iter().enumerate() {
+        let kids = at_places(alloc, &nodes, line.2)?;
+        let made = formed(alloc, &mut table, line.0, line.1, &kids);
+        if made != Some(Err(MakeFault::Rank(line.3))) || table.len() != before {
+            return Ok(Some(place));
+        }
+    }
+    Ok(None)
+}
+
+#[test]
+fn makes_what_a_written_operator_stands_for(rt: HostRuntime) -> Result<(), Fail> {
+    assert_eq!(rt; first_unmade(rt.alloc(), &MADE)?, None);
     Ok(())
 }
 
 #[test]
 fn refuses_with_the_first_fault(rt: HostRuntime) -> Result<(), Fail> {
-    let alloc = rt.alloc();
-    let mut table = Table::new(alloc);
-    let nodes = leaves(alloc, &mut table)?;
-    for (name, indices, places, fault) in REFUSED {
-        let kids = at_places(alloc, &nodes, places)?;
-        let made = formed(alloc, &mut table, name, indices, &kids);
-        assert_eq!(rt;
-            made,
-            Some(Err(MakeFault::Rank(fault))),
-            "{name:?} {places:?}"
-        );
-    }
-    assert_eq!(rt; table.len(), 9);
+    assert_eq!(rt; first_unrefused(rt.alloc(), &REFUSED)?, None);
     Ok(())
 }
 
