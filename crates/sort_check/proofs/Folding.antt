@@ -1,20 +1,20 @@
 -- Folds over the operands, from the left and from the right.
-use Rattle.std.proofs.Common.{◌≡◌, true, ℕ, zero, suc, ◌+◌, ◌-◌, ◌<◌, ◌≤◌, List, [], ◌∷◌, map, length, take, drop, get_or, All, Some, Ok, IsOk, refl, ap, sym, ◌∙◌, subst, arith}
+use Rattle.std.proofs.Common.{◌≡◌, true, ℕ, suc, ◌+◌, ◌-◌, ◌<◌, ◌≤◌, List, [], ◌∷◌, length, take, drop, get_or, Some, Ok, IsOk, refl, ap, sym, ◌∙◌, subst, arith}
 use Rattle.std.proofs.Math.Seq.{drop-cons, drop-length}
 use Rattle.std.proofs.lemmas.List.{get_or-map, length-map, length-drop, take_rest}
-use Rattle.std.proofs.lemmas.List.Elements.{All-head, All-tail, All-get_or, All-weaker}
+use Rattle.std.proofs.lemmas.List.Elements.{All-head, All-get_or}
 use Rattle.smt_terms.specs.declared.ids.NodeId.{NodeId}
 use Rattle.smt_terms.specs.declared.op.Op.{Op}
 use Rattle.smt_terms.specs.Rank.{shape, sort_of}
 use Rattle.smt_terms.specs.Sorts.{Sort}
 use Rattle.smt_terms.specs.Term.{Term}
 use Rattle.smt_terms.specs.Written.{left_associative, right_associative, build, apply_to_both, from_left, from_right, associated}
-use Rattle.term_table.specs.Formulas.{Formulas, no_tree, tree, tree_in, trees_at, IsNode, AreNodes, sort_or_bool}
+use Rattle.term_table.specs.Formulas.{Formulas, no_tree, tree, tree_in, trees_at, IsNode, sort_or_bool}
 use Rattle.sort_check.specs.Forms.{is_fold}
 use Rattle.sort_check.specs.Making.{term_algebra, Extends}
 use Rattle.sort_check.specs.Operands.{rank_pair, node_sort, IsOfSort, TakesEach}
 use Rattle.sort_check.proofs.Answering.{fold_result}
-use Rattle.sort_check.proofs.Growing.{extends-refl, extends-trans, tree-extends, node-extends, sorted-extends}
+use Rattle.sort_check.proofs.Growing.{extends-refl, extends-trans, tree-extends, sorted-extends}
 use Rattle.sort_check.proofs.Nodes.{pair_sort}
 
 -- two nodes of one sort, which the operator takes

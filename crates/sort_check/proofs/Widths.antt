@@ -1,20 +1,18 @@
 -- Operators over bit vectors whose indices are clamped or reduced.
-use Rattle.std.proofs.Common.{◌≡◌, ℕ, zero, suc, ◌+◌, ◌-◌, ◌*◌, ◌%◌, ◌^◌, ◌<◌, ◌≤◌, Bool, true, false, ◌&&◌, cond, ◌==◌, nat_lt, nat_le, min, ◌⊎◌, inl, inr, List, [], ◌∷◌, map, length, get_or, Option, Some, None, Result, Ok, Err, IsOk, refl, ap, sym, ◌∙◌, subst, arith}
+use Rattle.std.proofs.Common.{◌≡◌, ℕ, zero, suc, ◌+◌, ◌-◌, ◌%◌, ◌^◌, ◌<◌, ◌≤◌, Bool, true, false, ◌&&◌, cond, ◌==◌, nat_lt, nat_le, min, inl, inr, List, [], ◌∷◌, length, Option, Some, None, Result, Ok, Err, IsOk, refl, ap, sym, ◌∙◌, subst, arith}
 use Rattle.std.specs.Prelude.{unwrap_or}
 use Rattle.std.proofs.lemmas.Bool.Decides.{leb_tells, eqb_tells, Decides-eqb}
 use Rattle.smt_terms.specs.declared.ids.NodeId.{NodeId}
-use Rattle.smt_terms.specs.declared.op.Op.{Op}
 use Rattle.smt_terms.specs.declared.op.Op.TheVariants.{Extract, ZeroExt, SignExt, RotL, RotR}
 use Rattle.smt_terms.specs.Rank.{Fault, wrong_arity, width_limit, bad_index, any_width, misfit, before, first_misfit, accepted, most_bits, width, operand, rank, shape, sort_of, is_sort}
-use Rattle.smt_terms.specs.Sorts.{Sort, bool, int, bit_vector, array, free_sort}
-use Rattle.smt_terms.specs.Term.{op, Term, apply, terms, none, ◌⨾◌}
-use Rattle.smt_terms.specs.Written.{Written, plain, left_rotation, right_rotation, written_rank, written_arity, written_places, written_in_range, written_result, build}
-use Rattle.smt_terms.proofs.Ranked.{le_true, lt_true}
-use Rattle.smt_terms.proofs.Tests.{both_true}
-use Rattle.term_table.specs.Formulas.{Formulas, tree, trees_at, rank_over, sort_or_bool, sorts_in, kind, IsNode, AreNodes}
+use Rattle.smt_terms.specs.Sorts.{Sort, bool, bit_vector}
+use Rattle.smt_terms.specs.Term.{op, apply, terms, none, ◌⨾◌}
+use Rattle.smt_terms.specs.Written.{plain, left_rotation, right_rotation, written_rank, written_arity, written_places, written_in_range, written_result, build}
+use Rattle.smt_terms.proofs.Ranked.{lt_true}
+use Rattle.term_table.specs.Formulas.{Formulas, tree, trees_at, rank_over, sort_or_bool, kind}
 use Rattle.term_table.specs.ShapeRank.{kid_sorts}
 use Rattle.term_table.proofs.Ranks.{length-kid_sorts}
-use Rattle.sort_check.specs.Making.{made_over, term_algebra, term_width}
+use Rattle.sort_check.specs.Making.{made_over, term_algebra}
 
 -- ---- how many operands
 

@@ -300,8 +300,8 @@ fn takes_many_operands(rt: HostRuntime) -> Result<(), Fail> {
     let alloc = rt.alloc();
     let mut table = Table::new(alloc);
     let mut kids = Vec::new(alloc);
-    for n in 0..20_000 {
-        kids.push(leaf(alloc, &mut table, Op::Whole(n)))?;
+    for n in 0..20_000u32 {
+        kids.push(leaf(alloc, &mut table, Op::Whole(n as i128)))?;
     }
     let sum = formed(alloc, &mut table, b"+", &[], &kids);
     assert!(rt; is_made(&table, sum, Op::Add, &kids));
