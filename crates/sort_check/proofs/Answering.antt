@@ -1,12 +1,12 @@
 -- The three kinds of answer, and the rank of operands that are alike.
-use Rattle.std.proofs.Common.{◌≡◌, ℕ, ◌<◌, ◌≤◌, Bool, true, false, cond, ◌&&◌, nat_le, List, [], ◌∷◌, length, get_or, All, Option, Some, None, Result, Ok, Err, IsOk, refl, ap, sym, ◌∙◌, subst, arith}
+use Rattle.std.proofs.Common.{◌≡◌, ◌<◌, ◌≤◌, Bool, true, false, cond, ◌&&◌, nat_le, List, [], ◌∷◌, length, get_or, All, Option, Some, None, Result, Ok, Err, IsOk, refl, ap, sym, ◌∙◌, subst, arith}
 use Rattle.smt_terms.specs.declared.ids.NodeId.{NodeId}
 use Rattle.smt_terms.specs.declared.op.Op.{Op}
 use Rattle.smt_terms.specs.Equal.{sort_eq}
-use Rattle.smt_terms.specs.Rank.{Fault, wrong_arity, width_limit, Shape, fixed, bitwise_pair, first_misfit, accepted, most_bits, width, result_of, rank, shape}
+use Rattle.smt_terms.specs.Rank.{Fault, wrong_arity, width_limit, Shape, fixed, bitwise_pair, first_misfit, accepted, most_bits, width, result_of, shape}
 use Rattle.smt_terms.specs.Sorts.{Sort, bool, bit_vector}
 use Rattle.smt_terms.specs.Takes.{Takes}
-use Rattle.smt_terms.specs.Term.{op, Term}
+use Rattle.smt_terms.specs.Term.{op}
 use Rattle.smt_terms.specs.Written.{Written, left_associative, right_associative, written_rank, written_arity, written_places, written_in_range, written_result, alike, build}
 use Rattle.smt_terms.proofs.Equal.{Decides-sort_eq}
 use Rattle.smt_terms.proofs.Ranked.{rank-takes, rank-narrow, le_true}
@@ -19,8 +19,8 @@ use Rattle.term_table.specs.ShapeRank.{kid_sorts}
 use Rattle.term_table.specs.declared.fault.RankFault.{RankFault}
 use Rattle.sort_check.specs.declared.fault.MakeFault.TheVariants.{Rank, Memory}
 use Rattle.sort_check.specs.Forms.{is_pair, is_fold}
-use Rattle.sort_check.specs.Making.{term_algebra, FollowsRank, OnRefusal, Extends, Builds}
-use Rattle.sort_check.specs.Operands.{rank_pair, node_sort, alike_fault, IsOfSort, TakesEach}
+use Rattle.sort_check.specs.Making.{term_algebra, Extends, Builds}
+use Rattle.sort_check.specs.Operands.{rank_pair, alike_fault, IsOfSort, TakesEach}
 use Rattle.sort_check.proofs.Growing.{extends-refl}
 
 -- ---- answers

@@ -1,20 +1,20 @@
 -- Folds over the operands, from the left and from the right.
-use Rattle.std.proofs.Common.{◌≡◌, true, ℕ, zero, suc, ◌+◌, ◌-◌, ◌<◌, ◌≤◌, List, [], ◌∷◌, map, length, take, drop, get_or, All, Some, Ok, IsOk, refl, ap, sym, ◌∙◌, subst, arith}
+use Rattle.std.proofs.Common.{◌≡◌, true, ℕ, suc, ◌+◌, ◌-◌, ◌<◌, ◌≤◌, List, [], ◌∷◌, length, take, drop, get_or, Some, Ok, IsOk, refl, ap, sym, ◌∙◌, subst, arith}
 use Rattle.std.proofs.Math.Seq.{drop-cons, drop-length}
 use Rattle.std.proofs.lemmas.List.{get_or-map, length-map, length-drop, take_rest}
-use Rattle.std.proofs.lemmas.List.Elements.{All-head, All-tail, All-get_or, All-weaker}
+use Rattle.std.proofs.lemmas.List.Elements.{All-head, All-get_or}
 use Rattle.smt_terms.specs.declared.ids.NodeId.{NodeId}
 use Rattle.smt_terms.specs.declared.op.Op.{Op}
 use Rattle.smt_terms.specs.Rank.{shape, sort_of}
 use Rattle.smt_terms.specs.Sorts.{Sort}
 use Rattle.smt_terms.specs.Term.{Term}
 use Rattle.smt_terms.specs.Written.{left_associative, right_associative, build, apply_to_both, from_left, from_right, associated}
-use Rattle.term_table.specs.Formulas.{Formulas, no_tree, tree, tree_in, trees_at, IsNode, AreNodes, sort_or_bool}
+use Rattle.term_table.specs.Formulas.{Formulas, no_tree, tree, tree_in, trees_at, IsNode, sort_or_bool}
 use Rattle.sort_check.specs.Forms.{is_fold}
 use Rattle.sort_check.specs.Making.{term_algebra, Extends}
 use Rattle.sort_check.specs.Operands.{rank_pair, node_sort, IsOfSort, TakesEach}
 use Rattle.sort_check.proofs.Answering.{fold_result}
-use Rattle.sort_check.proofs.Growing.{extends-refl, extends-trans, tree-extends, node-extends, sorted-extends}
+use Rattle.sort_check.proofs.Growing.{extends-refl, extends-trans, tree-extends, sorted-extends}
 use Rattle.sort_check.proofs.Nodes.{pair_sort}
 
 -- two nodes of one sort, which the operator takes
@@ -77,10 +77,10 @@ module _ (old : Formulas) (o : Op) (first : NodeId) (rest : List NodeId) (x : Ta
           node = node;
           sort = λ y. (pair_of_sort new newer o all (get_or rest k d) n y.sort y.sort (all_sorted y) (kid_sorted old o (first ∷ rest) y fold new f.extends (suc k) d (omega arith)) (to_itself old o (first ∷ rest) y fold) node term).sort;
           term =
-            ap (λ v. from_left two v (drop (k + 1) (trees_at old rest))) (term ∙ ap (λ v. two (tree new all) v) (kid_tree old o (first ∷ rest) x fold new f.extends (suc k) d (omega arith)))
-            ∙ ap (λ j. from_left two (two (tree new all) u) (drop j (trees_at old rest))) (sym next)
-            ∙ sym (ap (from_left two (tree new all)) (drop-cons (trees_at old rest) k no_tree within))
-            ∙ f.term;
+              ap (λ v. from_left two v (drop (k + 1) (trees_at old rest))) (term ∙ ap (λ v. two (tree new all) v) (kid_tree old o (first ∷ rest) x fold new f.extends (suc k) d (omega arith)))
+              ∙ ap (λ j. from_left two (two (tree new all) u) (drop j (trees_at old rest))) (sym next)
+              ∙ sym (ap (from_left two (tree new all)) (drop-cons (trees_at old rest) k no_tree within))
+              ∙ f.term;
         }
 
   pub left_done : (new : Formulas) (all : NodeId) (k : ℕ) → length rest ≤ k → k ≤ length rest → LeftFold old new o first rest all k → tree new all ≡ from_left (apply_to_both term_algebra o) (tree old first) (trees_at old rest)
@@ -115,8 +115,8 @@ module _ (old : Formulas) (o : Op) (ks : List NodeId) (x : TakesEach old o ks) (
         node = (at x).node;
         sort = λ y. (at y).sort;
         term = kid_tree old o ks x fold old (extends-refl old) k d within
-          ∙ sym (ap (associated term_algebra o (from_right (apply_to_both term_algebra o))) (drop-cons (trees_at old ks) k no_tree within_trees
-          ∙ ap (λ us. get_or (trees_at old ks) k no_tree ∷ us) (ap (λ j. drop j (trees_at old ks)) at_end ∙ drop-length (trees_at old ks))));
+            ∙ sym (ap (associated term_algebra o (from_right (apply_to_both term_algebra o))) (drop-cons (trees_at old ks) k no_tree within_trees
+            ∙ ap (λ us. get_or (trees_at old ks) k no_tree ∷ us) (ap (λ j. drop j (trees_at old ks)) at_end ∙ drop-length (trees_at old ks))));
       }
 
   module _ (new : Formulas) (all : NodeId) (k j : ℕ) (d : NodeId) (lt : j < length ks) (is : j ≡ k + 1) (g : RightFold old new o ks all j) where
@@ -148,9 +148,9 @@ module _ (old : Formulas) (o : Op) (ks : List NodeId) (x : TakesEach old o ks) (
           node = node;
           sort = λ y. (pair_of_sort new newer o (get_or ks k d) all n y.sort y.sort (kid_sorted old o ks y fold new f.extends k d within) (made_sorted y) (to_itself old o ks y fold) node term).sort;
           term = term ∙ (λ i. two (kid_tree old o ks x fold new f.extends k d within i) (f.term i))
-            ∙ ap (λ j. two t (associated term_algebra o (from_right two) (drop j (trees_at old ks)))) next
-            ∙ sym (right_cons o t (drop (suc k) (trees_at old ks)) more)
-            ∙ sym (ap (associated term_algebra o (from_right two)) (drop-cons (trees_at old ks) k no_tree within_trees));
+              ∙ ap (λ j. two t (associated term_algebra o (from_right two) (drop j (trees_at old ks)))) next
+              ∙ sym (right_cons o t (drop (suc k) (trees_at old ks)) more)
+              ∙ sym (ap (associated term_algebra o (from_right two)) (drop-cons (trees_at old ks) k no_tree within_trees));
         }
 
 pub right_done : (old new : Formulas) (o : Op) (ks : List NodeId) (all : NodeId) (k : ℕ) → k ≤ 0 → RightFold old new o ks all k → tree new all ≡ associated term_algebra o (from_right (apply_to_both term_algebra o)) (trees_at old ks)

@@ -1,11 +1,10 @@
 -- A table that grows: what its nodes name stays.
-use Rattle.std.proofs.Common.{◌≡◌, ℕ, ◌+◌, ◌<◌, ◌≤◌, List, [], ◌∷◌, map, length, get_or, All, refl, ap, sym, ◌∙◌, subst, arith}
+use Rattle.std.proofs.Common.{◌≡◌, ◌≤◌, List, [], ◌∷◌, length, refl, ap, ◌∙◌, arith}
 use Rattle.std.proofs.lemmas.List.Elements.{All-head, All-tail, All-weaker}
 use Rattle.smt_terms.specs.declared.ids.NodeId.{NodeId}
 use Rattle.smt_terms.specs.Rank.{sort_of}
 use Rattle.smt_terms.specs.Sorts.{Sort}
-use Rattle.smt_terms.specs.Term.{Term}
-use Rattle.term_table.specs.Formulas.{Formulas, no_tree, tree_in, tree, trees_at, AreNodes, IsNode, Grows, GrowsByOne}
+use Rattle.term_table.specs.Formulas.{Formulas, no_tree, tree, trees_at, AreNodes, IsNode}
 use Rattle.sort_check.specs.Making.{Extends}
 use Rattle.sort_check.specs.Operands.{IsOfSort}
 

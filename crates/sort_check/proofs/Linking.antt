@@ -1,5 +1,5 @@
 -- An operator over neighbours, and over two operands exchanged.
-use Rattle.std.proofs.Common.{◌≡◌, ℕ, zero, suc, ◌+◌, ◌-◌, ◌<◌, ◌≤◌, Bool, true, false, ◌&&◌, cond, ◌==◌, nat_le, List, [], ◌∷◌, ◌++◌, map, length, take, drop, get_or, All, Some, None, Result, Ok, Err, IsOk, refl, ap, sym, ◌∙◌, subst, arith, append_assoc}
+use Rattle.std.proofs.Common.{◌≡◌, ℕ, suc, ◌+◌, ◌-◌, ◌<◌, ◌≤◌, Bool, true, false, cond, ◌==◌, nat_le, List, [], ◌∷◌, ◌++◌, length, take, drop, get_or, All, Some, None, Ok, Err, IsOk, refl, ap, sym, ◌∙◌, subst, arith, append_assoc}
 use Rattle.std.proofs.Math.Seq.{drop-cons, drop-length}
 use Rattle.std.proofs.lemmas.List.{get_or-map, length-map, take_rest, map-append, append-nil}
 use Rattle.std.proofs.lemmas.List.Elements.{All-head, All-tail, All-cons, All-nil, All-get_or, All-weaker, All-push}
@@ -7,15 +7,15 @@ use Rattle.smt_terms.specs.declared.ids.NodeId.{NodeId}
 use Rattle.smt_terms.specs.declared.op.Op.{Op}
 use Rattle.smt_terms.specs.declared.op.Op.TheVariants.{And}
 use Rattle.smt_terms.specs.Equal.{sort_eq}
-use Rattle.smt_terms.specs.Rank.{Fault, wrong_arity, Shape, fixed, equation, bits_comparison, first_misfit, accepted, most_bits, width, places, in_range, result_of, rank, shape, sort_of}
+use Rattle.smt_terms.specs.Rank.{Fault, wrong_arity, Shape, fixed, equation, bits_comparison, first_misfit, accepted, most_bits, width, places, result_of, rank, shape}
 use Rattle.smt_terms.specs.Sorts.{Sort, bool, bit_vector}
 use Rattle.smt_terms.specs.Takes.{Takes}
 use Rattle.smt_terms.specs.Term.{op, Term}
-use Rattle.smt_terms.specs.Written.{Written, chainable, chainable_exchanged, exchanged, written_rank, written_arity, written_places, written_in_range, written_result, alike, apply_to_both, itself_or_join, neighbours, build}
+use Rattle.smt_terms.specs.Written.{exchanged, written_rank, written_arity, written_places, written_in_range, written_result, alike, apply_to_both, itself_or_join, neighbours, build}
 use Rattle.smt_terms.proofs.Equal.{Decides-sort_eq}
-use Rattle.smt_terms.proofs.Ranked.{rank-takes, le_true}
+use Rattle.smt_terms.proofs.Ranked.{rank-takes}
 use Rattle.smt_terms.proofs.Tests.{both_true, and_true}
-use Rattle.term_table.specs.Formulas.{Formulas, no_tree, tree, tree_in, trees_at, rank_over, sort_or_bool, sorts_in, IsNode, AreNodes, IsOpOf}
+use Rattle.term_table.specs.Formulas.{Formulas, no_tree, tree, tree_in, trees_at, rank_over, IsNode, IsOpOf}
 use Rattle.term_table.specs.ShapeRank.{shape_rank, kid_sorts}
 use Rattle.term_table.proofs.Ranks.{length-kid_sorts}
 use Rattle.sort_check.specs.Forms.{is_pair, is_link}
@@ -23,7 +23,7 @@ use Rattle.sort_check.specs.Making.{term_algebra, Extends}
 use Rattle.sort_check.specs.Operands.{rank_pair, node_sort, alike_fault, linked, chained, IsOfSort, TakesEach}
 use Rattle.sort_check.proofs.Answering.{alike_refused, alike_ranked, alike_two, is_ok}
 use Rattle.sort_check.proofs.Folding.{ranked_as, pair_of_sort}
-use Rattle.sort_check.proofs.Growing.{extends-refl, extends-trans, tree-extends, trees-extend, node-extends, sorted-extends}
+use Rattle.sort_check.proofs.Growing.{extends-refl, extends-trans, tree-extends, trees-extend, sorted-extends}
 use Rattle.sort_check.proofs.Pairs.{pair_numbers, pair_over}
 
 -- ---- an operator that links
@@ -93,7 +93,7 @@ module _ (old : Formulas) (o : Op) (turned : Bool) (first : NodeId) (rest : List
     next_takes = record {
       sort = x.sort;
       operands = All-cons (λ n. IsOfSort new n x.sort) left (get_or rest k d ∷ []) (sorted-extends old new f.extends left x.sort (f.before x))
-        (All-cons (λ n. IsOfSort new n x.sort) (get_or rest k d) [] (sorted-extends old new f.extends (get_or rest k d) x.sort (right_sorted x)) (All-nil (λ n. IsOfSort new n x.sort)));
+          (All-cons (λ n. IsOfSort new n x.sort) (get_or rest k d) [] (sorted-extends old new f.extends (get_or rest k d) x.sort (right_sorted x)) (All-nil (λ n. IsOfSort new n x.sort)));
       result = x.result;
       ranked = x.ranked;
     }
@@ -120,11 +120,11 @@ module _ (old : Formulas) (o : Op) (turned : Bool) (first : NodeId) (rest : List
           before = right_sorted;
           truths = All-push (λ m. IsOfSort newer m bool) links n (All-weaker (λ m. IsOfSort new m bool) (λ m. IsOfSort newer m bool) (λ m is. sorted-extends new newer e m bool is) links f.truths) (link_sorted newer n turned node term);
           terms =
-            ap (λ ts. ts ++ neighbours (linked turned o) (tree old (get_or rest k d)) (drop (k + 1) (trees_at old rest))) (map-append (tree_in newer.trees) links (n ∷ []))
-            ∙ append_assoc (trees_at newer links) (tree newer n ∷ []) (neighbours (linked turned o) (tree old (get_or rest k d)) (drop (k + 1) (trees_at old rest)))
-            ∙ (λ i. kept i ++ made i ∷ neighbours (linked turned o) (kid_tree i) (drop (sym next i) (trees_at old rest)))
-            ∙ ap (λ ts. trees_at new links ++ neighbours (linked turned o) (tree old left) ts) (sym (drop-cons (trees_at old rest) k no_tree within))
-            ∙ f.terms;
+              ap (λ ts. ts ++ neighbours (linked turned o) (tree old (get_or rest k d)) (drop (k + 1) (trees_at old rest))) (map-append (tree_in newer.trees) links (n ∷ []))
+              ∙ append_assoc (trees_at newer links) (tree newer n ∷ []) (neighbours (linked turned o) (tree old (get_or rest k d)) (drop (k + 1) (trees_at old rest)))
+              ∙ (λ i. kept i ++ made i ∷ neighbours (linked turned o) (kid_tree i) (drop (sym next i) (trees_at old rest)))
+              ∙ ap (λ ts. trees_at new links ++ neighbours (linked turned o) (tree old left) ts) (sym (drop-cons (trees_at old rest) k no_tree within))
+              ∙ f.terms;
         }
 
   pub links_done : (new : Formulas) (links : List NodeId) (left : NodeId) (k : ℕ) → length rest ≤ k → k ≤ length rest → Links old new o turned first rest links left k → trees_at new links ≡ neighbours (linked turned o) (tree old first) (trees_at old rest)

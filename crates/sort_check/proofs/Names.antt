@@ -1,14 +1,13 @@
 -- Written operators by name.
-use Rattle.std.proofs.Common.{◌≡◌, ℕ, suc, ◌+◌, ◌<◌, Bool, true, false, cond, List, [], ◌∷◌, ◌++◌, map, drop, length, get_or, Option, Some, None, refl, ap, sym, ◌∙◌, subst, arith}
+use Rattle.std.proofs.Common.{◌≡◌, ℕ, suc, ◌+◌, ◌<◌, Bool, true, false, cond, List, [], ◌∷◌, ◌++◌, map, drop, length, get_or, Option, Some, refl, ap, ◌∙◌, subst, arith}
 use Rattle.std.specs.List.{list_all}
 use Rattle.std.proofs.Math.Seq.{drop-cons}
 use Rattle.std.proofs.lemmas.List.{get_or-map, length-map}
-use Rattle.std.specs.Bool.{IsTrue}
 use Rattle.smt_terms.specs.Sorts.{Name}
 use Rattle.smt_terms.specs.Equal.{name_eq}
 use Rattle.smt_terms.specs.Rank.{shape}
 use Rattle.smt_terms.proofs.Tests.{both_true}
-use Rattle.smt_terms.specs.Written.{Written, Indexed, core_operators, number_operators, vector_operators, array_operators, named_in, or_else, operator_named, without_index, with_index, with_indices, at_indices, written_named}
+use Rattle.smt_terms.specs.Written.{Indexed, core_operators, number_operators, vector_operators, array_operators, named_in, or_else, operator_named}
 use Rattle.sort_check.specs.Forms.{is_apt, is_apt_at, is_theory}
 
 named_in-append : (ps qs : List (Name × Indexed)) (n : Name) → named_in (ps ++ qs) n ≡ or_else (named_in ps n) (named_in qs n)

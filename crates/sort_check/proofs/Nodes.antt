@@ -1,17 +1,17 @@
 -- The terms that are made.
-use Rattle.std.proofs.Common.{◌≡◌, ℕ, zero, suc, ◌<◌, Bool, true, false, ◌&&◌, List, [], ◌∷◌, map, length, get_or, Option, Some, None, Result, Ok, Err, IsOk, refl, ap, sym, ◌∙◌, subst, arith}
+use Rattle.std.proofs.Common.{◌≡◌, zero, suc, ◌<◌, false, ◌&&◌, List, [], ◌∷◌, length, get_or, Option, Some, None, Result, Ok, Err, IsOk, refl, ap, sym, ◌∙◌, subst, arith}
 use Rattle.smt_terms.specs.declared.ids.NodeId.{NodeId}
 use Rattle.smt_terms.specs.declared.op.Op.{Op}
 use Rattle.smt_terms.specs.declared.op.Op.TheVariants.{Neg, Sym, Forall, Exists, ConstArray}
 use Rattle.smt_terms.specs.Made.{minus, made}
-use Rattle.smt_terms.specs.Rank.{Fault, rank, shape, sort_of, sort_over, with_sort, is_minus, is_whole, is_minus_of}
-use Rattle.smt_terms.specs.Sorts.{Sort, int, bool, Symbol}
+use Rattle.smt_terms.specs.Rank.{Fault, rank, shape, sort_of, with_sort, is_minus, is_whole, is_minus_of}
+use Rattle.smt_terms.specs.Sorts.{Sort, int, Symbol}
 use Rattle.smt_terms.specs.Term.{op, Term, apply, none, ◌⨾◌, terms, over}
 use Rattle.smt_terms.specs.Written.{apply_to_both}
 use Rattle.smt_terms.proofs.Ranked.{rank-takes}
 use Rattle.smt_terms.proofs.Sorted.{sort_of-apply}
 use Rattle.smt_terms.proofs.Made.{made-sort}
-use Rattle.term_table.specs.Formulas.{Formulas, Kind, theory, applied, filled, binder, kind, kind_term, tree, tree_in, trees_at, term_over, rank_over, sort_or_bool, sorts_in, is_minus_over, kind_rank, IsKindOf, IsNode, AreNodes, IsOpOf, Makes}
+use Rattle.term_table.specs.Formulas.{Formulas, Kind, theory, applied, filled, binder, kind, kind_term, tree, trees_at, term_over, rank_over, sort_or_bool, sorts_in, is_minus_over, kind_rank, IsKindOf, IsNode, AreNodes, IsOpOf, Makes}
 use Rattle.term_table.proofs.Operators.{kind-theory}
 use Rattle.sort_check.specs.Making.{made_kind, made_over, term_algebra}
 use Rattle.sort_check.specs.Operands.{rank_pair, node_sort}

@@ -1,19 +1,18 @@
 -- The operands of an operator over two, and more that are like them.
-use Rattle.std.proofs.Common.{◌≡◌, ℕ, zero, suc, ◌+◌, ◌<◌, ◌≤◌, Bool, true, false, cond, nat_le, ◌⊎◌, inl, inr, List, [], ◌∷◌, map, length, take, drop, get_or, All, Option, Some, None, is_some, Result, Ok, Err, refl, ap, sym, ◌∙◌, subst, arith}
+use Rattle.std.proofs.Common.{◌≡◌, ℕ, suc, ◌+◌, ◌<◌, ◌≤◌, true, false, cond, nat_le, ◌⊎◌, inl, inr, List, [], ◌∷◌, length, take, drop, get_or, All, Option, Some, None, is_some, Ok, Err, refl, ap, sym, ◌∙◌, subst, arith}
 use Rattle.std.proofs.Math.Seq.{drop-cons}
 use Rattle.std.proofs.lemmas.List.Elements.{All-head, All-tail, All-cons, All-nil}
 use Rattle.smt_terms.specs.declared.ids.NodeId.{NodeId}
 use Rattle.smt_terms.specs.declared.op.Op.{Op}
 use Rattle.smt_terms.specs.declared.op.Op.TheVariants.{Sym, Forall, Exists, ConstArray}
 use Rattle.smt_terms.specs.Equal.{sort_eq}
-use Rattle.smt_terms.specs.Rank.{Fault, Shape, fixed, equation, bitwise_pair, bits_comparison, no_head, Place, only, any_sort, any_width, misfit, before, first_misfit, accepted, most_bits, width, width_limit, wrong_arity, rank, shape, sort_of, is_regular, IsWellSorted}
-use Rattle.smt_terms.specs.Sorts.{Sort, bool, bit_vector}
+use Rattle.smt_terms.specs.Rank.{Fault, Shape, fixed, equation, bitwise_pair, bits_comparison, Place, only, any_sort, any_width, misfit, before, first_misfit, accepted, most_bits, width, width_limit, wrong_arity, rank, shape, sort_of, is_regular}
+use Rattle.smt_terms.specs.Sorts.{Sort, bool}
 use Rattle.smt_terms.specs.Term.{op, Term}
 use Rattle.smt_terms.specs.Written.{alike}
 use Rattle.smt_terms.proofs.Equal.{Decides-sort_eq}
 use Rattle.smt_terms.proofs.Ranked.{le_true}
 use Rattle.smt_terms.proofs.Tests.{true_or_false, both_true}
-use Rattle.smt_values.specs.SortIds.{sort_at, IsSortId, IsSortList}
 use Rattle.term_table.specs.Formulas.{Formulas, tree, trees_at, kind, theory, rank_over, kind_rank, IsNode, AreNodes, IsOpOf, IsKindOf, IsTable, sort_or_bool, sorts_in}
 use Rattle.term_table.specs.ShapeRank.{shape_rank, kid_sorts}
 use Rattle.sort_check.specs.Forms.{is_pair}
@@ -115,7 +114,7 @@ module _ (o : Op) (a b : Sort) (pair : is_pair (shape o) ≡ true) (narrow : nat
       let parts = accepted-ok (misfit 0 view.first a) (misfit 1 (only view.other) b) view.result s (sym ranked_both ∙ is) in
       let same : a ≡ view.other = view.fits parts.0 in (
         view.all b rest ∙ ap (λ m. before m (before (misfit 1 (only view.other) b) (unlike view.other 2 rest))) parts.0
-        ∙ ap (λ m. before m (unlike view.other 2 rest)) parts.1 ∙ ap (λ q. unlike q 2 rest) (sym same),
+            ∙ ap (λ m. before m (unlike view.other 2 rest)) parts.1 ∙ ap (λ q. unlike q 2 rest) (sym same),
         only_like view.other 1 b parts.1 ∙ sym same,
       )
 
@@ -178,7 +177,7 @@ module _ (t : Formulas) (o : Op) (pair : is_pair (shape o) ≡ true) (table : Is
         takes = λ none. record {
           sort = s;
           operands = all_of_sort t table s (k ∷ l ∷ rest) nodes
-          (All-cons (λ u. u ≡ s) (node_sort t k) (kid_sorts t (l ∷ rest)) at (All-cons (λ u. u ≡ s) (node_sort t l) (kid_sorts t rest) second (none_unlike s 2 (kid_sorts t rest) none)));
+              (All-cons (λ u. u ≡ s) (node_sort t k) (kid_sorts t (l ∷ rest)) at (All-cons (λ u. u ≡ s) (node_sort t l) (kid_sorts t rest) second (none_unlike s 2 (kid_sorts t rest) none)));
           result = r;
           ranked = (λ i. rank_pair o (sym at i) (sym second i)) ∙ ranked;
         };

@@ -1,15 +1,15 @@
 -- The answer of `make` as that of a written operator.
-use Rattle.std.proofs.Common.{◌≡◌, List, Result, Ok, Err, IsOk, IfOk, OnErr, sym, ◌∙◌, subst}
+use Rattle.std.proofs.Common.{◌≡◌, List, Result, Ok, Err, IsOk, IfOk, OnErr, ◌∙◌, subst}
 use Rattle.smt_terms.specs.declared.ids.NodeId.{NodeId}
 use Rattle.smt_terms.specs.declared.op.Op.{Op}
 use Rattle.smt_terms.specs.Rank.{Fault}
 use Rattle.smt_terms.specs.Sorts.{Sort}
 use Rattle.smt_terms.specs.Written.{Written, written_rank, build}
-use Rattle.term_table.specs.Formulas.{Formulas, tree, trees_at, rank_over, IsNode, GrowsByOne, IsUnchanged}
+use Rattle.term_table.specs.Formulas.{Formulas, tree, trees_at, IsNode, GrowsByOne, IsUnchanged}
 use Rattle.term_table.specs.ShapeRank.{kid_sorts}
 use Rattle.sort_check.specs.declared.fault.MakeFault.{MakeFault}
 use Rattle.sort_check.specs.declared.fault.MakeFault.TheVariants.{Rank, Memory}
-use Rattle.sort_check.specs.Making.{made_over, term_algebra, FollowsRank, OnRefusal, Extends, Builds}
+use Rattle.sort_check.specs.Making.{made_over, term_algebra, FollowsRank, OnRefusal, Builds}
 
 refused_trees : (old new : Formulas) (answer : Result NodeId MakeFault) → OnErr answer (IsUnchanged old new) → OnRefusal answer (new.trees ≡ old.trees)
 refused_trees old new (Ok k) same = tt

@@ -1,20 +1,20 @@
 -- Complements, copies behind one another, and whether a number divides an operand.
-use Rattle.std.proofs.Common.{◌≡◌, ℕ, zero, suc, ◌+◌, ◌-◌, ◌*◌, ◌/◌, ◌^◌, ◌<◌, ◌≤◌, Bool, true, false, inl, inr, ◌&&◌, cond, ◌==◌, nat_le, nat_lt, ℤ, pos, List, [], ◌∷◌, map, length, get_or, All, Option, Some, None, Result, Ok, Err, IsOk, refl, ap, sym, ◌∙◌, subst, arith}
-use Rattle.std.proofs.lemmas.Bool.Decides.{leb_tells, eqb_tells, Decides-eqb}
+use Rattle.std.proofs.Common.{◌≡◌, ℕ, zero, suc, ◌+◌, ◌*◌, ◌/◌, ◌^◌, ◌<◌, ◌≤◌, Bool, true, false, inl, inr, cond, ◌==◌, nat_le, ℤ, pos, List, [], ◌∷◌, length, get_or, Option, Some, None, Ok, Err, IsOk, refl, ap, sym, ◌∙◌, subst, arith}
+use Rattle.std.proofs.lemmas.Bool.Decides.{leb_tells}
 use Rattle.std.proofs.Math.Nat.{mul-le-mul_right, div-mul-le_self, lt-div-mul-add}
 use Rattle.smt_terms.specs.declared.ids.NodeId.{NodeId}
 use Rattle.smt_terms.specs.declared.op.Op.{Op}
 use Rattle.smt_terms.specs.declared.op.Op.TheVariants.{Whole, Neg, Mod, Equal, Concat, BvNot}
-use Rattle.smt_terms.specs.Rank.{Fault, wrong_arity, width_limit, bad_index, Shape, bitwise_pair, only, any_width, misfit, before, first_misfit, accepted, most_bits, width, operand, places, in_range, result_of, rank, shape, sort_of, sorts_of, with_sort, is_sort}
+use Rattle.smt_terms.specs.Rank.{Fault, wrong_arity, width_limit, bad_index, Shape, bitwise_pair, only, any_width, misfit, before, first_misfit, accepted, most_bits, width, operand, places, result_of, rank, shape, sort_of, sorts_of, with_sort, is_sort}
 use Rattle.smt_terms.specs.Sorts.{Sort, bool, int, bit_vector}
 use Rattle.smt_terms.specs.Takes.{Takes}
-use Rattle.smt_terms.specs.Term.{op, Term, apply, terms, none, ◌⨾◌}
-use Rattle.smt_terms.specs.Written.{Written, complemented, repetition, divisibility, written_rank, written_arity, written_places, written_in_range, written_result, apply_to, apply_to_both, copies, divides, whole_in, build}
+use Rattle.smt_terms.specs.Term.{op, apply, terms, none}
+use Rattle.smt_terms.specs.Written.{complemented, repetition, divisibility, written_rank, written_arity, written_places, written_in_range, written_result, apply_to, apply_to_both, copies, divides, whole_in, build}
 use Rattle.smt_terms.proofs.Made.{made-sort}
-use Rattle.smt_terms.proofs.Ranked.{rank-takes, takes-rank, rank-narrow, le_true, lt_true}
+use Rattle.smt_terms.proofs.Ranked.{rank-takes, takes-rank, rank-narrow, le_true}
 use Rattle.smt_terms.proofs.Sorted.{sort_of-apply}
 use Rattle.smt_terms.proofs.Tests.{both_true}
-use Rattle.term_table.specs.Formulas.{Formulas, tree, trees_at, term_over, rank_over, sort_or_bool, sorts_in, kind, IsNode, AreNodes, Makes}
+use Rattle.term_table.specs.Formulas.{Formulas, tree, trees_at, term_over, rank_over, sort_or_bool, kind, IsNode, AreNodes, Makes}
 use Rattle.term_table.specs.ShapeRank.{shape_rank, kid_sorts}
 use Rattle.sort_check.specs.Forms.{is_theory, is_bitwise_pair}
 use Rattle.sort_check.specs.Making.{made_over, term_algebra, Extends}
@@ -140,12 +140,12 @@ module _ (old new : Formulas) (kid all : NodeId) (more k : ℕ) (x : Repeats old
   copied_next newer n e node term = record {
     extends = extends-trans old new newer f.extends e;
     sorted = λ y.
-      let kid_is = sorted-extends old new f.extends kid (bit_vector y.width) y.vector in
-      let wide : y.width + (k + 1) * y.width ≡ (k + 1 + 1) * y.width = omega arith in
-      subst (λ w. IsOfSort newer n (bit_vector w)) wide (record {
-        node = node;
-        sort = ap sort_of term ∙ pair_sort Concat (tree new kid) (tree new all) (bit_vector y.width) (bit_vector ((k + 1) * y.width)) (bit_vector (y.width + (k + 1) * y.width)) kid_is.sort (f.sorted y).sort (joined y);
-      });
+        let kid_is = sorted-extends old new f.extends kid (bit_vector y.width) y.vector in
+        let wide : y.width + (k + 1) * y.width ≡ (k + 1 + 1) * y.width = omega arith in
+        subst (λ w. IsOfSort newer n (bit_vector w)) wide (record {
+          node = node;
+          sort = ap sort_of term ∙ pair_sort Concat (tree new kid) (tree new all) (bit_vector y.width) (bit_vector ((k + 1) * y.width)) (bit_vector (y.width + (k + 1) * y.width)) kid_is.sort (f.sorted y).sort (joined y);
+        });
     term = term ∙ (λ i. apply_to_both term_algebra Concat (tree-extends old new f.extends kid x.vector.node i) (f.term i)) ∙ (let next : suc k ≡ k + 1 = omega arith in ap (λ j. copies term_algebra j (tree old kid)) next);
   }
 
@@ -205,6 +205,7 @@ repeated_from o w is sort = let parts = both_true (nat_le 1 w) (nat_le w most_bi
     least : (w : ℕ) → nat_le 1 w ≡ true → 0 < w
     least zero e = absurd cc
     least (suc w) e = omega arith
+
     narrow : (w : ℕ) → nat_le w most_bits ≡ true → w ≤ 128
     narrow w e = elim (leb_tells w 128) [ inl f ↦ f.1 | inr f ↦ absurd (let no : true ≡ false = sym e ∙ f.0 in cc) ]
 

@@ -1,25 +1,21 @@
 -- Operators of the theories over all their operands.
-use Rattle.std.proofs.Common.{◌≡◌, ℕ, zero, suc, ◌<◌, ◌≤◌, ◌≢◌, Bool, true, false, ◌&&◌, cond, ◌==◌, nat_le, inl, inr, List, [], ◌∷◌, map, length, get_or, replicate, All, Option, Some, None, Result, Ok, Err, IsOk, refl, ap, sym, ◌∙◌, subst, arith}
+use Rattle.std.proofs.Common.{◌≡◌, ◌<◌, ◌≤◌, ◌≢◌, Bool, true, false, cond, nat_le, List, [], ◌∷◌, map, length, get_or, replicate, All, Some, None, Ok, Err, IsOk, refl, ap, sym, ◌∙◌, subst, arith}
 use Rattle.std.proofs.lemmas.List.Elements.{All-head, All-tail, All-weaker}
 use Rattle.smt_terms.specs.declared.ids.NodeId.{NodeId}
 use Rattle.smt_terms.specs.declared.op.Op.{Op}
-use Rattle.smt_terms.specs.declared.op.Op.TheVariants.{Sym, Forall, Exists, ConstArray, And, Neg, Sub, Whole}
+use Rattle.smt_terms.specs.declared.op.Op.TheVariants.{Sym, Forall, Exists, ConstArray, And, Neg, Sub}
 use Rattle.smt_terms.specs.Equal.{sort_eq}
-use Rattle.smt_terms.specs.Made.{made}
-use Rattle.smt_terms.specs.Rank.{Fault, wrong_arity, wrong_sort, width_limit, Shape, several, only, misfit, before, first_misfit, accepted, most_bits, width, result_of, rank, shape, sort_of}
+use Rattle.smt_terms.specs.Rank.{wrong_arity, wrong_sort, Shape, several, only, before, first_misfit, accepted, result_of, rank, shape, sort_of}
 use Rattle.smt_terms.specs.Sorts.{Sort, bool, int}
-use Rattle.smt_terms.specs.Term.{op, Term, apply, none, ◌⨾◌, terms, over}
-use Rattle.smt_terms.specs.Written.{Written, plain, over_all, subtraction, left_associative, written_rank, written_arity, written_places, written_in_range, written_result, itself_or_join, alike, build}
+use Rattle.smt_terms.specs.Term.{op, Term}
+use Rattle.smt_terms.specs.Written.{plain, over_all, subtraction, left_associative, written_rank, written_arity, written_places, written_in_range, written_result, itself_or_join, alike, build}
 use Rattle.smt_terms.proofs.Ranked.{takes-rank, le_true}
-use Rattle.smt_terms.proofs.Tests.{true_or_false}
-use Rattle.term_table.specs.Faults.{fault_seen}
-use Rattle.term_table.specs.Formulas.{Formulas, theory, kind, kind_rank, kind_term, tree, tree_in, trees_at, term_over, rank_over, sort_or_bool, sorts_in, IsNode, AreNodes, IsOpOf, IsKindOf, Makes}
+use Rattle.term_table.specs.Formulas.{Formulas, theory, kind, kind_rank, tree, trees_at, term_over, rank_over, sort_or_bool, sorts_in, IsNode, IsOpOf, IsKindOf, Makes}
 use Rattle.term_table.specs.ShapeRank.{shape_rank, kid_sorts}
 use Rattle.term_table.proofs.Ranks.{length-kid_sorts}
 use Rattle.sort_check.specs.Forms.{is_theory, is_several}
 use Rattle.sort_check.specs.Making.{made_kind, made_over, term_algebra}
 use Rattle.sort_check.specs.Operands.{IsOfSort}
-use Rattle.sort_check.proofs.Answering.{is_ok}
 use Rattle.sort_check.proofs.Nodes.{other_makes}
 
 theory_kind : (o : Op) → is_theory (shape o) ≡ true → kind o ≡ theory o

@@ -1,20 +1,18 @@
 -- Operators over bit vectors whose indices are clamped or reduced.
-use Rattle.std.proofs.Common.{◌≡◌, ℕ, zero, suc, ◌+◌, ◌-◌, ◌*◌, ◌%◌, ◌^◌, ◌<◌, ◌≤◌, Bool, true, false, ◌&&◌, cond, ◌==◌, nat_lt, nat_le, min, ◌⊎◌, inl, inr, List, [], ◌∷◌, map, length, get_or, Option, Some, None, Result, Ok, Err, IsOk, refl, ap, sym, ◌∙◌, subst, arith}
+use Rattle.std.proofs.Common.{◌≡◌, ℕ, zero, suc, ◌+◌, ◌-◌, ◌%◌, ◌^◌, ◌<◌, ◌≤◌, Bool, true, false, ◌&&◌, cond, ◌==◌, nat_lt, nat_le, min, inl, inr, List, [], ◌∷◌, length, Option, Some, None, Result, Ok, Err, IsOk, refl, ap, sym, ◌∙◌, subst, arith}
 use Rattle.std.specs.Prelude.{unwrap_or}
 use Rattle.std.proofs.lemmas.Bool.Decides.{leb_tells, eqb_tells, Decides-eqb}
 use Rattle.smt_terms.specs.declared.ids.NodeId.{NodeId}
-use Rattle.smt_terms.specs.declared.op.Op.{Op}
 use Rattle.smt_terms.specs.declared.op.Op.TheVariants.{Extract, ZeroExt, SignExt, RotL, RotR}
 use Rattle.smt_terms.specs.Rank.{Fault, wrong_arity, width_limit, bad_index, any_width, misfit, before, first_misfit, accepted, most_bits, width, operand, rank, shape, sort_of, is_sort}
-use Rattle.smt_terms.specs.Sorts.{Sort, bool, int, bit_vector, array, free_sort}
-use Rattle.smt_terms.specs.Term.{op, Term, apply, terms, none, ◌⨾◌}
-use Rattle.smt_terms.specs.Written.{Written, plain, left_rotation, right_rotation, written_rank, written_arity, written_places, written_in_range, written_result, build}
-use Rattle.smt_terms.proofs.Ranked.{le_true, lt_true}
-use Rattle.smt_terms.proofs.Tests.{both_true}
-use Rattle.term_table.specs.Formulas.{Formulas, tree, trees_at, rank_over, sort_or_bool, sorts_in, kind, IsNode, AreNodes}
+use Rattle.smt_terms.specs.Sorts.{Sort, bool, bit_vector}
+use Rattle.smt_terms.specs.Term.{op, apply, terms, none, ◌⨾◌}
+use Rattle.smt_terms.specs.Written.{plain, left_rotation, right_rotation, written_rank, written_arity, written_places, written_in_range, written_result, build}
+use Rattle.smt_terms.proofs.Ranked.{lt_true}
+use Rattle.term_table.specs.Formulas.{Formulas, tree, trees_at, rank_over, sort_or_bool, kind}
 use Rattle.term_table.specs.ShapeRank.{kid_sorts}
 use Rattle.term_table.proofs.Ranks.{length-kid_sorts}
-use Rattle.sort_check.specs.Making.{made_over, term_algebra, term_width}
+use Rattle.sort_check.specs.Making.{made_over, term_algebra}
 
 -- ---- how many operands
 
@@ -99,23 +97,24 @@ module _ (high low w h l : ℕ) (his : h ≡ min high w) (lis : l ≡ min low w)
   cut =
       elim (leb_tells (suc high) w) [
         | inl e ↦
-          let in_high : high < w = e.1 in
-          let same_high : h ≡ high = omega arith in
-          elim (leb_tells low high) [
-            | inl f ↦ let ordered : low ≤ high = f.1 in let same_low : l ≡ low = omega arith in
-              (λ i. accepted None (nat_lt (same_high i) w && nat_le (same_low i) (same_high i)) (bit_vector (same_high i - same_low i + 1)))
-            | inr f ↦ let above : high < low = f.1 in let above_held : h < l = omega arith in
-              none_of (nat_lt h w) (nat_le l h) (bit_vector (h - l + 1)) (gt_false l h above_held) ∙ sym (none_of (nat_lt high w) (nat_le low high) (bit_vector (high - low + 1)) f.0)
-          ]
+            let in_high : high < w = e.1 in
+            let same_high : h ≡ high = omega arith in
+            elim (leb_tells low high) [
+              | inl f ↦ let ordered : low ≤ high = f.1 in let same_low : l ≡ low = omega arith in
+                  (λ i. accepted None (nat_lt (same_high i) w && nat_le (same_low i) (same_high i)) (bit_vector (same_high i - same_low i + 1)))
+              | inr f ↦ let above : high < low = f.1 in let above_held : h < l = omega arith in
+                  none_of (nat_lt h w) (nat_le l h) (bit_vector (h - l + 1)) (gt_false l h above_held) ∙ sym (none_of (nat_lt high w) (nat_le low high) (bit_vector (high - low + 1)) f.0)
+            ]
         | inr e ↦
-          let out : w ≤ high = let lt : w < suc high = e.1 in omega arith in
-          let out_held : w ≤ h = omega arith in
-          first_of_two (nat_lt h w) (nat_le l h) (bit_vector (h - l + 1)) (gt_false (suc h) w (omega arith)) ∙ sym (first_of_two (nat_lt high w) (nat_le low high) (bit_vector (high - low + 1)) e.0)
+            let out : w ≤ high = let lt : w < suc high = e.1 in omega arith in
+            let out_held : w ≤ h = omega arith in
+            first_of_two (nat_lt h w) (nat_le l h) (bit_vector (h - l + 1)) (gt_false (suc h) w (omega arith)) ∙ sym (first_of_two (nat_lt high w) (nat_le low high) (bit_vector (high - low + 1)) e.0)
       ]
     where
       none_of : (a b : Bool) (s : Sort) → b ≡ false → accepted None (a && b) s ≡ Err bad_index
       none_of true b s e = ap (λ c. accepted None c s) e
       none_of false b s e = refl
+
       first_of_two : (a b : Bool) (s : Sort) → a ≡ false → accepted None (a && b) s ≡ Err bad_index
       first_of_two a b s e = ap (λ c. accepted None (c && b) s) e
 
@@ -127,10 +126,10 @@ module _ (high low w h l : ℕ) (his : h ≡ min high w) (lis : l ≡ min low w)
   in_place ok =
       elim (leb_tells (suc high) w) [
         | inl e ↦ let in_high : high < w = e.1 in
-          elim (leb_tells low high) [
-            | inl f ↦ let ordered : low ≤ high = f.1 in (omega arith, omega arith)
-            | inr f ↦ absurd (refuse (nat_lt high w) (nat_le low high) (bit_vector (high - low + 1)) ok f.0)
-          ]
+            elim (leb_tells low high) [
+              | inl f ↦ let ordered : low ≤ high = f.1 in (omega arith, omega arith)
+              | inr f ↦ absurd (refuse (nat_lt high w) (nat_le low high) (bit_vector (high - low + 1)) ok f.0)
+            ]
         | inr e ↦ absurd (refuse_first (nat_lt high w) (nat_le low high) (bit_vector (high - low + 1)) ok e.0)
       ]
     where
@@ -138,6 +137,7 @@ module _ (high low w h l : ℕ) (his : h ≡ min high w) (lis : l ≡ min low w)
       refuse true false s h e = absurd cc
       refuse false false s h e = absurd cc
       refuse a true s h e = absurd cc
+
       refuse_first : (a b : Bool) (s : Sort) → IsOk (accepted None (a && b) s) → a ≡ false → ⊥
       refuse_first true b s h e = absurd cc
       refuse_first false b s h e = absurd cc
@@ -149,10 +149,10 @@ module _ (high low w h l : ℕ) (t : Formulas) (ks : List NodeId) (of : length k
       let ss = kid_sorts t ks in
       elim (eqb_tells (length ss) 1) [
         | inl e ↦
-          let is : w ≡ width (operand 0 ss) = of (sym (length-kid_sorts t ks) ∙ e.1) in
-          ap (λ r. cond (length ss == 1) r (Err wrong_arity)) (cut_at high low (width (operand 0 ss)) h l (his ∙ ap (min high) is) (lis ∙ ap (min low) is) (first_misfit 0 (any_width ∷ []) ss))
+            let is : w ≡ width (operand 0 ss) = of (sym (length-kid_sorts t ks) ∙ e.1) in
+            ap (λ r. cond (length ss == 1) r (Err wrong_arity)) (cut_at high low (width (operand 0 ss)) h l (his ∙ ap (min high) is) (lis ∙ ap (min low) is) (first_misfit 0 (any_width ∷ []) ss))
         | inr e ↦ ap (λ b. cond b (accepted (first_misfit 0 (any_width ∷ []) ss) (nat_lt h (width (operand 0 ss)) && nat_le l h) (bit_vector (h - l + 1))) (Err wrong_arity)) e.0
-          ∙ sym (ap (λ b. cond b (accepted (first_misfit 0 (any_width ∷ []) ss) (nat_lt high (width (operand 0 ss)) && nat_le low high) (bit_vector (high - low + 1))) (Err wrong_arity)) e.0)
+            ∙ sym (ap (λ b. cond b (accepted (first_misfit 0 (any_width ∷ []) ss) (nat_lt high (width (operand 0 ss)) && nat_le low high) (bit_vector (high - low + 1))) (Err wrong_arity)) e.0)
       ]
 
   pub extract_term : IsOk (written_rank (plain (Extract high low)) (kid_sorts t ks)) → made_over t (Extract h l) (trees_at t ks) ≡ build term_algebra (plain (Extract high low)) (trees_at t ks)

@@ -1,8 +1,7 @@
 -- Written operators as the code holds them, and what the operators that they are made of take.
-use Rattle.std.specs.Prelude.{ℕ, ◌^◌, nat_lt, Bool, true, false, ◌&&◌, nat_le, List, [], ◌∷◌, map, Option, Some, None}
-use Rattle.smt_terms.specs.declared.op.Op.{Op}
+use Rattle.std.specs.Prelude.{ℕ, ◌^◌, nat_lt, Bool, true, false, ◌&&◌, nat_le, [], ◌∷◌, Option, Some, None}
 use Rattle.smt_terms.specs.declared.op.Op.TheVariants.{Extract, ZeroExt, SignExt}
-use Rattle.smt_terms.specs.Sorts.{Name, bool}
+use Rattle.smt_terms.specs.Sorts.{bool}
 use Rattle.smt_terms.specs.Equal.{sort_eq}
 use Rattle.smt_terms.specs.Rank.{Shape, fixed, several, equation, bitwise_pair, bits_comparison, no_head, shape, width, most_bits}
 use Rattle.smt_terms.specs.Written.{Written, plain, over_all, left_associative, right_associative, chainable, chainable_exchanged, exchanged, complemented, subtraction, divisibility, repetition, left_rotation, right_rotation, Indexed, without_index, with_index, with_indices}

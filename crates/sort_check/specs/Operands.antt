@@ -1,12 +1,12 @@
 -- Operands of one sort.
-use Rattle.std.specs.Prelude.{◌≡◌, ◌≤◌, ℕ, ◌+◌, ◌-◌, ◌*◌, ◌&&◌, List, [], ◌∷◌, map, length, nat_le, Bool, true, false, Option, Some, None, Result, Ok, Err, All, if◌then◌else◌}
+use Rattle.std.specs.Prelude.{◌≡◌, ◌≤◌, ℕ, ◌+◌, ◌-◌, ◌*◌, ◌&&◌, List, [], ◌∷◌, map, length, nat_le, Bool, true, false, Option, Some, Result, Ok, All, if◌then◌else◌}
 use Rattle.smt_terms.specs.declared.ids.NodeId.{NodeId}
 use Rattle.smt_terms.specs.declared.op.Op.{Op}
-use Rattle.smt_terms.specs.Rank.{Fault, wrong_arity, Shape, Place, only, first_misfit, rank, sort_of}
+use Rattle.smt_terms.specs.Rank.{Fault, wrong_arity, Shape, only, first_misfit, rank, sort_of}
 use Rattle.smt_terms.specs.Sorts.{Sort, bit_vector}
 use Rattle.smt_terms.specs.Term.{op, Term}
 use Rattle.smt_terms.specs.Written.{Written, chainable, chainable_exchanged, alike, apply_to_both}
-use Rattle.term_table.specs.Formulas.{Formulas, tree, IsNode, AreNodes, sort_or_bool}
+use Rattle.term_table.specs.Formulas.{Formulas, tree, IsNode, sort_or_bool}
 use Rattle.sort_check.specs.Making.{term_algebra}
 
 abbrev pub rank_pair : Op → Sort → Sort → Result Sort Fault

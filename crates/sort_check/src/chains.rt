@@ -36,11 +36,7 @@ pub fn chain(
 }
 
 /// The operator over two operands, exchanged.
-pub fn exchanged(
-    table: &mut Table,
-    op: Op,
-    kids: &[NodeId],
-) -> Result<NodeId, MakeFault>
+pub fn exchanged(table: &mut Table, op: Op, kids: &[NodeId]) -> Result<NodeId, MakeFault>
     requires kids { AreNodes table.old kids.now }
     requires apt { IsTrue (is_link (shape op)) }
     ensures { Builds table.old table.new (exchanged op) kids.now result }

@@ -16,11 +16,7 @@ use std::alloc::AllocError;
 use term_table::Table;
 
 /// A left associative operator over its operands.
-pub fn left_associative(
-    table: &mut Table,
-    op: Op,
-    kids: &[NodeId],
-) -> Result<NodeId, MakeFault>
+pub fn left_associative(table: &mut Table, op: Op, kids: &[NodeId]) -> Result<NodeId, MakeFault>
     requires kids { AreNodes table.old kids.now }
     requires apt { IsTrue (is_fold (shape op)) }
     ensures { Builds table.old table.new (left_associative op) kids.now result }
@@ -31,11 +27,7 @@ pub fn left_associative(
 }
 
 /// A right associative operator over its operands.
-pub fn right_associative(
-    table: &mut Table,
-    op: Op,
-    kids: &[NodeId],
-) -> Result<NodeId, MakeFault>
+pub fn right_associative(table: &mut Table, op: Op, kids: &[NodeId]) -> Result<NodeId, MakeFault>
     requires kids { AreNodes table.old kids.now }
     requires apt { IsTrue (is_fold (shape op)) }
     ensures { Builds table.old table.new (right_associative op) kids.now result }

@@ -9,8 +9,8 @@ mod alike;
 mod chains;
 pub mod fault;
 mod folds;
-pub mod making;
-pub mod operators;
+mod making;
+mod operators;
 mod vectors;
 mod written;
 
@@ -18,3 +18,6 @@ pub use fault::MakeFault;
 pub use making::make;
 pub use operators::make_form;
 pub use written::indices_taken;
+
+#[cfg(test)]
+mod tests;

@@ -13,12 +13,7 @@ use term_table::Table;
 
 /// Makes the node of an operator over operands: exactly where the operator has a rank over them, memory aside. A unary
 /// minus over an integer constant is made as the constant. After a refusal the table is as before.
-pub fn make(
-    _alloc: Global,
-    table: &mut Table,
-    op: Op,
-    kids: &[NodeId],
-) -> Result<NodeId, MakeFault>
+pub fn make(_alloc: Global, table: &mut Table, op: Op, kids: &[NodeId]) -> Result<NodeId, MakeFault>
     requires kids { AreNodes table.old kids.now }
     requires numbers { IsOpOf table.old op }
     ensures rank { FollowsRank table.old.sorts (rank_over table.old op (trees_at table.old kids.now)) result }
@@ -38,12 +33,7 @@ pub fn make(
 }
 
 /// The node of an operator that takes these two operands.
-pub fn pair(
-    table: &mut Table,
-    op: Op,
-    left: NodeId,
-    right: NodeId,
-) -> Result<NodeId, AllocError>
+pub fn pair(table: &mut Table, op: Op, left: NodeId, right: NodeId) -> Result<NodeId, AllocError>
     requires left { IsNode table.old left }
     requires right { IsNode table.old right }
     requires ranked { IsOk (rank_pair op (node_sort table.old left) (node_sort table.old right)) }

@@ -77,12 +77,7 @@ fn build(
 }
 
 // The operator over its operands.
-fn plain(
-    alloc: Global,
-    table: &mut Table,
-    op: Op,
-    kids: &[NodeId],
-) -> Result<NodeId, MakeFault>
+fn plain(alloc: Global, table: &mut Table, op: Op, kids: &[NodeId]) -> Result<NodeId, MakeFault>
     requires kids { AreNodes table.old kids.now }
     requires apt { IsTrue (is_theory (shape op)) }
     ensures { Builds table.old table.new (plain op) kids.now result }
@@ -92,12 +87,7 @@ fn plain(
 
 // The operator over its operands; one operand stands for itself.
 #[tactic(auto, unfolding(term_table::specs::Formulas::kind))]
-fn over_all(
-    alloc: Global,
-    table: &mut Table,
-    op: Op,
-    kids: &[NodeId],
-) -> Result<NodeId, MakeFault>
+fn over_all(alloc: Global, table: &mut Table, op: Op, kids: &[NodeId]) -> Result<NodeId, MakeFault>
     requires kids { AreNodes table.old kids.now }
     requires apt { IsTrue (is_several (shape op)) }
     ensures { Builds table.old table.new (over_all op) kids.now result }
@@ -110,11 +100,7 @@ fn over_all(
 }
 
 #[tactic(auto, unfolding(term_table::specs::Formulas::kind))]
-fn subtraction(
-    alloc: Global,
-    table: &mut Table,
-    kids: &[NodeId],
-) -> Result<NodeId, MakeFault>
+fn subtraction(alloc: Global, table: &mut Table, kids: &[NodeId]) -> Result<NodeId, MakeFault>
     requires { AreNodes table.old kids.now }
     ensures { Builds table.old table.new subtraction kids.now result }
 {
@@ -126,11 +112,7 @@ fn subtraction(
 
 // Whether what is left of the operand divided by n is 0.
 #[tactic(auto, unfolding(term_table::specs::Formulas::kind))]
-fn divisibility(
-    table: &mut Table,
-    n: u128,
-    kids: &[NodeId],
-) -> Result<NodeId, MakeFault>
+fn divisibility(table: &mut Table, n: u128, kids: &[NodeId]) -> Result<NodeId, MakeFault>
     requires kids { AreNodes table.old kids.now }
     requires number { n < 2 ^ 127 }
     ensures { Builds table.old table.new (divisibility n) kids.now result }

@@ -40,11 +40,7 @@ pub fn complemented(
 
 /// So many copies of the operand behind one another.
 #[tactic(auto, unfolding(term_table::specs::Formulas::kind))]
-pub fn repetition(
-    table: &mut Table,
-    count: u128,
-    kids: &[NodeId],
-) -> Result<NodeId, MakeFault>
+pub fn repetition(table: &mut Table, count: u128, kids: &[NodeId]) -> Result<NodeId, MakeFault>
     requires { AreNodes table.old kids.now }
     ensures { Builds table.old table.new (repetition count) kids.now result }
 {
@@ -156,14 +152,22 @@ pub fn extraction(
 fn clamped(by: u128) -> u32
     ensures { result ≡ min by (2 ^ 32 - 1) }
 {
-    if by > u32::MAX as u128 { u32::MAX } else { by as u32 }
+    if by > u32::MAX as u128 {
+        u32::MAX
+    } else {
+        by as u32
+    }
 }
 
 // The index, or the width, which is out of range as each greater index is.
 fn within(index: u128, width: u32) -> u32
     ensures { result ≡ min index width }
 {
-    if index > width as u128 { width } else { index as u32 }
+    if index > width as u128 {
+        width
+    } else {
+        index as u32
+    }
 }
 
 // The number modulo the width, if there is one.

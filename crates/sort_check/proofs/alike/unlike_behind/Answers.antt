@@ -1,6 +1,5 @@
-use Rattle.std.proofs.Common.{◌≡◌, ◌<◌, length, sym, ◌∙◌, arith}
+use Rattle.std.proofs.Common.{◌∙◌, arith}
 use Rattle.smt_values.specs.SortIds.{sort_at}
-use Rattle.term_table.specs.Faults.{fault_seen}
 use Rattle.term_table.specs.ShapeRank.{kid_sorts}
 use Rattle.term_table.proofs.Ranks.{kid_sorts-at, length-kid_sorts, unlike-same, unlike-other}
 use Rattle.sort_check.proofs.Pairs.{behind_next, behind_here}

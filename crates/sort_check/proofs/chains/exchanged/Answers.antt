@@ -1,8 +1,7 @@
-use Rattle.std.proofs.Common.{◌≡◌, ◌<◌, length, Result, Err, sym, ap, ◌∙◌, subst, arith}
+use Rattle.std.proofs.Common.{◌<◌, length, Result, Err, sym, ap, ◌∙◌, subst, arith}
 use Rattle.std.proofs.lemmas.Result.{err_from_is_err_and}
 use Rattle.smt_terms.specs.declared.ids.NodeId.{NodeId}
 use Rattle.smt_terms.specs.Written.{exchanged}
-use Rattle.smt_values.specs.SortIds.{sort_at}
 use Rattle.sort_check.specs.declared.fault.MakeFault.{MakeFault}
 use Rattle.sort_check.specs.Making.{Builds}
 use Rattle.sort_check.proofs.Answering.{refused_builds, memory_builds, made_builds, is_ok}

@@ -1,7 +1,7 @@
-use Rattle.std.proofs.Common.{◌≡◌, ◌<◌, List, length, get_or, sym, ◌∙◌, subst, arith}
+use Rattle.std.proofs.Common.{◌<◌, length, ◌∙◌, subst, arith}
 use Rattle.smt_values.specs.SortIds.{sort_at}
 use Rattle.smt_terms.specs.Term.{Term}
-use Rattle.term_table.specs.Formulas.{Adds, tree}
+use Rattle.term_table.specs.Formulas.{Adds}
 use Rattle.sort_check.proofs.Nodes.{negated, minus_made, other_made, other_makes}
 use Rattle.sort_check.proofs.making.make.Goals as goal
 
