@@ -1,5 +1,5 @@
 -- Statements of the laws of the normal forms: what holds of a term's form, whichever form it is.
-use Rattle.std.specs.Prelude.{Bool, IsTrue}
+use Rattle.std.specs.Prelude.{IsTrue}
 use Rattle.smt_terms.specs.Sorts.{Name, Symbol}
 use Rattle.smt_terms.specs.Term.{Term}
 use Rattle.smt_terms.specs.Free.{is_among, name_among, free}
@@ -34,7 +34,3 @@ pub record RewritesFresh (t r : Term) (before left : Supply) : Type 0 where
 -- a form that draws names
 abbrev pub RewritesWith : (Term → Supply → Term × Supply) → Type 0
 RewritesWith form = (t : Term) (s : Supply) → IsWellSorted t → GivesNone s (names_within t) → RewritesFresh t (form t s).0 s (form t s).1
-
--- and this test says yes of what it gives
-abbrev pub ShapesWith : (Term → Supply → Term × Supply) → (Term → Bool) → Type 0
-ShapesWith form shape = (t : Term) (s : Supply) → IsWellSorted t → GivesNone s (names_within t) → IsTrue (shape (form t s).0)
