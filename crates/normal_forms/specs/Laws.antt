@@ -9,7 +9,7 @@ use Rattle.smt_terms.specs.Keeps.{Keeps}
 use Rattle.smt_terms.specs.Shapes.{is_clear}
 use Rattle.smt_terms.specs.SubstLaws.{names_within, GivesNone, Later}
 
--- r is well sorted and has t's sort and value in every model; its free symbols are t's; it is clear where t is
+-- r is well sorted and has t's sort and t's value in every model; what is free in r is free in t; r is clear where t is
 pub record Rewrites (t r : Term) : Type 0 where
   pub keeps : Keeps t r
   pub symbols : (g : Symbol) → IsTrue (is_among (free r) g) → IsTrue (is_among (free t) g)

@@ -1,4 +1,6 @@
-//! The laws of the normal forms, each the contract of a function that does nothing.
+//! The laws of the normal forms, each the contract of a function that does nothing. Each form of a well-sorted term is well
+//! sorted, has the term's sort and value in every model and no other free symbols, and is clear where the term is; a supply
+//! that gives no name of the term gives none of the form, whether names were drawn from it or not.
 
 ghost use Rattle.std.specs.Prelude.{IsTrue};
 ghost use Rattle.smt_terms.specs.Term.{Term};
