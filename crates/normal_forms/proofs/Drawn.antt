@@ -1,5 +1,6 @@
 -- Fresh names for all variables of a quantified formula: the quantifier over the new ones, and the body over them.
 use Rattle.std.proofs.Common.{◌≡◌, ◌≤◌, Bool, true, false, ◌⊎◌, inl, inr, List, [], ◌∷◌, map, Some, refl, ap, sym, ◌∙◌}
+use Rattle.std.specs.Prelude.{⊤}
 use Rattle.std.specs.List.{list_all}
 use Rattle.smt_terms.specs.Sorts.{Name, Sort, bool, Symbol, Variable}
 use Rattle.smt_terms.specs.Term.{Term, constant_of, variable}
@@ -25,7 +26,7 @@ use Rattle.smt_terms.proofs.SubstFree.{Source, before, bound, renaming-source, N
 use Rattle.normal_forms.specs.Prenex.{Quantified, whole, quantifiers}
 use Rattle.normal_forms.proofs.Clear.{Clear, to-without}
 use Rattle.normal_forms.proofs.Inside.{in-left, in-right}
-use Rattle.normal_forms.proofs.Substituted.{IsSubst, renamed-have, renamed-all, any_sort, all-any, Unquantified, variable-regular, subst-is, subst-regular, subst-fewer, subst-clear}
+use Rattle.normal_forms.proofs.Substituted.{IsSubst, renamed-have, renamed-all, any_sort, all-any, Unquantified, variable-regular, subst-any, subst-is, subst-regular, subst-fewer, subst-clear}
 
 abbrev pub names : List Variable → List Name
 names xs = map (λ x. x.name) xs
@@ -64,7 +65,6 @@ pub record Draws (f : Quantified) (s : Supply) : Type 0 where
   pub runs : (m : Model) (e : Env) → runs f.quantifier (drawn f s).variables m.sizes (λ d. is_true (val m (renamed_body f s).0 d)) e ≡ is_true (val m (whole f) e)
   pub sorts : is_regular (whole f) ≡ true → list_all (λ y. is_sort y.sort) (drawn f s).variables ≡ true
   pub regular : is_regular (whole f) ≡ true → is_regular (renamed_body f s).0 ≡ true
-  pub fewer : quantifiers (renamed_body f s).0 ≤ quantifiers f.body
   pub later : Later s (renamed_body f s).1
   pub variables : GivesNone (renamed_body f s).1 (names (drawn f s).variables)
   pub names : GivesNone (renamed_body f s).1 (names_within (renamed_body f s).0)
@@ -74,6 +74,11 @@ pub record Draws (f : Quantified) (s : Supply) : Type 0 where
 
 no-image : {A : Type 0} (g : Symbol) (u : Term) → image [] g ≡ Some u → A
 no-image g u found = absurd cc
+
+pub renamed-fewer : (f : Quantified) (s : Supply) → quantifiers (renamed_body f s).0 ≤ quantifiers f.body
+renamed-fewer f s =
+    subst-fewer ⊥ f.body (drawn f s).map (renamed_body f s).0 (subst-any (drawn f s).map f.body (drawn f s).names)
+    (renamed-have Unquantified any_sort (λ y e. refl) (names f.variables) f.variables [] s (all-any f.variables) (λ g u found. no-image g u found))
 
 pub draws : (f : Quantified) (s : Supply) (sort : Sort) → sort_of (whole f) ≡ Some sort → GivesNone s (names_within (whole f)) → Draws f s
 draws f s sort has given = record {
@@ -86,8 +91,7 @@ draws f s sort has given = record {
   sorts = λ regular. renamed-all is_sort c xs [] s ∙ (both_true (list_all (λ y. is_sort y.sort) xs) (is_regular f.body) regular).0;
   regular = λ regular.
       let rules = both_true (list_all (λ y. is_sort y.sort) xs) (is_regular f.body) regular in
-      subst-regular f.body (drawn f s).map (renamed_body f s).0 made rules.1 (renamed-have (λ t. is_regular t ≡ true) is_sort variable-regular c xs [] s rules.0 (λ g u found. no-image g u found));
-  fewer = subst-fewer f.body (drawn f s).map (renamed_body f s).0 made (renamed-have Unquantified any_sort (λ y e. refl) c xs [] s (all-any xs) (λ g u found. no-image g u found));
+      subst-regular ⊤ f.body (drawn f s).map (renamed_body f s).0 made rules.1 (renamed-have (λ t. is_regular t ≡ true) is_sort variable-regular c xs [] s rules.0 (λ g u found. no-image g u found));
   later = λ n never. rest n (later n never);
   variables = λ n among. rest n (spared.variables n among);
   names = subst-spares_names (drawn f s).map f.body (drawn f s).names body spared.images;
@@ -135,7 +139,7 @@ draws f s sort has given = record {
     rest : Later (drawn f s).names (renamed_body f s).1
     rest = subst-gives_later (drawn f s).map f.body (drawn f s).names sorts images body
 
-    made : IsSubst (drawn f s).map f.body (renamed_body f s).0
+    made : IsSubst ⊤ (drawn f s).map f.body (renamed_body f s).0
     made = subst-is (drawn f s).map f.body (drawn f s).names constants images body
 
     left : (g : Symbol) → LeftFree (drawn f s).map (free f.body) g → (is_among (free (whole f)) g ≡ true) ⊎ (is_among (map constant_of (drawn f s).variables) g ≡ true)

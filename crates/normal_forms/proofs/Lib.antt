@@ -12,6 +12,7 @@ pub mod NnfShape
 mod NoBool
 pub mod Replaced
 mod Rows
+pub mod SelfSubShape
 pub mod SelfSubstituted
 pub mod Shannon
 pub mod ShannonInside

@@ -9,7 +9,7 @@ use Rattle.smt_terms.specs.Sorts.{Name, Sort, bool, int, bit_vector, array, free
 use Rattle.smt_terms.specs.Term.{Quantifier, universal, existential, Head, op, symbol, const_array, Term, apply, quantified, Terms, none, ◌⨾◌, constant_of, constant, variable}
 use Rattle.smt_terms.specs.Equal.{name_eq, symbol_eq, term_eq}
 use Rattle.smt_terms.specs.Free.{is_among, name_among, names_of, without, head_symbols, free, free_of}
-use Rattle.smt_terms.specs.Rank.{rank, shape, is_sort, is_minus_of, is_minus, is_whole, is_regular, are_regular, sort_over, with_sort, sort_of, sorts_of, IsWellSorted}
+use Rattle.smt_terms.specs.Rank.{rank, shape, is_sort, is_minus_of, is_minus, is_whole, is_regular, are_regular, sort_over, with_sort, sort_of, sorts_of}
 use Rattle.smt_terms.specs.Values.{Value, Sizes, truth, is_true, is_value, joined}
 use Rattle.smt_terms.specs.Models.{Model, IsModel}
 use Rattle.smt_terms.specs.Val.{Env, assign, runs, head_value, val, vals}
@@ -19,7 +19,7 @@ use Rattle.smt_terms.specs.Constants.{whole_term}
 use Rattle.smt_terms.specs.Fresh.{Supply, NeverGives}
 use Rattle.smt_terms.specs.Subst.{Map, image, subst}
 use Rattle.smt_terms.specs.SubstLaws.{under, value_or, HaveSorts, names_within, names_within_each, GivesNone, GivesNoImage, ReplacesConstants, LeftFree, stays, comes, Later}
-use Rattle.smt_terms.specs.Shapes.{is_bool, no_bool_quantifier, no_bool_quantifiers}
+use Rattle.smt_terms.specs.Shapes.{is_bool}
 use Rattle.smt_terms.proofs.Tests.{both_true, and_true, either_true, left_true, right_true}
 use Rattle.smt_terms.proofs.Equal.{Decides-name_eq, Decides-symbol_eq, Decides-term_eq}
 use Rattle.smt_terms.proofs.Ranked.{rank-takes}
@@ -41,8 +41,7 @@ use Rattle.normal_forms.proofs.AtTruth.{at_truth-sort, at_truth-value}
 use Rattle.normal_forms.proofs.Shannon.{bool_at, bools, runs-bools, kept-distinct, kept-quantifiable, over-left-sort}
 use Rattle.normal_forms.proofs.ShannonRegular.{at_truth-regular, kept-sorts, over-left-regular, head-regular}
 use Rattle.normal_forms.proofs.ShannonInside.{bool_variables, in-less, more-without, at_truth-within, over-left-within, each-map}
-use Rattle.normal_forms.proofs.NoBool.{at_truth-free, kept-not_bool, over-left-free}
-use Rattle.normal_forms.proofs.Substituted.{IsSubst, ImagesHave, subst-is, subst-regular, subst-no_bool, subst-clear}
+use Rattle.normal_forms.proofs.Substituted.{IsSubst, ImagesHave, subst-is, subst-regular, subst-clear}
 use Rattle.normal_forms.proofs.Keeps.{rewrites-from, sort-known}
 
 abbrev Formula : Term → Type 0
@@ -157,7 +156,6 @@ record Taken (A : Model → Env → Bool) (R : Type 0) (fs : List Symbol) (C : T
   sort : Formula r.0
   value : (m : Model) (e : Env) → IsModel m → IsEnv m.sizes e → is_true (val m r.0 e) ≡ A m e
   regular : R → is_regular r.0 ≡ true
-  plain : no_bool_quantifier r.0 ≡ true
   within : Within fs (NeverGives r.1) C r.0
   later : Later n r.1
 
@@ -182,8 +180,7 @@ one-taken : (A : Model → Env → Bool) (R : Type 0) (fs gs : List Symbol) (C :
 one-taken A R fs gs C n q x u s is less taken = record {
   sort = told.0;
   value = at-value A q x u (subst (one x w) u s).0 is taken.sort taken.value told.1;
-  regular = λ given. subst-regular u (one x w) (subst (one x w) u s).0 made (taken.regular given) (one-has (λ t. is_regular t ≡ true) x w (at_truth-regular u (chosen q) x (taken.regular given)));
-  plain = subst-no_bool u (one x w) (subst (one x w) u s).0 made taken.plain (one-has (λ t. no_bool_quantifier t ≡ true) x w (at_truth-free u (chosen q) x taken.plain));
+  regular = λ given. subst-regular ⊤ u (one x w) (subst (one x w) u s).0 made (taken.regular given) (one-has (λ t. is_regular t ≡ true) x w (at_truth-regular u (chosen q) x (taken.regular given)));
   within = record {
     symbols = λ g among. left g (subst-leaves_free (one x w) u s bool taken.sort (one-constants x w) g among);
     names = subst-spares_names (one x w) u s taken.within.names (λ g v found. carry (λ t. GivesNone s (names_within t)) (one-image x w g v found).1 names);
@@ -210,7 +207,7 @@ one-taken A R fs gs C n q x u s is less taken = record {
     told : (sort_of (subst (one x (at_truth (chosen q) x u)) u s).0 ≡ Some bool) × ((m : Model) (e : Env) → val m (subst (one x (at_truth (chosen q) x u)) u s).0 e ≡ val m u (under m (one x (at_truth (chosen q) x u)) e))
     told = subst-keeps_meaning (one x (at_truth (chosen q) x u)) u s sorts images taken.within.names bool taken.sort
 
-    made : IsSubst (one x (at_truth (chosen q) x u)) u (subst (one x (at_truth (chosen q) x u)) u s).0
+    made : IsSubst ⊤ (one x (at_truth (chosen q) x u)) u (subst (one x (at_truth (chosen q) x u)) u s).0
     made = subst-is (one x (at_truth (chosen q) x u)) u s (one-constants x (at_truth (chosen q) x u)) images taken.within.names
 
     left : (g : Symbol) → LeftFree (one x (at_truth (chosen q) x u)) (free u) g → is_among gs g ≡ true
@@ -242,7 +239,6 @@ record Sound (t r : Term) (left : Supply) (s : Sort) : Type 0 where
   sort : sort_of r ≡ Some s
   value : (m : Model) (e : Env) → IsModel m → IsEnv m.sizes e → val m r e ≡ val m t e
   regular : is_regular t ≡ true → is_regular r ≡ true
-  plain : no_bool_quantifier r ≡ true
   within : Within (free t) (NeverGives left) (Clear t) r
 
 sound-later : (t r : Term) (left after : Supply) (s : Sort) → Later left after → Sound t r left s → Sound t r after s
@@ -250,7 +246,6 @@ sound-later t r left after s later sound = record {
   sort = sound.sort;
   value = sound.value;
   regular = sound.regular;
-  plain = sound.plain;
   within = wider (free t) (free t) (NeverGives left) (NeverGives after) (Clear t) (Clear t) r (λ g among. among) later (λ c. c) sound.within;
 }
 
@@ -278,7 +273,6 @@ quantified-sound q xs body b s n r has same names taken =
       regular = λ given.
           let rules = both_true (list_all (λ x. is_sort x.sort) xs) (is_regular body) given in
           over-left-regular q (not_bool xs) r.0 (kept-sorts xs rules.0) (taken.regular rules.1);
-      plain = over-left-free q (not_bool xs) r.0 (kept-not_bool xs) taken.plain;
       within = over-left-within q xs body r.0 (NeverGives r.1) names taken.within;
     }
 
@@ -345,7 +339,6 @@ record Ends (ts : Terms) (ss : List Sort) (s : Solving) (r : Terms × Solving) :
   values : (m : Model) (e : Env) → IsModel m → IsEnv m.sizes e → vals m r.0 e ≡ vals m ts e
   regular : are_regular ts ≡ true → are_regular r.0 ≡ true
   minus : (h : Head) → is_minus_of h r.0 ≡ is_minus_of h ts
-  plain : no_bool_quantifiers r.0 ≡ true
   within : AllOf (WithinEach ts r.1.names) r.0
   solved : AllSound r.1.names r.1.solved
   later : Later s.names r.1.names
@@ -376,7 +369,6 @@ quantified-end q xs body sort s has start below None found = record {
       sort = below.sound.sort;
       value = λ m e model env. refl;
       regular = below.sound.regular;
-      plain = below.sound.plain;
       within = wider (free body) (without [] (free body)) (NeverGives (selfsub_from body s).1.names) (NeverGives (selfsub_from body s).1.names) (Clear body) (Clear body) (selfsub_from body s).0 (λ g among. to-without [] (free body) g among refl) (λ n never. never) (λ c. c) below.sound.within;
       later = λ n never. never;
     }
@@ -414,7 +406,6 @@ mutual
           sort = ap (sort_over h) same ∙ has;
           value = λ m e model env i. head_value m e h (unwrap_or (same i) []) (out.values m e model env i);
           regular = λ given. head-regular h ts (selfsubs_from ts s).0 (out.minus h) given (out.regular (regular h ts given).operands);
-          plain = out.plain;
           within = head-within (free (apply h ts)) (NeverGives left) (ClearEach ts) h (selfsubs_from ts s).0
               (λ g among. (in-first (head_symbols h) (free_of ts) g among, out.later g.name (start.names g.name (in-left (names_of (head_symbols h)) (names_within_each ts) g.name (among-name (head_symbols h) g among)))))
               (each-map (WithinEach ts left) (Within (free (apply h ts)) (NeverGives left) (ClearEach ts)) (λ r i. wider (free_of ts) (free (apply h ts)) (NeverGives left) (NeverGives left) (ClearEach ts) (ClearEach ts) r (in-second (head_symbols h) (free_of ts)) (λ n never. never) (λ c. c) i) (selfsubs_from ts s).0 out.within);
@@ -433,7 +424,6 @@ mutual
     values = λ m e model env. refl;
     regular = λ given. refl;
     minus = λ h. refl;
-    plain = refl;
     within = tt;
     solved = start.solved;
     later = λ n never. never;
@@ -449,7 +439,6 @@ mutual
         values = λ m e model env i. first.sound.value m e model env i ∷ rest.values m e model env i;
         regular = λ given. let parts = both_true (is_regular t) (are_regular ts) given in and_true (is_regular (selfsub_from t s).0) (are_regular (selfsubs_from ts (selfsub_from t s).1).0) (first.sound.regular parts.0) (rest.regular parts.1);
         minus = λ h. first-minus h t ts s a.sort a.first first.sound.sort v;
-        plain = and_true (no_bool_quantifier (selfsub_from t s).0) (no_bool_quantifiers (selfsubs_from ts (selfsub_from t s).1).0) first.sound.plain rest.plain;
         within = (
           wider (free t) (free_of (t ⨾ ts)) (NeverGives v.names) (NeverGives left) (Clear t) (ClearEach (t ⨾ ts)) (selfsub_from t s).0 (in-first (free t) (free_of ts)) rest.later (λ c. c.0) first.sound.within,
           each-map (WithinEach ts left) (WithinEach (t ⨾ ts) left) (λ r i. wider (free_of ts) (free_of (t ⨾ ts)) (NeverGives left) (NeverGives left) (ClearEach ts) (ClearEach (t ⨾ ts)) r (in-second (free t) (free_of ts)) (λ n never. never) (λ c. c.1) i) (selfsubs_from ts (selfsub_from t s).1).0 rest.within,
@@ -474,8 +463,3 @@ selfsub-rewrites t s fine names =
       value = λ m e sort model env has. equal_same sort m.sizes (sym (out.sound.value m e model env));
     } in
     record { rewrites = rewrites-from t (selfsub t s).0 found.0 found.1 keeps out.sound.within.symbols out.sound.within.clear; later = out.later; names = out.sound.within.names }
-
-pub selfsub-no_bool : (t : Term) (s : Supply) → IsWellSorted t → GivesNone s (names_within t) → no_bool_quantifier (selfsub t s).0 ≡ true
-selfsub-no_bool t s fine names =
-    let found = sort-known t fine in
-    (selfsub-end t found.0 (record { names = s; solved = [] }) found.1 (started t s names)).sound.plain

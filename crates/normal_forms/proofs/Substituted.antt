@@ -32,14 +32,15 @@ use Rattle.normal_forms.proofs.Inside.{in-left, in-right}
 
 -- ---- the relation
 
--- of a quantified term under a cut map: what P says of the body under the renaming
-pub record Bound (P : Map → Term → Type 0) (cut : Map) (q : Quantifier) (xs : List Variable) (body r : Term) : Type 0 where
+-- of a quantified term under a cut map: what P says of the body under the renaming; and, where K holds, that the supply gives
+-- no name of the term or of an image, and what is free afterwards
+pub record Bound (K : Type 0) (P : Map → Term → Type 0) (cut : Map) (q : Quantifier) (xs : List Variable) (body r : Term) : Type 0 where
   pub supply : Supply
   pub inner : Term
-  pub names : GivesNone supply (names_within (quantified q xs body))
-  pub images : GivesNoImage supply cut
+  pub names : K → GivesNone supply (names_within (quantified q xs body))
+  pub images : K → GivesNoImage supply cut
   pub below : P (renaming (names_in cut) xs cut supply).map inner
-  pub left : IsLeft (renaming (names_in cut) xs cut supply).map body inner
+  pub left : K → IsLeft (renaming (names_in cut) xs cut supply).map body inner
   pub result : quantified q (renaming (names_in cut) xs cut supply).variables inner ≡ r
 
 pub record Over (P : Terms → Type 0) (f : Map) (h : Head) (r : Term) : Type 0 where
@@ -48,126 +49,130 @@ pub record Over (P : Terms → Type 0) (f : Map) (h : Head) (r : Term) : Type 0 
   pub result : rebuilt f h operands ≡ r
 
 abbrev mutual
-  pub IsSubst : Map → Term → Term → Type 0
-  IsSubst f (apply h ts) r = Over (λ us. AreSubsts f ts us) f h r
-  IsSubst f (quantified q xs body) r = Bound (λ g b. IsSubst g body b) (cut_to (without xs (free body)) f) q xs body r
+  pub IsSubst : Type 0 → Map → Term → Term → Type 0
+  IsSubst K f (apply h ts) r = Over (λ us. AreSubsts K f ts us) f h r
+  IsSubst K f (quantified q xs body) r = Bound K (λ g b. IsSubst K g body b) (cut_to (without xs (free body)) f) q xs body r
 
-  pub AreSubsts : Map → Terms → Terms → Type 0
-  AreSubsts f none none = ⊤
-  AreSubsts f (t ⨾ ts) (u ⨾ us) = IsSubst f t u × AreSubsts f ts us
-  AreSubsts f _ _ = ⊥
+  pub AreSubsts : Type 0 → Map → Terms → Terms → Type 0
+  AreSubsts K f none none = ⊤
+  AreSubsts K f (t ⨾ ts) (u ⨾ us) = IsSubst K f t u × AreSubsts K f ts us
+  AreSubsts K f _ _ = ⊥
 
 -- ---- what substitution gives is such
 
-abbrev IsChosen : Map → Term → Term → Type 0
-IsChosen cut (apply h ts) r = ⊥
-IsChosen cut (quantified q xs body) r = Bound (λ g b. IsSubst g body b) cut q xs body r
+abbrev IsChosen : Type 0 → Map → Term → Term → Type 0
+IsChosen K cut (apply h ts) r = ⊥
+IsChosen K cut (quantified q xs body) r = Bound K (λ g b. IsSubst K g body b) cut q xs body r
 
-abbrev AllChosen : List Chosen → Type 0
-AllChosen [] = ⊤
-AllChosen (c ∷ cs) = IsChosen c.cut c.term c.result × AllChosen cs
+abbrev AllChosen : Type 0 → List Chosen → Type 0
+AllChosen K [] = ⊤
+AllChosen K (c ∷ cs) = IsChosen K c.cut c.term c.result × AllChosen K cs
 
-found-chosen : (cs : List Chosen) (f : Map) (t r : Term) → AllChosen cs → chosen_for cs f t ≡ Some r → IsChosen f t r
-found-chosen [] f t r all found = absurd cc
-found-chosen (c ∷ cs) f t r all found = go (map_eq c.cut f && term_eq c.term t) refl found (found-chosen cs f t r all.1)
+found-chosen : (K : Type 0) (cs : List Chosen) (f : Map) (t r : Term) → AllChosen K cs → chosen_for cs f t ≡ Some r → IsChosen K f t r
+found-chosen K [] f t r all found = absurd cc
+found-chosen K (c ∷ cs) f t r all found = go (map_eq c.cut f && term_eq c.term t) refl found (found-chosen K cs f t r all.1)
   where
-    go : (b : Bool) → (map_eq c.cut f && term_eq c.term t) ≡ b → cond b (Some c.result) (chosen_for cs f t) ≡ Some r → (chosen_for cs f t ≡ Some r → IsChosen f t r) → IsChosen f t r
+    go : (b : Bool) → (map_eq c.cut f && term_eq c.term t) ≡ b → cond b (Some c.result) (chosen_for cs f t) ≡ Some r → (chosen_for cs f t ≡ Some r → IsChosen K f t r) → IsChosen K f t r
     go true e h below =
         let parts = both_true (map_eq c.cut f) (term_eq c.term t) e in
         let cut : c.cut ≡ f = map-same c.cut f parts.0 in
         let term : c.term ≡ t = (Decides-term_eq c.term t).0 parts.1 in
         let result : c.result ≡ r = cc in
-        carry (λ g. IsChosen g t r) cut (carry (λ u. IsChosen c.cut u r) term (carry (λ u. IsChosen c.cut c.term u) result all.0))
+        carry (λ g. IsChosen K g t r) cut (carry (λ u. IsChosen K c.cut u r) term (carry (λ u. IsChosen K c.cut c.term u) result all.0))
     go false e h below = below h
 
-record Start (f : Map) (ns : List Name) (s : Choices) : Type 0 where
-  constants : ReplacesConstants f
-  images : GivesNoImage s.names f
-  names : GivesNone s.names ns
-  chosen : AllChosen s.chosen
-  left : AllLeft s.chosen
+record Start (K : Type 0) (f : Map) (ns : List Name) (s : Choices) : Type 0 where
+  constants : K → ReplacesConstants f
+  images : K → GivesNoImage s.names f
+  names : K → GivesNone s.names ns
+  chosen : AllChosen K s.chosen
+  left : K → AllLeft s.chosen
 
-record End (f : Map) (t : Term) (s : Choices) (r : Term × Choices) : Type 0 where
-  is : IsSubst f t r.0
-  chosen : AllChosen r.1.chosen
-  leaves : Leaves f t r
+record End (K : Type 0) (f : Map) (t : Term) (s : Choices) (r : Term × Choices) : Type 0 where
+  is : IsSubst K f t r.0
+  chosen : AllChosen K r.1.chosen
+  leaves : K → Leaves f t r
   later : Later s.names r.1.names
 
-record Ends (f : Map) (ts : Terms) (s : Choices) (r : Terms × Choices) : Type 0 where
-  are : AreSubsts f ts r.0
-  chosen : AllChosen r.1.chosen
-  left : AllLeft r.1.chosen
+record Ends (K : Type 0) (f : Map) (ts : Terms) (s : Choices) (r : Terms × Choices) : Type 0 where
+  are : AreSubsts K f ts r.0
+  chosen : AllChosen K r.1.chosen
+  left : K → AllLeft r.1.chosen
   later : Later s.names r.1.names
 
-kept-end : (f : Map) (q : Quantifier) (xs : List Variable) (body : Term) (s : Choices) → Start f (names_within (quantified q xs body)) s
-    → ((g : Map) (t : Choices) → Start g (names_within body) t → End g body t (subst_from g body t))
-    → Leaves f (quantified q xs body) (subst_from f (quantified q xs body) s)
+kept-end : (K : Type 0) (f : Map) (q : Quantifier) (xs : List Variable) (body : Term) (s : Choices) → Start K f (names_within (quantified q xs body)) s
+    → ((g : Map) (t : Choices) → Start K g (names_within body) t → End K g body t (subst_from g body t))
+    → (K → Leaves f (quantified q xs body) (subst_from f (quantified q xs body) s))
     → (o : Option Term) → chosen_for s.chosen (cut_to (without xs (free body)) f) (quantified q xs body) ≡ o
     → (r : Term × Choices) → subst_from f (quantified q xs body) s ≡ r
     → kept_or o s (λ s'. keep (cut_to (without xs (free body)) f) (quantified q xs body) (quantify q (renaming (names_in (cut_to (without xs (free body)) f)) xs (cut_to (without xs (free body)) f) s'.names) s'.chosen (λ m' s''. subst_from m' body s''))) ≡ r
-    → End f (quantified q xs body) s r
-kept-end f q xs body s start below leaves (Some w) found r whole e =
-    let is : IsSubst f (quantified q xs body) w = found-chosen s.chosen (cut_to (without xs (free body)) f) (quantified q xs body) w start.chosen found in
-    carry (End f (quantified q xs body) s) e (record { is = is; chosen = start.chosen; leaves = carry (Leaves f (quantified q xs body)) (whole ∙ sym e) leaves; later = λ n never. never })
-kept-end f q xs body s start below leaves None found r whole e =
+    → End K f (quantified q xs body) s r
+kept-end K f q xs body s start below leaves (Some w) found r whole e =
+    let is : IsSubst K f (quantified q xs body) w = found-chosen K s.chosen (cut_to (without xs (free body)) f) (quantified q xs body) w start.chosen found in
+    carry (End K f (quantified q xs body) s) e (record { is = is; chosen = start.chosen; leaves = λ k. carry (Leaves f (quantified q xs body)) (whole ∙ sym e) (leaves k); later = λ n never. never })
+kept-end K f q xs body s start below leaves None found r whole e =
     let cut : Map = cut_to (without xs (free body)) f in
     let c : List Name = names_in cut in
     let t : Choices = record { names = (renaming c xs cut s.names).names; chosen = s.chosen } in
-    let images : GivesNoImage s.names cut = cut-spared s.names (without xs (free body)) f start.images in
+    let images : K → GivesNoImage s.names cut = λ k. cut-spared s.names (without xs (free body)) f (start.images k) in
     let later : Later s.names t.names = renaming-later c xs cut s.names in
-    let out : End (renaming c xs cut s.names).map body t (subst_from (renaming c xs cut s.names).map body t) = below (renaming c xs cut s.names).map t (record {
-      constants = renaming-constants c xs cut s.names (cut-constants (without xs (free body)) f start.constants);
-      images = renaming-spared c xs cut s.names images;
-      names = λ n among. later n (start.names n (in-right (map (λ x. x.name) xs) (names_within body) n among));
+    let out : End K (renaming c xs cut s.names).map body t (subst_from (renaming c xs cut s.names).map body t) = below (renaming c xs cut s.names).map t (record {
+      constants = λ k. renaming-constants c xs cut s.names (cut-constants (without xs (free body)) f (start.constants k));
+      images = λ k. renaming-spared c xs cut s.names (images k);
+      names = λ k n among. later n (start.names k n (in-right (map (λ x. x.name) xs) (names_within body) n among));
       chosen = start.chosen;
       left = start.left;
     }) in
-    let is : IsSubst f (quantified q xs body) (quantified q (renaming c xs cut s.names).variables (subst_from (renaming c xs cut s.names).map body t).0) = record {
+    let is : IsSubst K f (quantified q xs body) (quantified q (renaming c xs cut s.names).variables (subst_from (renaming c xs cut s.names).map body t).0) = record {
       supply = s.names;
       inner = (subst_from (renaming c xs cut s.names).map body t).0;
       names = start.names;
       images = images;
       below = out.is;
-      left = out.leaves.result;
+      left = λ k. (out.leaves k).result;
       result = refl;
     } in
-    carry (End f (quantified q xs body) s) e (record {
+    carry (End K f (quantified q xs body) s) e (record {
       is = is;
       chosen = (is, out.chosen);
-      leaves = carry (Leaves f (quantified q xs body)) (whole ∙ sym e) leaves;
+      leaves = λ k. carry (Leaves f (quantified q xs body)) (whole ∙ sym e) (leaves k);
       later = λ n never. out.later n (later n never);
     })
 
 mutual
-  subst_from-end : (t : Term) (f : Map) (s : Choices) → Start f (names_within t) s → End f t s (subst_from f t s)
-  subst_from-end (apply h ts) f s start =
-      let out : Ends f ts s (substs_from f ts s) = substs_from-ends ts f s (record { constants = start.constants; images = start.images; names = λ n among. start.names n (in-right (names_of (head_symbols h)) (names_within_each ts) n among); chosen = start.chosen; left = start.left }) in
+  subst_from-end : (K : Type 0) (t : Term) (f : Map) (s : Choices) → Start K f (names_within t) s → End K f t s (subst_from f t s)
+  subst_from-end K (apply h ts) f s start =
+      let out : Ends K f ts s (substs_from f ts s) = substs_from-ends K ts f s (record { constants = start.constants; images = start.images; names = λ k n among. start.names k n (in-right (names_of (head_symbols h)) (names_within_each ts) n among); chosen = start.chosen; left = start.left }) in
       record {
         is = record { operands = (substs_from f ts s).0; each = out.are; result = refl };
         chosen = out.chosen;
-        leaves = subst_from-leaves (apply h ts) f s start.constants start.left;
+        leaves = λ k. subst_from-leaves (apply h ts) f s (start.constants k) (start.left k);
         later = out.later;
       }
-  subst_from-end (quantified q xs body) f s start =
-      kept-end f q xs body s start (λ g t st. subst_from-end body g t st) (subst_from-leaves (quantified q xs body) f s start.constants start.left)
+  subst_from-end K (quantified q xs body) f s start =
+      kept-end K f q xs body s start (λ g t st. subst_from-end K body g t st) (λ k. subst_from-leaves (quantified q xs body) f s (start.constants k) (start.left k))
       (chosen_for s.chosen (cut_to (without xs (free body)) f) (quantified q xs body)) refl (subst_from f (quantified q xs body) s) refl refl
 
-  substs_from-ends : (ts : Terms) (f : Map) (s : Choices) → Start f (names_within_each ts) s → Ends f ts s (substs_from f ts s)
-  substs_from-ends none f s start = record { are = tt; chosen = start.chosen; left = start.left; later = λ n never. never }
-  substs_from-ends (t ⨾ ts) f s start =
-      let first : End f t s (subst_from f t s) = subst_from-end t f s (record { constants = start.constants; images = start.images; names = λ n among. start.names n (in-left (names_within t) (names_within_each ts) n among); chosen = start.chosen; left = start.left }) in
-      let rest : Ends f ts (subst_from f t s).1 (substs_from f ts (subst_from f t s).1) = substs_from-ends ts f (subst_from f t s).1 (record {
+  substs_from-ends : (K : Type 0) (ts : Terms) (f : Map) (s : Choices) → Start K f (names_within_each ts) s → Ends K f ts s (substs_from f ts s)
+  substs_from-ends K none f s start = record { are = tt; chosen = start.chosen; left = start.left; later = λ n never. never }
+  substs_from-ends K (t ⨾ ts) f s start =
+      let first : End K f t s (subst_from f t s) = subst_from-end K t f s (record { constants = start.constants; images = start.images; names = λ k n among. start.names k n (in-left (names_within t) (names_within_each ts) n among); chosen = start.chosen; left = start.left }) in
+      let rest : Ends K f ts (subst_from f t s).1 (substs_from f ts (subst_from f t s).1) = substs_from-ends K ts f (subst_from f t s).1 (record {
         constants = start.constants;
-        images = λ g u found n among. first.later n (start.images g u found n among);
-        names = λ n among. first.later n (start.names n (in-right (names_within t) (names_within_each ts) n among));
+        images = λ k g u found n among. first.later n (start.images k g u found n among);
+        names = λ k n among. first.later n (start.names k n (in-right (names_within t) (names_within_each ts) n among));
         chosen = first.chosen;
-        left = first.leaves.kept;
+        left = λ k. (first.leaves k).kept;
       }) in
       record { are = (first.is, rest.are); chosen = rest.chosen; left = rest.left; later = λ n never. rest.later n (first.later n never) }
 
-pub subst-is : (f : Map) (t : Term) (s : Supply) → ReplacesConstants f → GivesNoImage s f → GivesNone s (names_within t) → IsSubst f t (subst f t s).0
+-- in any case, and where the supply gives none of these names
+pub subst-any : (f : Map) (t : Term) (s : Supply) → IsSubst ⊥ f t (subst f t s).0
+subst-any f t s = (subst_from-end ⊥ t f (record { names = s; chosen = [] }) (record { constants = λ k. absurd k; images = λ k. absurd k; names = λ k. absurd k; chosen = tt; left = λ k. absurd k })).is
+
+pub subst-is : (f : Map) (t : Term) (s : Supply) → ReplacesConstants f → GivesNoImage s f → GivesNone s (names_within t) → IsSubst ⊤ f t (subst f t s).0
 unfolding AllLeft
-subst-is f t s constants images names = (subst_from-end t f (record { names = s; chosen = [] }) (record { constants = constants; images = images; names = names; chosen = tt; left = tt })).is
+subst-is f t s constants images names = (subst_from-end ⊤ t f (record { names = s; chosen = [] }) (record { constants = λ k. constants; images = λ k. images; names = λ k. names; chosen = tt; left = λ k. tt })).is
 
 -- ---- what holds of renamed variables and of their images
 
@@ -177,7 +182,7 @@ ImagesHave P f = (g : Symbol) (u : Term) → image f g ≡ Some u → P u
 pub cut-have : (P : Term → Type 0) (fs : List Symbol) (f : Map) → ImagesHave P f → ImagesHave P (cut_to fs f)
 cut-have P fs f have g u found = have g u (cut-image fs f g u found).1
 
-front-have : (P : Term → Type 0) (x : Variable) (t : Term) (f : Map) → P t → ImagesHave P f → ImagesHave P ((constant_of x, t) ∷ f)
+pub front-have : (P : Term → Type 0) (x : Variable) (t : Term) (f : Map) → P t → ImagesHave P f → ImagesHave P ((constant_of x, t) ∷ f)
 front-have P x t f here have g u found = go (symbol_eq (constant_of x) g) found
   where
     go : (b : Bool) → cond b (Some t) (image f g) ≡ Some u → P u
@@ -261,21 +266,21 @@ rebuilt-regular f (op o) ts us given have each = made-has Regular (op o) us (λ 
 rebuilt-regular f (const_array s) ts us given have each = regular_over (const_array s) us (record { head = (regular (const_array s) ts given).head; no_minus = refl; operands = each })
 
 mutual
-  pub subst-regular : (t : Term) (f : Map) (r : Term) → IsSubst f t r → is_regular t ≡ true → ImagesHave Regular f → is_regular r ≡ true
-  subst-regular (apply h ts) f r is given have = carry Regular is.result (rebuilt-regular f h ts is.operands given have (substs-regular ts f is.operands is.each (regular h ts given).operands have))
-  subst-regular (quantified q xs body) f r is given have =
+  pub subst-regular : (K : Type 0) (t : Term) (f : Map) (r : Term) → IsSubst K f t r → is_regular t ≡ true → ImagesHave Regular f → is_regular r ≡ true
+  subst-regular K (apply h ts) f r is given have = carry Regular is.result (rebuilt-regular f h ts is.operands given have (substs-regular K ts f is.operands is.each (regular h ts given).operands have))
+  subst-regular K (quantified q xs body) f r is given have =
       let cut : Map = cut_to (without xs (free body)) f in
       let parts = both_true (list_all (λ x. is_sort x.sort) xs) (is_regular body) given in
       let images : ImagesHave Regular (renaming (names_in cut) xs cut is.supply).map = renamed-have Regular is_sort variable-regular (names_in cut) xs cut is.supply parts.0 (cut-have Regular (without xs (free body)) f have) in
-      carry Regular is.result (and_true (list_all (λ x. is_sort x.sort) (renaming (names_in cut) xs cut is.supply).variables) (is_regular is.inner) (renamed-all is_sort (names_in cut) xs cut is.supply ∙ parts.0) (subst-regular body (renaming (names_in cut) xs cut is.supply).map is.inner is.below parts.1 images))
+      carry Regular is.result (and_true (list_all (λ x. is_sort x.sort) (renaming (names_in cut) xs cut is.supply).variables) (is_regular is.inner) (renamed-all is_sort (names_in cut) xs cut is.supply ∙ parts.0) (subst-regular K body (renaming (names_in cut) xs cut is.supply).map is.inner is.below parts.1 images))
 
-  substs-regular : (ts : Terms) (f : Map) (us : Terms) → AreSubsts f ts us → are_regular ts ≡ true → ImagesHave Regular f → are_regular us ≡ true
-  substs-regular none f none are given have = refl
-  substs-regular (t ⨾ ts) f (u ⨾ us) are given have =
+  substs-regular : (K : Type 0) (ts : Terms) (f : Map) (us : Terms) → AreSubsts K f ts us → are_regular ts ≡ true → ImagesHave Regular f → are_regular us ≡ true
+  substs-regular K none f none are given have = refl
+  substs-regular K (t ⨾ ts) f (u ⨾ us) are given have =
       let parts = both_true (is_regular t) (are_regular ts) given in
-      and_true (is_regular u) (are_regular us) (subst-regular t f u are.0 parts.0 have) (substs-regular ts f us are.1 parts.1 have)
-  substs-regular none f (u ⨾ us) are given have = absurd are
-  substs-regular (t ⨾ ts) f none are given have = absurd are
+      and_true (is_regular u) (are_regular us) (subst-regular K t f u are.0 parts.0 have) (substs-regular K ts f us are.1 parts.1 have)
+  substs-regular K none f (u ⨾ us) are given have = absurd are
+  substs-regular K (t ⨾ ts) f none are given have = absurd are
 
 -- ---- no quantifier over truth values
 
@@ -289,21 +294,21 @@ rebuilt-no_bool f (op o) us have each = made-has NoBool (op o) us (λ e. each) (
 rebuilt-no_bool f (const_array s) us have each = each
 
 mutual
-  pub subst-no_bool : (t : Term) (f : Map) (r : Term) → IsSubst f t r → no_bool_quantifier t ≡ true → ImagesHave NoBool f → no_bool_quantifier r ≡ true
-  subst-no_bool (apply h ts) f r is given have = carry NoBool is.result (rebuilt-no_bool f h is.operands have (substs-no_bool ts f is.operands is.each given have))
-  subst-no_bool (quantified q xs body) f r is given have =
+  pub subst-no_bool : (K : Type 0) (t : Term) (f : Map) (r : Term) → IsSubst K f t r → no_bool_quantifier t ≡ true → ImagesHave NoBool f → no_bool_quantifier r ≡ true
+  subst-no_bool K (apply h ts) f r is given have = carry NoBool is.result (rebuilt-no_bool f h is.operands have (substs-no_bool K ts f is.operands is.each given have))
+  subst-no_bool K (quantified q xs body) f r is given have =
       let cut : Map = cut_to (without xs (free body)) f in
       let parts = both_true (not (list_any (λ x. is_bool x.sort) xs)) (no_bool_quantifier body) given in
       let images : ImagesHave NoBool (renaming (names_in cut) xs cut is.supply).map = renamed-have NoBool any_sort (λ y e. refl) (names_in cut) xs cut is.supply (all-any xs) (cut-have NoBool (without xs (free body)) f have) in
-      carry NoBool is.result (and_true (not (list_any (λ x. is_bool x.sort) (renaming (names_in cut) xs cut is.supply).variables)) (no_bool_quantifier is.inner) (ap not (renamed-any is_bool (names_in cut) xs cut is.supply) ∙ parts.0) (subst-no_bool body (renaming (names_in cut) xs cut is.supply).map is.inner is.below parts.1 images))
+      carry NoBool is.result (and_true (not (list_any (λ x. is_bool x.sort) (renaming (names_in cut) xs cut is.supply).variables)) (no_bool_quantifier is.inner) (ap not (renamed-any is_bool (names_in cut) xs cut is.supply) ∙ parts.0) (subst-no_bool K body (renaming (names_in cut) xs cut is.supply).map is.inner is.below parts.1 images))
 
-  substs-no_bool : (ts : Terms) (f : Map) (us : Terms) → AreSubsts f ts us → no_bool_quantifiers ts ≡ true → ImagesHave NoBool f → no_bool_quantifiers us ≡ true
-  substs-no_bool none f none are given have = refl
-  substs-no_bool (t ⨾ ts) f (u ⨾ us) are given have =
+  substs-no_bool : (K : Type 0) (ts : Terms) (f : Map) (us : Terms) → AreSubsts K f ts us → no_bool_quantifiers ts ≡ true → ImagesHave NoBool f → no_bool_quantifiers us ≡ true
+  substs-no_bool K none f none are given have = refl
+  substs-no_bool K (t ⨾ ts) f (u ⨾ us) are given have =
       let parts = both_true (no_bool_quantifier t) (no_bool_quantifiers ts) given in
-      and_true (no_bool_quantifier u) (no_bool_quantifiers us) (subst-no_bool t f u are.0 parts.0 have) (substs-no_bool ts f us are.1 parts.1 have)
-  substs-no_bool none f (u ⨾ us) are given have = absurd are
-  substs-no_bool (t ⨾ ts) f none are given have = absurd are
+      and_true (no_bool_quantifier u) (no_bool_quantifiers us) (subst-no_bool K t f u are.0 parts.0 have) (substs-no_bool K ts f us are.1 parts.1 have)
+  substs-no_bool K none f (u ⨾ us) are given have = absurd are
+  substs-no_bool K (t ⨾ ts) f none are given have = absurd are
 
 -- ---- no more quantifiers, where the images have none
 
@@ -319,22 +324,22 @@ rebuilt-fewer f (op o) us n have each = made-has (λ t. quantifiers t ≤ n) (op
 rebuilt-fewer f (const_array s) us n have each = each
 
 mutual
-  pub subst-fewer : (t : Term) (f : Map) (r : Term) → IsSubst f t r → ImagesHave Unquantified f → quantifiers r ≤ quantifiers t
-  subst-fewer (apply h ts) f r is have = carry (λ u. quantifiers u ≤ quantifiers_of ts) is.result (rebuilt-fewer f h is.operands (quantifiers_of ts) have (substs-fewer ts f is.operands is.each have))
-  subst-fewer (quantified q xs body) f r is have =
+  pub subst-fewer : (K : Type 0) (t : Term) (f : Map) (r : Term) → IsSubst K f t r → ImagesHave Unquantified f → quantifiers r ≤ quantifiers t
+  subst-fewer K (apply h ts) f r is have = carry (λ u. quantifiers u ≤ quantifiers_of ts) is.result (rebuilt-fewer f h is.operands (quantifiers_of ts) have (substs-fewer K ts f is.operands is.each have))
+  subst-fewer K (quantified q xs body) f r is have =
       let cut : Map = cut_to (without xs (free body)) f in
       let images : ImagesHave Unquantified (renaming (names_in cut) xs cut is.supply).map = renamed-have Unquantified any_sort (λ y e. refl) (names_in cut) xs cut is.supply (all-any xs) (cut-have Unquantified (without xs (free body)) f have) in
-      let inner : quantifiers is.inner ≤ quantifiers body = subst-fewer body (renaming (names_in cut) xs cut is.supply).map is.inner is.below images in
+      let inner : quantifiers is.inner ≤ quantifiers body = subst-fewer K body (renaming (names_in cut) xs cut is.supply).map is.inner is.below images in
       carry (λ u. quantifiers u ≤ suc (quantifiers body)) is.result (omega arith)
 
-  substs-fewer : (ts : Terms) (f : Map) (us : Terms) → AreSubsts f ts us → ImagesHave Unquantified f → quantifiers_of us ≤ quantifiers_of ts
-  substs-fewer none f none are have = omega arith
-  substs-fewer (t ⨾ ts) f (u ⨾ us) are have =
-      let first : quantifiers u ≤ quantifiers t = subst-fewer t f u are.0 have in
-      let rest : quantifiers_of us ≤ quantifiers_of ts = substs-fewer ts f us are.1 have in
+  substs-fewer : (K : Type 0) (ts : Terms) (f : Map) (us : Terms) → AreSubsts K f ts us → ImagesHave Unquantified f → quantifiers_of us ≤ quantifiers_of ts
+  substs-fewer K none f none are have = omega arith
+  substs-fewer K (t ⨾ ts) f (u ⨾ us) are have =
+      let first : quantifiers u ≤ quantifiers t = subst-fewer K t f u are.0 have in
+      let rest : quantifiers_of us ≤ quantifiers_of ts = substs-fewer K ts f us are.1 have in
       omega arith
-  substs-fewer none f (u ⨾ us) are have = absurd are
-  substs-fewer (t ⨾ ts) f none are have = absurd are
+  substs-fewer K none f (u ⨾ us) are have = absurd are
+  substs-fewer K (t ⨾ ts) f none are have = absurd are
 
 -- ---- clear terms
 
@@ -394,25 +399,25 @@ bound-sees (y ∷ ys) g distinct among =
     go apart (inr there) below = ((λ e. absurd (never (has_name y.name (map (λ z. z.name) ys)) apart (named ys there e))), below there)
 
 -- free below the renamed quantifier: what it was before, or what comes with an image
-quantified-clear : (f : Map) (q : Quantifier) (xs : List Variable) (body : Term) (r : Term) (sort : Sort) → sort_of (quantified q xs body) ≡ Some sort → (is : Bound (λ g b. IsSubst g body b) (cut_to (without xs (free body)) f) q xs body r) → Clear (quantified q xs body)
+quantified-clear : (f : Map) (q : Quantifier) (xs : List Variable) (body : Term) (r : Term) (sort : Sort) → sort_of (quantified q xs body) ≡ Some sort → (is : Bound ⊤ (λ g b. IsSubst ⊤ g body b) (cut_to (without xs (free body)) f) q xs body r) → Clear (quantified q xs body)
     → (g : Symbol) → is_among (free is.inner) g ≡ true → Sees (renaming (names_in (cut_to (without xs (free body)) f)) xs (cut_to (without xs (free body)) f) is.supply).variables g
 unfolding IsLeft
-quantified-clear f q xs body r sort has is clear g among = go (is.left bool (quantified_sort q xs body sort has).body g among)
+quantified-clear f q xs body r sort has is clear g among = go (is.left tt bool (quantified_sort q xs body sort has).body g among)
   where
     cut : Map
     cut = cut_to (without xs (free body)) f
 
     distinct : are_distinct (map (λ y. y.name) (renaming (names_in (cut_to (without xs (free body)) f)) xs (cut_to (without xs (free body)) f) is.supply).variables) ≡ true
-    distinct = (bindable-parts (renaming (names_in cut) xs cut is.supply).variables (renaming-bindable (names_in cut) xs cut is.supply (quantified_sort q xs body sort has).bindable (variables-spared is.supply xs (λ n inside. is.names n (in-left (map (λ x. x.name) xs) (names_within body) n inside))))).0
+    distinct = (bindable-parts (renaming (names_in cut) xs cut is.supply).variables (renaming-bindable (names_in cut) xs cut is.supply (quantified_sort q xs body sort has).bindable (variables-spared is.supply xs (λ n inside. is.names tt n (in-left (map (λ x. x.name) xs) (names_within body) n inside))))).0
 
     go : LeftFree (renaming (names_in (cut_to (without xs (free body)) f)) xs (cut_to (without xs (free body)) f) is.supply).map (free body) g → Sees (renaming (names_in (cut_to (without xs (free body)) f)) xs (cut_to (without xs (free body)) f) is.supply).variables g
     go (stays there none_) =
-        renamed-sees (names_in cut) xs cut is.supply g (symbols-spared is.supply body (λ n inside. is.names n (in-right (map (λ x. x.name) xs) (names_within body) n inside)) g there) (clear.0 g there)
+        renamed-sees (names_in cut) xs cut is.supply g (symbols-spared is.supply body (λ n inside. is.names tt n (in-right (map (λ x. x.name) xs) (names_within body) n inside)) g there) (clear.0 g there)
     go (comes h u there found inside) = from (renaming-source (names_in cut) xs cut is.supply h u found)
       where
         from : Source (cut_to (without xs (free body)) f) (renaming (names_in (cut_to (without xs (free body)) f)) xs (cut_to (without xs (free body)) f) is.supply).variables h u → Sees (renaming (names_in (cut_to (without xs (free body)) f)) xs (cut_to (without xs (free body)) f) is.supply).variables g
         from (before e) =
-            unnamed-sees (names_in cut) xs cut is.supply g (is.images h u e g.name (among-name (free u) g inside)) (names-apart xs cut h u e g.name (among-name (free u) g inside))
+            unnamed-sees (names_in cut) xs cut is.supply g (is.images tt h u e g.name (among-name (free u) g inside)) (names-apart xs cut h u e g.name (among-name (free u) g inside))
         from (bound y e within) =
             let same : constant_of y ≡ g = one-symbol (constant_of y) g (ap (λ t. is_among (free t) g) (sym e) ∙ inside) in
             bound-sees (renaming (names_in cut) xs cut is.supply).variables g distinct (ap (is_among (map constant_of (renaming (names_in cut) xs cut is.supply).variables)) (sym same) ∙ within)
@@ -424,7 +429,7 @@ rebuilt-clear f (op o) us have each = made-has Clear (op o) us (λ e. each) (λ 
 rebuilt-clear f (const_array s) us have each = each
 
 mutual
-  pub subst-clear : (t : Term) (f : Map) (r : Term) (s : Sort) → sort_of t ≡ Some s → IsSubst f t r → Clear t → ImagesHave Clear f → Clear r
+  pub subst-clear : (t : Term) (f : Map) (r : Term) (s : Sort) → sort_of t ≡ Some s → IsSubst ⊤ f t r → Clear t → ImagesHave Clear f → Clear r
   subst-clear (apply h ts) f r s has is clear have =
       let a = applied h ts s has in
       carry Clear is.result (rebuilt-clear f h is.operands have (substs-clear ts f is.operands a.sorts a.operands is.each clear have))
@@ -433,7 +438,7 @@ mutual
       let images : ImagesHave Clear (renaming (names_in cut) xs cut is.supply).map = renamed-have Clear any_sort (λ y e. tt) (names_in cut) xs cut is.supply (all-any xs) (cut-have Clear (without xs (free body)) f have) in
       carry Clear is.result (quantified-clear f q xs body r s has is clear, subst-clear body (renaming (names_in cut) xs cut is.supply).map is.inner bool (quantified_sort q xs body s has).body is.below clear.1 images)
 
-  substs-clear : (ts : Terms) (f : Map) (us : Terms) (ss : List Sort) → sorts_of ts ≡ Some ss → AreSubsts f ts us → ClearEach ts → ImagesHave Clear f → ClearEach us
+  substs-clear : (ts : Terms) (f : Map) (us : Terms) (ss : List Sort) → sorts_of ts ≡ Some ss → AreSubsts ⊤ f ts us → ClearEach ts → ImagesHave Clear f → ClearEach us
   substs-clear none f none ss has are clear have = tt
   substs-clear (t ⨾ ts) f (u ⨾ us) ss has are clear have =
       let a = sorted t ts ss has in

@@ -20,7 +20,7 @@ use Rattle.smt_terms.proofs.SortsOfTerms.{regular}
 use Rattle.smt_terms.proofs.Built.{sense, Means, means-itself}
 use Rattle.smt_terms.proofs.Keeping.{keeps_itself}
 use Rattle.smt_terms.proofs.Substitution.{symbols-spared}
-use Rattle.normal_forms.specs.Laws.{RewritesFresh, RewritesWith, ShapesWith}
+use Rattle.normal_forms.specs.Laws.{RewritesFresh, RewritesWith}
 use Rattle.normal_forms.specs.Nnf.{nnf}
 use Rattle.normal_forms.specs.Prenex.{Quantified, whole, through, leftmost, leftmost_of, replaced, quantifiers, quantifiers_of, pulled, prenex_turns, prenex}
 use Rattle.normal_forms.proofs.Inherited.{AllOf}
@@ -31,7 +31,7 @@ use Rattle.normal_forms.proofs.Nnf.{nnf-means}
 use Rattle.normal_forms.proofs.NnfShape.{nnf-regular}
 use Rattle.normal_forms.proofs.Substituted.{unnamed-all, bound-sees}
 use Rattle.normal_forms.proofs.Replaced.{matrix-prenex, leftmost-inherits, replaced-less, replaced-sort, replaced-regular, operands-within, replaced-within, says, says-itself, replaced-says, says-same, says-monotone, AllApart, runs-past}
-use Rattle.normal_forms.proofs.Drawn.{names, drawn, renamed_body, Draws, draws}
+use Rattle.normal_forms.proofs.Drawn.{names, drawn, renamed_body, renamed-fewer, Draws, draws}
 
 abbrev Formula : Term → Type 0
 Formula t = sort_of t ≡ Some bool
@@ -137,11 +137,6 @@ module _ (t : Term) (f : Quantified) (s : Supply) (e : leftmost t ≡ Some f) (h
   next-spared : GivesNone (renamed_body f s).1 (names_within (next t f s))
   next-spared = next-left.names
 
-  next-less : suc (quantifiers (next t f s)) ≤ quantifiers t
-  next-less =
-      let less : quantifiers (renamed_body f s).0 ≤ quantifiers f.body = new.fewer in
-      replaced-less (renamed_body f s).0 t f e (omega (arith, less))
-
   sees : (g : Symbol) → is_among (with_more (free t) (map constant_of (drawn f s).variables)) g ≡ true → Sees (drawn f s).variables g
   sees g among = go (in-more (free t) (map constant_of (drawn f s).variables) g among)
     where
@@ -195,21 +190,27 @@ turns : (k : ℕ) (t : Term) (s : Supply) → Formula t → GivesNone s (names_w
 turns zero t s has given = record { means = means-itself t has; regular = λ fine. fine; within = itself-within t s given; later = λ n never. never }
 turns (suc k) t s has given = turn-by t s (λ u v. prenex_turns k u v) has given (λ u v h g. turns k u v h g) (leftmost t) refl
 
-prenex-by : (k : ℕ) (t : Term) (s : Supply) (more : Term → Supply → Term × Supply) → Formula t → GivesNone s (names_within t) → quantifiers t ≤ suc k
-    → ((u : Term) (v : Supply) → Formula u → GivesNone v (names_within u) → quantifiers u ≤ k → is_prenex (more u v).0 ≡ true)
-    → (o : Option Quantified) → leftmost t ≡ o → is_prenex (pulled o t s more).0 ≡ true
-prenex-by k t s more has given few below None e = matrix-prenex t e
-prenex-by k t s more has given few below (Some f) e =
-    let less : suc (quantifiers (next t f s)) ≤ quantifiers t = next-less t f s e has given in
-    below (next t f s) (renamed_body f s).1 (next-formula t f s e has given) (next-spared t f s e has given) (omega (arith, less, few))
+next-less : (t : Term) (f : Quantified) (s : Supply) → leftmost t ≡ Some f → suc (quantifiers (next t f s)) ≤ quantifiers t
+next-less t f s e =
+    let less : quantifiers (renamed_body f s).0 ≤ quantifiers f.body = renamed-fewer f s in
+    replaced-less (renamed_body f s).0 t f e (omega (arith, less))
 
-turns-prenex : (k : ℕ) (t : Term) (s : Supply) → Formula t → GivesNone s (names_within t) → quantifiers t ≤ k → is_prenex (prenex_turns k t s).0 ≡ true
-turns-prenex zero t s has given few = go (leftmost t) refl
+prenex-by : (k : ℕ) (t : Term) (s : Supply) (more : Term → Supply → Term × Supply) → quantifiers t ≤ suc k → ((u : Term) (v : Supply) → quantifiers u ≤ k → is_prenex (more u v).0 ≡ true) → (o : Option Quantified) → leftmost t ≡ o → is_prenex (pulled o t s more).0 ≡ true
+prenex-by k t s more few below None e = matrix-prenex t e
+prenex-by k t s more few below (Some f) e =
+    let less : suc (quantifiers (next t f s)) ≤ quantifiers t = next-less t f s e in
+    below (next t f s) (renamed_body f s).1 (omega (arith, less, few))
+
+turns-prenex : (k : ℕ) (t : Term) (s : Supply) → quantifiers t ≤ k → is_prenex (prenex_turns k t s).0 ≡ true
+turns-prenex zero t s few = go (leftmost t) refl
   where
     go : (o : Option Quantified) → leftmost t ≡ o → is_prenex t ≡ true
     go None e = matrix-prenex t e
     go (Some f) e = let some : quantifiers (whole f) ≤ quantifiers t = found-fewer t f e in absurd (omega (arith, some, few))
-turns-prenex (suc k) t s has given few = prenex-by k t s (λ u v. prenex_turns k u v) has given few (λ u v h g l. turns-prenex k u v h g l) (leftmost t) refl
+turns-prenex (suc k) t s few = prenex-by k t s (λ u v. prenex_turns k u v) few (λ u v less. turns-prenex k u v less) (leftmost t) refl
+
+pub prenex-shape : (t : Term) (s : Supply) → is_prenex (prenex t s).0 ≡ true
+prenex-shape t s = turns-prenex (quantifiers (nnf t)) (nnf t) s (omega arith)
 
 -- ---- terms of other sorts
 
@@ -252,15 +253,3 @@ prenex-rewrites t s fine given =
       later = λ n never. never;
       names = given;
     })
-
-pub prenex-shape : ShapesWith prenex is_prenex
-prenex-shape t s fine given =
-    let found = sort-known t fine in
-    go found.0 found.1 (is_bool found.0) refl
-  where
-    formula : Formula t → is_prenex (prenex t s).0 ≡ true
-    formula has = turns-prenex (quantifiers (nnf t)) (nnf t) s (nnf-means t has).sort (λ n among. given n ((nnf-inside t).names n among)) (omega arith)
-
-    go : (sort : Sort) → sort_of t ≡ Some sort → (b : Bool) → is_bool sort ≡ b → is_prenex (prenex t s).0 ≡ true
-    go sort has true e = formula (has ∙ ap Some (truly sort e))
-    go sort has false e = carry (λ (r : Term × Supply). is_prenex r.0 ≡ true) (sym (prenex-plain t s sort has e)) (matrix-prenex t (plain-matrix t sort has e))

@@ -1,5 +1,5 @@
 -- Statements of the laws of the normal forms: what holds of a term's form, whichever form it is.
-use Rattle.std.specs.Prelude.{Bool, IsTrue}
+use Rattle.std.specs.Prelude.{IsTrue}
 use Rattle.smt_terms.specs.Sorts.{Name, Symbol}
 use Rattle.smt_terms.specs.Term.{Term}
 use Rattle.smt_terms.specs.Free.{is_among, name_among, free}
@@ -9,7 +9,7 @@ use Rattle.smt_terms.specs.Keeps.{Keeps}
 use Rattle.smt_terms.specs.Shapes.{is_clear}
 use Rattle.smt_terms.specs.SubstLaws.{names_within, GivesNone, Later}
 
--- r is well sorted and has t's sort and value in every model; its free symbols are t's; it is clear where t is
+-- r is well sorted and has t's sort and t's value in every model; what is free in r is free in t; r is clear where t is
 pub record Rewrites (t r : Term) : Type 0 where
   pub keeps : Keeps t r
   pub symbols : (g : Symbol) → IsTrue (is_among (free r) g) → IsTrue (is_among (free t) g)
@@ -34,7 +34,3 @@ pub record RewritesFresh (t r : Term) (before left : Supply) : Type 0 where
 -- a form that draws names
 abbrev pub RewritesWith : (Term → Supply → Term × Supply) → Type 0
 RewritesWith form = (t : Term) (s : Supply) → IsWellSorted t → GivesNone s (names_within t) → RewritesFresh t (form t s).0 s (form t s).1
-
--- and this test says yes of what it gives
-abbrev pub ShapesWith : (Term → Supply → Term × Supply) → (Term → Bool) → Type 0
-ShapesWith form shape = (t : Term) (s : Supply) → IsWellSorted t → GivesNone s (names_within t) → IsTrue (shape (form t s).0)

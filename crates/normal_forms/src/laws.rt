@@ -1,9 +1,12 @@
-//! The laws of the normal forms, each the contract of a function that does nothing.
+//! The laws of the normal forms, each the contract of a function that does nothing. Each form of a well-sorted term is well
+//! sorted, has the term's sort and value in every model and no other free symbols, and is clear where the term is; a supply
+//! that gives no name of the term gives none of the form, whether names were drawn from it or not.
 
 ghost use Rattle.std.specs.Prelude.{IsTrue};
 ghost use Rattle.smt_terms.specs.Term.{Term};
+ghost use Rattle.smt_terms.specs.Fresh.{Supply};
 ghost use Rattle.smt_terms.specs.Shapes.{is_nnf, is_aig, is_prenex, no_bool_quantifier};
-ghost use Rattle.normal_forms.specs.Laws.{RewritesAs, RewritesWith, ShapesWith};
+ghost use Rattle.normal_forms.specs.Laws.{RewritesAs, RewritesWith};
 ghost use Rattle.normal_forms.specs.Nnf.{nnf};
 ghost use Rattle.normal_forms.specs.Aig.{aig};
 ghost use Rattle.normal_forms.specs.Prenex.{prenex};
@@ -26,7 +29,7 @@ pub fn aig_keeps_values()
 /// `and` and `or` alone.
 pub fn prenex_keeps_values()
     ensures values { RewritesWith prenex }
-    ensures shape { ShapesWith prenex is_prenex }
+    ensures shape { (t : Term) (s : Supply) → IsTrue (is_prenex (prenex t s).0) }
 {}
 
 /// Shannon's expansion keeps the values of terms, and leaves no quantifier over truth values.
@@ -38,5 +41,5 @@ pub fn shannon_keeps_values()
 /// Self-substitution keeps the values of terms, and leaves no quantifier over truth values.
 pub fn selfsub_keeps_values()
     ensures values { RewritesWith selfsub }
-    ensures shape { ShapesWith selfsub no_bool_quantifier }
+    ensures shape { (t : Term) (s : Supply) → IsTrue (no_bool_quantifier (selfsub t s).0) }
 {}
