@@ -4,9 +4,11 @@ mod AtTruth
 mod Duals
 mod Inherited
 mod Keeps
+pub mod MadeNodes
 pub mod Nnf
 pub mod NnfShape
 mod NoBool
 mod Rows
+mod NodeShapes
 pub mod Shannon
 pub mod ShannonRegular

@@ -1,5 +1,7 @@
 pub mod Aig
 pub mod Laws
 pub mod Nnf
+pub mod Nodes
 pub mod Prenex
 pub mod Quantifiers
+pub mod Shape

@@ -4,3 +4,6 @@
 #![tactic(auto)]
 
 pub mod laws;
+mod connective;
+mod making;
+mod shapes;
