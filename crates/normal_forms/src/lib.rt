@@ -5,5 +5,6 @@
 
 pub mod laws;
 mod connective;
+mod forms;
 mod making;
 mod shapes;
