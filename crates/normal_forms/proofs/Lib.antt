@@ -1,6 +1,7 @@
 pub mod Aig
 pub mod AigShape
 mod AtTruth
+mod Bound
 mod Duals
 mod Inherited
 mod Keeps

@@ -1,4 +1,5 @@
 pub mod Aig
+pub mod FormNodes
 pub mod Laws
 pub mod Nnf
 pub mod Nodes

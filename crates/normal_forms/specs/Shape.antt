@@ -1,7 +1,8 @@
 -- What a formula is, as far as the normal forms go by it.
-use Rattle.std.specs.Prelude.{◌≡◌, ℕ, ◌≤◌, Bool, true, false, List, map}
+use Rattle.std.specs.Prelude.{◌≡◌, ℕ, ◌≤◌, Bool, true, false, List, []}
 use Rattle.smt_terms.specs.Connectives.{Kind, truth_value, negation, conjunction, disjunction, exclusive, implication, equivalence, difference, conditional, atom, kind_of}
-use Rattle.smt_terms.specs.Term.{Term, apply, quantified}
+use Rattle.smt_terms.specs.Sorts.{Variable}
+use Rattle.smt_terms.specs.Term.{Quantifier, universal, existential, Term, apply, quantified}
 use Rattle.normal_forms.specs.declared.connective.Connective.{Connective}
 use Rattle.normal_forms.specs.declared.connective.Connective.TheVariants.{Not, And, Or, Xor, Implies, Equal, Distinct, Ite}
 use Rattle.normal_forms.specs.declared.connective.Shape.{Shape}
@@ -34,6 +35,22 @@ HasShape t (Truth b) = IsOfKind t (truth_value b)
 HasShape t (Connected c) = IsOfKind t (kind_seen c)
 HasShape t Quantified = is_quantified t ≡ true
 HasShape t Atom = IsOfKind t atom
+
+abbrev pub is_universally_quantified : Term → Bool
+is_universally_quantified (quantified universal _ _) = true
+is_universally_quantified _ = false
+
+abbrev pub quantifier_seen : Bool → Quantifier
+quantifier_seen true = universal
+quantifier_seen false = existential
+
+abbrev pub variables_of : Term → List Variable
+variables_of (quantified _ xs _) = xs
+variables_of _ = []
+
+abbrev pub body_in : Term → Term
+body_in (quantified _ _ t) = t
+body_in t = t
 
 -- how many operands a connective may have
 abbrev pub Takes : Connective → ℕ → Type 0
