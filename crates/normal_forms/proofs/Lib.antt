@@ -13,3 +13,4 @@ mod Rows
 mod NodeShapes
 pub mod Shannon
 pub mod ShannonRegular
+mod Taken
