@@ -122,3 +122,28 @@ trees-stay old new (k ∷ ks) grows formulas =
 pub copied-some : {T : Type 0} (o : Option (Bor T)) → is_some (option_copied o) ≡ true → is_some o ≡ true
 copied-some (Some r) h = refl
 copied-some None h = h
+
+-- ---- the two forms of a connective, made one after the other
+
+pub connected-forms : (t0 t1 t2 : Formulas) (u : Term) (k : Kind) (ps ns : List NodeId) (p n : NodeId)
+    → IsOfKind u k
+    → All (IsFormula t0) ps → All (IsFormula t0) ns
+    → trees_at t0 ps ≡ map nnf (operands u) → trees_at t0 ns ≡ map nnf_not (operands u)
+    → GrowsTo t0 t1 → GrowsTo t1 t2
+    → IsFormula t1 p → tree t1 p ≡ positive k u (trees_at t0 ps) (trees_at t0 ns)
+    → IsFormula t2 n → tree t2 n ≡ negative k u (trees_at t1 ps) (trees_at t1 ns)
+    → AreForms t2 u (record { positive = p; negative = n })
+connected-forms t0 t1 t2 u k ps ns p n kind ps_formulas ns_formulas ps_terms ns_terms grows grows_on p_formula p_term n_formula n_term = record {
+  positive = formula_stays t1 t2 p grows_on p_formula;
+  negative = n_formula;
+  yes =
+      grows_on.trees.same p.0 no_tree p_formula.node
+      ∙ p_term
+      ∙ (λ i. positive k u (ps_terms i) (ns_terms i))
+      ∙ sym (nnf-kind u k kind);
+  no =
+      n_term
+      ∙ (λ i. negative k u (trees-stay t0 t1 ps grows ps_formulas i) (trees-stay t0 t1 ns grows ns_formulas i))
+      ∙ (λ i. negative k u (ps_terms i) (ns_terms i))
+      ∙ sym (not-kind u k kind);
+}

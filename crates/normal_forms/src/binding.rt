@@ -52,7 +52,7 @@ fn rebound(
     ensures nodes { IfOk result (λ ks. AreNodes table.now ks.items) }
 {
     let kids = table.kids(id);
-    let mut rebound = kids[..kids.len() - 1].to_vec(alloc)?;
+    let mut rebound = Vec::from_slice(alloc, &kids[..kids.len() - 1])?;
     rebound.push(body)?;
     Ok(rebound)
 }
