@@ -1,15 +1,18 @@
 pub mod Aig
 pub mod AigShape
 mod AtTruth
+mod Bound
 pub mod Clear
 pub mod Drawn
 mod Duals
 mod Inherited
 pub mod Inside
 mod Keeps
+pub mod MadeNodes
 pub mod Nnf
 pub mod NnfShape
 mod NoBool
+mod NodeShapes
 pub mod Replaced
 mod Rows
 pub mod SelfSubShape
@@ -18,4 +21,5 @@ pub mod Shannon
 pub mod ShannonInside
 pub mod ShannonRegular
 pub mod Substituted
+mod Taken
 pub mod Turns

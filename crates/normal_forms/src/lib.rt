@@ -3,4 +3,12 @@
 
 #![tactic(auto)]
 
+mod binding;
+mod connective;
+mod forms;
 pub mod laws;
+mod making;
+pub mod negation_normal_form;
+mod node_forms;
+mod shapes;
+

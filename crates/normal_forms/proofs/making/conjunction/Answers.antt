@@ -1,0 +1,15 @@
+use Rattle.std.proofs.Common.{◌≡◌, Some, sym, ◌∙◌, ap}
+use Rattle.smt_terms.specs.Rank.{sort_of}
+use Rattle.term_table.specs.Formulas.{kind}
+use Rattle.normal_forms.proofs.MadeNodes.{makes-and, sort-and}
+use Rattle.normal_forms.proofs.making.conjunction.Goals as goal
+
+pub intern-requires : goal.intern-requires
+intern-requires c = makes-and c.args.table.now c.args.kids.now c.requires.kids c.requires.several
+
+pub returns-clause-formula : goal.returns-clause-formula
+unfolding kind
+returns-clause-formula c = record {
+  node = c.in_ok-id.ensures.node;
+  sort = ap sort_of c.in_ok-id.ensures.term ∙ sort-and c.args.table.now c.args.kids.now c.requires.kids c.requires.several;
+}

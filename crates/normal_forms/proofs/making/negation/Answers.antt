@@ -1,0 +1,15 @@
+use Rattle.std.proofs.Common.{◌≡◌, Some, sym, ◌∙◌, ap}
+use Rattle.smt_terms.specs.Rank.{sort_of}
+use Rattle.term_table.specs.Formulas.{kind}
+use Rattle.normal_forms.proofs.MadeNodes.{makes-not, sort-not}
+use Rattle.normal_forms.proofs.making.negation.Goals as goal
+
+pub intern-requires : goal.intern-requires
+intern-requires c = makes-not c.args.table.now c.args.id c.requires
+
+pub returns-clause-formula : goal.returns-clause-formula
+unfolding kind
+returns-clause-formula c = record {
+  node = c.in_ok-id.ensures.node;
+  sort = ap sort_of c.in_ok-id.ensures.term ∙ sort-not c.args.table.now c.args.id c.requires;
+}

@@ -1,0 +1,227 @@
+//! Negation normal form.
+
+ghost use Rattle.std.specs.Prelude.{◌≡◌, ◌∷◌, [], ◌+◌, ◌≤◌, length, map, true, Some, All, IsSome, IsTrue, IfOk};
+ghost use Rattle.smt_terms.specs.Sorts.{bool};
+ghost use Rattle.smt_terms.specs.Rank.{sort_of};
+ghost use Rattle.smt_terms.specs.Shapes.{is_nnf};
+ghost use Rattle.term_table.specs.Formulas.{tree, trees_at, operands, IsNode};
+ghost use Rattle.term_walk.specs.Places.{result_at};
+ghost use Rattle.term_walk.specs.Subterms.{all_subterms, places};
+ghost use Rattle.term_walk.specs.Walking.{GrowsTo, AreRelated, HaveResults};
+ghost use Rattle.normal_forms.specs.Nnf as plain;
+ghost use Rattle.normal_forms.specs.Nodes.{IsFormula};
+ghost use Rattle.normal_forms.specs.Shape.{Takes, IsOfKind, kind_seen, is_quantified};
+ghost use Rattle.normal_forms.specs.FormNodes.{AreForms, HasForms, AreTaken};
+
+use crate::binding::{bind, body_of, is_universal};
+use crate::connective::{Connective, Shape};
+use crate::forms::{negative_form, positive_form};
+use crate::making::{negation, truth};
+use crate::node_forms::Forms;
+use crate::shapes::{is_formula, shape_of};
+use smt_terms::NodeId;
+use std::alloc::{AllocError, Global};
+use std::sync::ledger::Ledger;
+use term_table::Table;
+use term_walk::{Kept, NodeStep, Steps};
+use term_walk::walks::walk;
+
+// The positive forms and the negative forms of these nodes.
+fn sides(
+    alloc: Global,
+    kept: &Kept<Forms>,
+    kids: &[NodeId],
+) -> Result<(Vec<NodeId>, Vec<NodeId>), AllocError>
+    requires { All (λ k. IsSome (result_at kept.now k.0)) kids.now }
+    ensures positive { IfOk result (λ s. AreTaken (λ f. f.positive) kept.now kids.now s.0.items) }
+    ensures negative { IfOk result (λ s. AreTaken (λ f. f.negative) kept.now kids.now s.1.items) }
+{
+    let mut positives = Vec::with_capacity(alloc, kids.len())?;
+    let mut negatives = Vec::with_capacity(alloc, kids.len())?;
+    for kid in kids {
+        let forms = kept.get(*kid).unwrap();
+        positives.push(forms.positive)?;
+        negatives.push(forms.negative)?;
+    }
+    Ok((positives, negatives))
+}
+
+// The positive forms and the negative forms of a connective's operands.
+fn operand_forms(
+    alloc: Global,
+    table: &Table,
+    id: NodeId,
+    connective: Connective,
+    kept: &Kept<Forms>,
+) -> Result<(Vec<NodeId>, Vec<NodeId>), AllocError>
+    requires formula { IsFormula table.now id }
+    requires shape { IsOfKind (tree table.now id) (kind_seen connective) }
+    requires related { AreRelated HasForms table.now kept.now }
+    requires kids { HaveResults table.now (tree table.now id) kept.now }
+    ensures positives { IfOk result (λ s. All (IsFormula table.now) s.0.items) }
+    ensures negatives { IfOk result (λ s. All (IsFormula table.now) s.1.items) }
+    ensures yes { IfOk result (λ s. trees_at table.now s.0.items ≡ map plain.nnf (operands (tree table.now id))) }
+    ensures no { IfOk result (λ s. trees_at table.now s.1.items ≡ map plain.nnf_not (operands (tree table.now id))) }
+    ensures number { IfOk result (λ s. Takes connective (length s.0.items)) }
+    ensures same { IfOk result (λ s. length s.1.items ≡ length s.0.items) }
+{
+    let found = sides(alloc, kept, table.kids(id))?;
+    Ok(found)
+}
+
+// The forms of a connective.
+fn connected_forms(
+    alloc: Global,
+    table: &mut Table,
+    id: NodeId,
+    connective: Connective,
+    kept: &Kept<Forms>,
+) -> Result<Forms, AllocError>
+    requires formula { IsFormula table.old id }
+    requires shape { IsOfKind (tree table.old id) (kind_seen connective) }
+    requires related { AreRelated HasForms table.old kept.now }
+    requires kids { HaveResults table.old (tree table.old id) kept.now }
+    ensures forms { IfOk result (AreForms table.new (tree table.old id)) }
+    ensures grows { GrowsTo table.old table.new }
+{
+    let (positives, negatives) = operand_forms(alloc, table, id, connective, kept)?;
+    let positive = positive_form(table, connective, &positives, &negatives)?;
+    let negative = negative_form(table, connective, &positives, &negatives)?;
+    Ok(Forms { positive, negative })
+}
+
+// The forms of a quantified formula.
+fn quantified_forms(
+    alloc: Global,
+    table: &mut Table,
+    id: NodeId,
+    kept: &Kept<Forms>,
+) -> Result<Forms, AllocError>
+    requires formula { IsFormula table.old id }
+    requires quantified { is_quantified (tree table.old id) ≡ true }
+    requires related { AreRelated HasForms table.old kept.now }
+    requires kids { HaveResults table.old (tree table.old id) kept.now }
+    ensures forms { IfOk result (AreForms table.new (tree table.old id)) }
+    ensures grows { GrowsTo table.old table.new }
+{
+    let forms = *kept.get(body_of(table, id)).unwrap();
+    let universal = is_universal(table, id);
+    let positive = bind(alloc, table, id, universal, forms.positive)?;
+    let negative = bind(alloc, table, id, !universal, forms.negative)?;
+    Ok(Forms { positive, negative })
+}
+
+// The forms of a formula.
+fn formula_forms(
+    alloc: Global,
+    table: &mut Table,
+    id: NodeId,
+    kept: &Kept<Forms>,
+) -> Result<Forms, AllocError>
+    requires formula { IsFormula table.old id }
+    requires related { AreRelated HasForms table.old kept.now }
+    requires kids { HaveResults table.old (tree table.old id) kept.now }
+    ensures forms { IfOk result (AreForms table.new (tree table.old id)) }
+    ensures grows { GrowsTo table.old table.new }
+{
+    match shape_of(table, id) {
+        Shape::Truth(value) => {
+            let negative = truth(table, !value)?;
+            Ok(Forms {
+                positive: id,
+                negative,
+            })
+        }
+        Shape::Atom => {
+            let negative = negation(table, id)?;
+            Ok(Forms {
+                positive: id,
+                negative,
+            })
+        }
+        Shape::Quantified => {
+            let forms = quantified_forms(alloc, table, id, kept)?;
+            Ok(forms)
+        }
+        Shape::Connected(connective) => {
+            let forms = connected_forms(alloc, table, id, connective, kept)?;
+            Ok(forms)
+        }
+    }
+}
+
+// The forms of a node. Those of another sort than Bool are none, and the node itself stands in their place.
+fn forms_of(
+    alloc: Global,
+    table: &mut Table,
+    id: NodeId,
+    kept: &Kept<Forms>,
+) -> Result<Forms, AllocError>
+    requires node { IsNode table.old id }
+    requires related { AreRelated HasForms table.old kept.now }
+    requires kids { HaveResults table.old (tree table.old id) kept.now }
+    ensures forms { IfOk result (HasForms table.new (tree table.old id)) }
+    ensures grows { GrowsTo table.old table.new }
+{
+    if is_formula(table, id) {
+        let forms = formula_forms(alloc, table, id, kept)?;
+        return Ok(forms);
+    }
+    Ok(Forms {
+        positive: id,
+        negative: id,
+    })
+}
+
+#[derive(Drop)]
+struct FormStep {
+    alloc: Global,
+}
+
+impl NodeStep for FormStep {
+    type Out = Forms;
+
+    ghost use Rattle.normal_forms.specs.FormNodes.{HasForms, forms_stay};
+
+    ghost Meaning = { Unit {0} };
+
+    ghost meaning = { λ _. tt };
+
+    ghost related = { λ _ t u r. HasForms t u r };
+
+    fn step<L: Ledger>(
+        &mut self,
+        table: &mut Table,
+        id: NodeId,
+        kept: &Kept<Forms>,
+        steps: &mut Steps<L>,
+    ) -> Result<Forms, AllocError> {
+        steps.tick();
+        let forms = forms_of(self.alloc, table, id, kept)?;
+        Ok(forms)
+    }
+
+    ghost stays = { λ _ old new t r grows has. forms_stay old new t r grows has };
+}
+
+/// The negation normal form of a formula: the formula says the same, and has no connectives but `and`, `or`, and `not`
+/// over atoms. It takes one step for each distinct subterm, and one for each place of an operand.
+pub fn nnf<L: Ledger>(
+    alloc: Global,
+    table: &mut Table,
+    id: NodeId,
+    steps: &mut Steps<L>,
+) -> Result<NodeId, AllocError>
+    requires { IsFormula table.old id }
+    ensures formula { IfOk result (IsFormula table.new) }
+    ensures term { IfOk result (λ k. tree table.new k ≡ plain.nnf (tree table.old id)) }
+    ensures shape { IfOk result (λ k. IsTrue (is_nnf (tree table.new k))) }
+    ensures grows { GrowsTo table.old table.new }
+    ensures most { steps.new ≤ steps.old + places (all_subterms (tree table.old id ∷ [])) }
+{
+    let mut kept = Kept::new(alloc);
+    let mut step = FormStep { alloc };
+    walk(alloc, table, &mut step, &mut kept, id, steps)?;
+    let forms = kept.get(id).unwrap();
+    Ok(forms.positive)
+}
