@@ -9,6 +9,6 @@ mod forms;
 pub mod laws;
 mod making;
 pub mod negation_normal_form;
-mod node_forms;
+pub mod node_forms;
 mod shapes;
 

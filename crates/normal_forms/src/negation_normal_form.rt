@@ -7,7 +7,7 @@ ghost use Rattle.smt_terms.specs.Shapes.{is_nnf};
 ghost use Rattle.term_table.specs.Formulas.{tree, trees_at, operands, IsNode};
 ghost use Rattle.term_walk.specs.Places.{result_at};
 ghost use Rattle.term_walk.specs.Subterms.{all_subterms, places};
-ghost use Rattle.term_walk.specs.Walking.{GrowsTo, AreRelated, HaveResults};
+ghost use Rattle.term_walk.specs.Walking.{GrowsTo, AreRelated, Fits, HaveResults};
 ghost use Rattle.normal_forms.specs.Nnf as plain;
 ghost use Rattle.normal_forms.specs.Nodes.{IsFormula};
 ghost use Rattle.normal_forms.specs.Shape.{Takes, IsOfKind, kind_seen, is_quantified};
@@ -220,8 +220,29 @@ pub fn nnf<L: Ledger>(
     ensures most { steps.new ≤ steps.old + places (all_subterms (tree table.old id ∷ [])) }
 {
     let mut kept = Kept::new(alloc);
+    let normal = nnf_kept(alloc, table, id, &mut kept, steps)?;
+    Ok(normal)
+}
+
+/// As `nnf`, with what earlier calls over the table found, and keeps what it finds: no subterm is met twice.
+pub fn nnf_kept<L: Ledger>(
+    alloc: Global,
+    table: &mut Table,
+    id: NodeId,
+    kept: &mut Kept<Forms>,
+    steps: &mut Steps<L>,
+) -> Result<NodeId, AllocError>
+    requires formula { IsFormula table.old id }
+    requires fits { Fits HasForms table.old kept.old }
+    ensures formula { IfOk result (IsFormula table.new) }
+    ensures term { IfOk result (λ k. tree table.new k ≡ plain.nnf (tree table.old id)) }
+    ensures shape { IfOk result (λ k. IsTrue (is_nnf (tree table.new k))) }
+    ensures fits { Fits HasForms table.new kept.new }
+    ensures grows { GrowsTo table.old table.new }
+    ensures most { steps.new ≤ steps.old + places (all_subterms (tree table.old id ∷ [])) }
+{
     let mut step = FormStep { alloc };
-    walk(alloc, table, &mut step, &mut kept, id, steps)?;
+    walk(alloc, table, &mut step, kept, id, steps)?;
     let forms = kept.get(id).unwrap();
     Ok(forms.positive)
 }

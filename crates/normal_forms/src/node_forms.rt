@@ -2,9 +2,9 @@
 
 use smt_terms::NodeId;
 
-// The positive form, which says what the formula says, and the negative form, which says the contrary.
+/// What a formula becomes where it stands, and where its negation stands.
 #[derive(Clone, Copy)]
-pub(crate) struct Forms {
+pub struct Forms {
     pub(crate) positive: NodeId,
     pub(crate) negative: NodeId,
 }

@@ -6,13 +6,13 @@ use Rattle.term_walk.specs.Places.{result_at}
 use Rattle.normal_forms.specs.FormNodes.{AreForms}
 use Rattle.normal_forms.specs.Nnf.{nnf}
 use Rattle.normal_forms.proofs.NnfShape.{nnf-shape}
-use Rattle.normal_forms.proofs.negation_normal_form.nnf.Goals as goal
+use Rattle.normal_forms.proofs.negation_normal_form.nnf_kept.Goals as goal
 
-same_term : (g : _) (c : goal.After-drop-kept-inside-2 g) → tree c.walk.new.table c.args.id ≡ tree c.args.table.now c.args.id
-same_term g c = c.walk.ensures.grows.trees.same c.args.id.0 no_tree c.requires.node
+same_term : (g : _) (c : goal.After-result-1 g) → tree c.walk.new.table c.args.id ≡ tree c.args.table.now c.args.id
+same_term g c = c.walk.ensures.grows.trees.same c.args.id.0 no_tree c.requires.formula.node
 
-found_forms : (g : _) (c : goal.After-drop-kept-inside-2 g) → AreForms c.walk.new.table (tree c.walk.new.table c.args.id) c.unwrap-forms.result.now
-found_forms g c = c.walk.ensures.fits.related.related c.args.id c.unwrap-forms.result.now (sym c.get.ensures ∙ ap option_copied c.unwrap-forms.ensures) (ap sort_of (same_term g c) ∙ c.requires.sort)
+found_forms : (g : _) (c : goal.After-result-1 g) → AreForms c.walk.new.table (tree c.walk.new.table c.args.id) c.unwrap-forms.result.now
+found_forms g c = c.walk.ensures.fits.related.related c.args.id c.unwrap-forms.result.now (sym c.get.ensures ∙ ap option_copied c.unwrap-forms.ensures) (ap sort_of (same_term g c) ∙ c.requires.formula.sort)
 
 pub returns-clause-formula : goal.returns-clause-formula
 returns-clause-formula g c = (found_forms g c).positive
