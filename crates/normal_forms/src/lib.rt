@@ -12,3 +12,6 @@ pub mod negation_normal_form;
 mod node_forms;
 mod shapes;
 
+
+#[cfg(test)]
+mod tests;
