@@ -12,3 +12,6 @@ pub mod negation_normal_form;
 pub mod node_forms;
 mod shapes;
 
+
+#[cfg(test)]
+mod tests;

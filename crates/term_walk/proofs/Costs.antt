@@ -1,5 +1,5 @@
 -- What closing nodes costs.
-use Rattle.std.proofs.Common.{◌≡◌, ◌≢◌, ℕ, zero, suc, ◌+◌, ◌-◌, ◌<◌, ◌≤◌, inl, inr, ◌⊎◌, Bool, true, false, cond, List, [], ◌∷◌, length, get_or, if◌then◌else◌, refl, ap, sym, ◌∙◌, subst, arith}
+use Rattle.std.proofs.Common.{◌≡◌, ◌≢◌, ℕ, zero, suc, ◌+◌, ◌-◌, ◌<◌, ◌≤◌, inl, inr, true, false, cond, List, [], ◌∷◌, length, get_or, refl, ap, sym, ◌∙◌, subst, arith}
 use Rattle.std.proofs.lemmas.Bool.Decides.{eqb_tells}
 use Rattle.smt_terms.specs.declared.ids.NodeId.{NodeId}
 use Rattle.smt_terms.specs.Groups.{has_term}
@@ -8,7 +8,7 @@ use Rattle.term_table.specs.Formulas.{no_tree, tree_in, operands}
 use Rattle.term_walk.specs.declared.kept.Place.{Place}
 use Rattle.term_walk.specs.declared.stack.Frame.{Frame}
 use Rattle.term_walk.specs.Places.{is_closed_at}
-use Rattle.term_walk.specs.Stacks.{IsOpen, IsWaiting, Wait, IsReady, open_cost, open_costs, looked_up}
+use Rattle.term_walk.specs.Stacks.{IsOpen, Wait, IsReady, open_cost, open_costs, looked_up}
 
 module _ {T : Type 0} (us ts : List Term) where
   cost-closed : (ks : List (Place T)) (i : ℕ) → is_closed_at ks i ≡ true → open_cost us ts ks i ≡ 0
@@ -38,10 +38,10 @@ module _ {T : Type 0} (us ts : List Term) where
       | inl same ↦
           let P : ℕ → Type 0 = λ m. open_costs us ts ks' m + open_cost us ts ks' m + suc (length (operands (tree_in ts id))) ≡ open_costs us ts ks m + open_cost us ts ks m in
           subst P (sym same.1)
-            (let below : open_costs us ts ks' id.0 ≡ open_costs us ts ks id.0 = costs-same id.0 (omega arith) in
-            let after : open_cost us ts ks' id.0 ≡ 0 = cost-closed ks' id.0 here in
-            let before : open_cost us ts ks id.0 ≡ suc (length (operands (tree_in ts id))) = cost-open ks id.0 e h in
-            omega arith)
+          (let below : open_costs us ts ks' id.0 ≡ open_costs us ts ks id.0 = costs-same id.0 (omega arith) in
+          let after : open_cost us ts ks' id.0 ≡ 0 = cost-closed ks' id.0 here in
+          let before : open_cost us ts ks id.0 ≡ suc (length (operands (tree_in ts id))) = cost-open ks id.0 e h in
+          omega arith)
       | inr apart ↦
           let below = costs-closed n (let a = apart.1 in omega arith) e h in
           let one : open_cost us ts ks' n ≡ open_cost us ts ks n = cost-same ks ks' n (others (record { 0 = n }) apart.1) in

@@ -1,10 +1,10 @@
 -- Which terms are among those of a list.
-use Rattle.std.proofs.Common.{◌≡◌, ◌≢◌, ℕ, zero, suc, ◌+◌, ◌<◌, ◌≤◌, ◌⊎◌, inl, inr, Bool, true, false, not, cond, ◌&&◌, ◌||◌, List, [], ◌∷◌, ◌++◌, length, get_or, filter, refl, ap, sym, ◌∙◌, arith}
+use Rattle.std.proofs.Common.{◌≡◌, ℕ, zero, suc, ◌<◌, ◌⊎◌, inl, inr, Bool, true, false, not, cond, ◌&&◌, ◌||◌, List, [], ◌∷◌, ◌++◌, length, get_or, filter, refl, ap, sym, ◌∙◌, arith}
 use Rattle.smt_terms.specs.Equal.{term_eq}
 use Rattle.smt_terms.specs.Groups.{has_term, with_new}
 use Rattle.smt_terms.specs.Term.{Term}
 use Rattle.smt_terms.proofs.Equal.{Decides-term_eq}
-use Rattle.smt_terms.proofs.Tests.{either_true, left_true, right_true, true_or_false}
+use Rattle.smt_terms.proofs.Tests.{either_true, left_true, right_true}
 
 pub has-append : (ts us : List Term) (t : Term) → has_term (ts ++ us) t ≡ (has_term ts t || has_term us t)
 has-append [] us t = refl

@@ -1,5 +1,5 @@
 -- How a turn leads a stack on.
-use Rattle.std.proofs.Common.{◌≡◌, ◌≢◌, ℕ, zero, suc, ◌+◌, ◌-◌, ◌<◌, ◌≤◌, inl, inr, ◌⊎◌, Bool, true, false, List, [], ◌∷◌, length, map, get_or, All, IsSome, refl, ap, sym, ◌∙◌, subst, arith}
+use Rattle.std.proofs.Common.{◌≡◌, ◌≢◌, ℕ, zero, suc, ◌+◌, ◌-◌, ◌<◌, ◌≤◌, inl, inr, ◌⊎◌, Bool, true, false, List, [], ◌∷◌, length, get_or, All, refl, ap, sym, ◌∙◌, subst, arith}
 use Rattle.std.proofs.lemmas.List.{get_or_default}
 use Rattle.std.proofs.lemmas.Bool.Decides.{eqb_tells}
 use Rattle.smt_terms.specs.declared.ids.NodeId.{NodeId}
@@ -7,7 +7,7 @@ use Rattle.smt_terms.specs.Term.{Term}
 use Rattle.term_table.specs.Formulas.{no_tree, tree_in, operands, Grows}
 use Rattle.term_walk.specs.declared.kept.Place.{Place}
 use Rattle.term_walk.specs.declared.stack.Frame.{Frame}
-use Rattle.term_walk.specs.Places.{result_at, is_closed_at}
+use Rattle.term_walk.specs.Places.{is_closed_at}
 use Rattle.term_walk.specs.Walking.{HasClosed}
 use Rattle.term_walk.specs.Stacks.{AreClosedBefore, IsOpen, IsWaiting, Wait, IsReady, Leads, first, advanced, looked}
 
@@ -82,15 +82,15 @@ module _ {T : Type 0} where
         let same = same_tree f.id h.frame.node in
         let us = operands (tree_in ts f.id) in
         let each : (i : ℕ) → i < f.next → i < length us → HasClosed ts' ks' (get_or us i no_tree) =
-            λ i lt in_list. elim (last_or_before i f.next lt) [
-              | inl below ↦ has_closed (get_or us i no_tree) (h.before i below in_list)
-              | inr last ↦ record {
-                id = id;
-                node = within id node;
-                term = same_tree id node ∙ sym h.operand ∙ ap (λ j. get_or us j no_tree) (sym last);
-                closed = here;
-              }
-            ] in
+        λ i lt in_list. elim (last_or_before i f.next lt) [
+          | inl below ↦ has_closed (get_or us i no_tree) (h.before i below in_list)
+          | inr last ↦ record {
+            id = id;
+            node = within id node;
+            term = same_tree id node ∙ sym h.operand ∙ ap (λ j. get_or us j no_tree) (sym last);
+            closed = here;
+          }
+        ] in
         let P : Term → Type 0 = λ u. AreClosedBefore ts' ks' (operands u) f.next in
         record { frame = open-later f h.below h.frame; before = subst P (sym same) each }
 

@@ -12,3 +12,4 @@ pub mod walks;
 pub use kept::Kept;
 pub use node_step::NodeStep;
 pub use steps::Steps;
+pub use walks::{walk, walk_all};
