@@ -9,6 +9,7 @@ mod names;
 mod print;
 mod read;
 mod refuse;
+mod rewriting;
 mod run;
 mod status;
 #[cfg(test)]

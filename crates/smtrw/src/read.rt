@@ -4,7 +4,8 @@
 ghost use Rattle.std.specs.Prelude.{◌≡◌, ◌<◌, ◌≤◌, ◌+◌, length, IfOk, All};
 ghost use Rattle.smt_values.specs.SortIds.{IsPlain};
 ghost use Rattle.term_table.specs.Formulas.{Formulas, AreNodes, IsNode, IsOpOf};
-ghost use Rattle.smtrw.specs.Tables.{Grows, IsMadeIn};
+ghost use Rattle.term_walk.specs.Walking.{GrowsTo};
+ghost use Rattle.smtrw.specs.Tables.{IsMadeIn};
 
 use crate::names::{is_declarable, is_plain};
 use smt_lex::{Forest, Item};
@@ -79,7 +80,7 @@ fn read_command(
 ) -> Result<Command, Unread>
     requires order { at ≤ end }
     requires within { end ≤ length forest.now.tokens }
-    ensures grows { Grows table.old table.new }
+    ensures grows { GrowsTo table.old table.new }
     ensures made { IfOk result (IsMadeIn table.new) }
 {
     if end - at < 3 || !is_word(forest, at + 1) {
@@ -109,7 +110,7 @@ fn declaration(
 ) -> Result<Command, Unread>
     requires order { at ≤ end }
     requires within { end ≤ length forest.now.tokens }
-    ensures grows { Grows table.old table.new }
+    ensures grows { GrowsTo table.old table.new }
     ensures made { IfOk result (IsMadeIn table.new) }
 {
     if end - at != 7 || !is_word(forest, at + 2) || !is_word(forest, at + 5) {
@@ -127,7 +128,7 @@ fn declaration(
 #[tactic(auto, unfolding(term_table::specs::Formulas::kind))]
 fn declared(alloc: Global, table: &mut Table, name: &[u8]) -> Result<Command, Unread>
     requires { IsPlain name.now }
-    ensures grows { Grows table.old table.new }
+    ensures grows { GrowsTo table.old table.new }
     ensures made { IfOk result (IsMadeIn table.new) }
 {
     let symbol = table.symbol(name, &[], BOOL)?;
@@ -148,7 +149,7 @@ fn assertion(
 ) -> Result<Command, Unread>
     requires start { 0 < first }
     requires within { end ≤ length forest.now.tokens }
-    ensures grows { Grows table.old table.new }
+    ensures grows { GrowsTo table.old table.new }
     ensures made { IfOk result (IsMadeIn table.new) }
 {
     let root = term(alloc, table, forest, first, end)?;
@@ -184,7 +185,7 @@ fn term(
 ) -> Result<NodeId, Unread>
     requires start { 0 < first }
     requires within { end ≤ length forest.now.tokens }
-    ensures grows { Grows table.old table.new }
+    ensures grows { GrowsTo table.old table.new }
     ensures made { IfOk result (IsNode table.new) }
 {
     let mut finished: Vec<NodeId> = Vec::new(alloc);
@@ -232,7 +233,7 @@ fn close(
     open: Option<Open>,
 ) -> Result<(), Unread>
     requires { AreNodes table.old finished.old.items }
-    ensures grows { Grows table.old table.new }
+    ensures grows { GrowsTo table.old table.new }
     ensures nodes { AreNodes table.new finished.new.items }
 {
     let open = open.ok_or(Unread::NotYet)?;
@@ -256,7 +257,7 @@ fn op_of(connective: Connective) -> Op
 
 /// `true`, `false`, or a constant that was declared.
 fn constant(alloc: Global, table: &mut Table, name: &[u8]) -> Result<NodeId, Unread>
-    ensures grows { Grows table.old table.new }
+    ensures grows { GrowsTo table.old table.new }
     ensures made { IfOk result (IsNode table.new) }
 {
     match name {
@@ -269,7 +270,7 @@ fn constant(alloc: Global, table: &mut Table, name: &[u8]) -> Result<NodeId, Unr
 
 #[tactic(auto, unfolding(term_table::specs::Formulas::kind))]
 fn truth(alloc: Global, table: &mut Table, truth: bool) -> Result<NodeId, Unread>
-    ensures grows { Grows table.old table.new }
+    ensures grows { GrowsTo table.old table.new }
     ensures made { IfOk result (IsNode table.new) }
 {
     let node = make(alloc, table, Op::Truth(truth), &[])?;
@@ -280,7 +281,7 @@ fn truth(alloc: Global, table: &mut Table, truth: bool) -> Result<NodeId, Unread
 #[tactic(auto, unfolding(term_table::specs::Formulas::kind))]
 fn found(table: &mut Table, name: &[u8]) -> Result<NodeId, Unread>
     requires { IsPlain name.now }
-    ensures grows { Grows table.old table.new }
+    ensures grows { GrowsTo table.old table.new }
     ensures made { IfOk result (IsNode table.new) }
 {
     let symbol = table.symbol(name, &[], BOOL)?;

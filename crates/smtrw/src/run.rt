@@ -10,6 +10,7 @@ use crate::lines::line_of;
 use crate::print::script;
 use crate::read::commands;
 use crate::refuse::TOO_LONG;
+use crate::rewriting::normal;
 use crate::status::{Status, Usage, Why};
 use crate::words::are_asked;
 use smt_io::{Inputs, Pieces, ReadFault, Sink, read_all, send_all, send_pieces};
@@ -113,6 +114,7 @@ fn rewrite(alloc: Global, bytes: Vec<u8>) -> Result<Pieces, Status>
     let forest = scan(alloc, bytes, Until::Exit)?;
     let mut table = Table::new(alloc);
     let commands = commands(alloc, &mut table, &forest)?;
+    let commands = normal(alloc, &mut table, commands.as_slice())?;
     let text = script(alloc, &table, commands.as_slice())?;
     Ok(text)
 }
