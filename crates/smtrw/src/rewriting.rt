@@ -43,13 +43,13 @@ fn rewritten<L: Ledger>(
     let mut kept = Kept::new(alloc);
     let mut normal = Vec::with_capacity(alloc, commands.len())?;
     for command in commands {
-        normal.push(rewrite(alloc, table, *command, &mut kept, &mut steps)?)?;
+        normal.push(normal_command(alloc, table, *command, &mut kept, &mut steps)?)?;
     }
     Ok(normal)
 }
 
 /// A command, its assertion in negation normal form.
-fn rewrite<L: Ledger>(
+fn normal_command<L: Ledger>(
     alloc: Global,
     table: &mut Table,
     command: Command,
