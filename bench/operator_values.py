@@ -164,14 +164,14 @@ def concat(v, s, w, t):
 
 # ((_ rotate_left i) t) is ((_ rotate_left i-1) (concat ((_ extract m-2 0) t) ((_ extract m-1 m-1) t)))
 def rotate_left(w, x, i):
-    for _ in range(i if w > 1 else 0):
+    for _ in range(i):
         x = concat(w - 1, extract(w, x, w - 2, 0), 1, extract(w, x, w - 1, w - 1))
     return x
 
 
 # ((_ rotate_right i) t) is ((_ rotate_right i-1) (concat ((_ extract 0 0) t) ((_ extract m-1 1) t)))
 def rotate_right(w, x, i):
-    for _ in range(i if w > 1 else 0):
+    for _ in range(i):
         x = concat(1, extract(w, x, 0, 0), w - 1, extract(w, x, w - 1, 1))
     return x
 
@@ -240,6 +240,10 @@ def truths(bs):
     return "[" + ", ".join(truth(b) for b in bs) + "]"
 
 
+def tuples(rows):
+    return "[" + ", ".join(f"({', '.join(truth(b) for b in bs)})" for bs in rows) + "]"
+
+
 def print_words():
     for w in (4, 16, 128):
         words("BvNot", w, w, lambda x: bvnot(w, x))
@@ -299,7 +303,9 @@ def main():
     operands("FOUR", FOUR)
     operands("SIXTEEN", SIXTEEN)
     operands("WIDE", WIDE)
-    print(f"const WHOLES: [(i128, i128); {len(WHOLES)}] = [{', '.join(f'({number(m)}, {number(n)})' for m, n in WHOLES)}];\n")
+    print(f"const WHOLES: [(i128, i128); {len(WHOLES)}] = [{', '.join(f'({number(m)}, {number(n)})' for m, n in WHOLES)}];")
+    print(f"const TRUTHS: [(bool, bool); {len(TRUTHS)}] = {tuples(TRUTHS)};")
+    print(f"const TRIPLES: [(bool, bool, bool); {len(TRIPLES)}] = {tuples(TRIPLES)};\n")
     for name, f in PAIRS:
         print(f"pairs(&rt, Op::{name}, {values(4, f, FOUR)}, {values(16, f, SIXTEEN)}, {values(128, f, WIDE)});")
     print()
