@@ -11,7 +11,5 @@ mod making;
 pub mod negation_normal_form;
 pub mod node_forms;
 mod shapes;
-
-
 #[cfg(test)]
 mod tests;

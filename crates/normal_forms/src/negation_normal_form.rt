@@ -23,8 +23,8 @@ use smt_terms::NodeId;
 use std::alloc::{AllocError, Global};
 use std::sync::ledger::Ledger;
 use term_table::Table;
-use term_walk::{Kept, NodeStep, Steps};
 use term_walk::walks::walk;
+use term_walk::{Kept, NodeStep, Steps};
 
 // The positive forms and the negative forms of these nodes.
 fn sides(

@@ -33,5 +33,5 @@ returns-clause-no c =
 pub returns-clause-number : goal.returns-clause-number
 returns-clause-number c =
     let count : length (operands (tree c.args.table.now c.args.id)) ≡ length c.in_ok-found.found.0.items =
-        ap length (sym c.kids.ensures.terms) ∙ length-map c.kids.result.now (tree_in c.args.table.now.trees) ∙ sym c.in_ok-found.ensures.positive.number in
+    ap length (sym c.kids.ensures.terms) ∙ length-map c.kids.result.now (tree_in c.args.table.now.trees) ∙ sym c.in_ok-found.ensures.positive.number in
     subst (Takes c.args.connective) count (are_operands c).number
