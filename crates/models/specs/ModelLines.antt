@@ -10,8 +10,8 @@ use Rattle.smt_terms.specs.Numeral.{numeral}
 use Rattle.smt_terms.specs.Sorts.{Name, Sort, bool, int, bit_vector, array, free_sort, Symbol, Variable}
 use Rattle.smt_terms.specs.Values.{Value, whole, Pairs, no_pairs, pair, Sizes, is_true, number, bits_of, element_of, default_of, pairs_of}
 use Rattle.script_read.specs.Commands.{Signature}
-use Rattle.script_read.specs.Parts.{form_text}
-use Rattle.smt_print.specs.Basics.{list_form, word_form, symbol_form, truth_form, integer_form, vector_form, sort_form, constant_array_form, variable_form}
+use Rattle.smt_lex.specs.FormText.{form_text}
+use Rattle.term_table.specs.WrittenForms.{list_form, word_form, symbol_form, truth_form, integer_form, vector_form, sort_form, constant_array_form, variable_form}
 use Rattle.models.specs.Entries.{division_table, modulus_table, table_symbol}
 use Rattle.models.specs.ModelText.{default_graph}
 

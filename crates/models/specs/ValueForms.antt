@@ -14,7 +14,7 @@ use Rattle.smt_terms.specs.Values.{Value, truth, whole, bits, table, no_pairs, s
 use Rattle.script_read.specs.Heads.{is_vector_name}
 use Rattle.script_read.specs.Parts.{symbol_in, word_in, is_name, numeral_in, constant_by, vector_number}
 use Rattle.script_read.specs.Script.{truth_named}
-use Rattle.smt_print.specs.Basics.{sort_form}
+use Rattle.term_table.specs.WrittenForms.{sort_form}
 use Rattle.models.specs.Refusals.{Refused, model_sort, not_a_table, model_number, at, where_so}
 use Rattle.models.specs.Reading.{Reading, ◌>>=◌, gives, refuses, by_rule, meets}
 

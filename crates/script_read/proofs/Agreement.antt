@@ -6,7 +6,8 @@ use Rattle.smt_lex.specs.Forms.{Form, Forms, none, ◌⨾◌, forms_to_exit}
 use Rattle.smt_terms.specs.Fresh.{Supply}
 use Rattle.smt_terms.specs.Term.{Term}
 use Rattle.script_read.specs.Refusals.{Refused, and_then, mapped}
-use Rattle.script_read.specs.Parts.{place_of, form_text}
+use Rattle.smt_lex.specs.FormText.{form_text}
+use Rattle.script_read.specs.Parts.{place_of}
 use Rattle.script_read.specs.Commands.{Command, with_asserted}
 use Rattle.script_read.specs.Laws.{blank, bare, SameCommands}
 use Rattle.script_read.specs.Mean.{accepted_or}

@@ -141,18 +141,3 @@ value_first (f ⨾ fs) = if is_keyword f then None else Some f
 abbrev pub named_parts : Forms → List (Option Form)
 named_parts none = []
 named_parts (f ⨾ fs) = if is_name (codes ":named") (keyword_in f) then value_first fs ∷ named_parts fs else named_parts fs
-
--- ---- the text of a form: its tokens as they are written, one space between forms
-
-abbrev mutual
-  pub form_text : Form → List ℕ
-  form_text (atom t) = t.text
-  form_text (node place fs) = left_parenthesis ∷ (forms_text fs ++ right_parenthesis ∷ [])
-
-  pub forms_text : Forms → List ℕ
-  forms_text none = []
-  forms_text (f ⨾ fs) = form_text f ++ further_text fs
-
-  pub further_text : Forms → List ℕ
-  further_text none = []
-  further_text (f ⨾ fs) = space ∷ (form_text f ++ further_text fs)

@@ -7,7 +7,8 @@ use Rattle.smt_lex.specs.Forms.{Form, atom, node, Forms, none, ◌⨾◌, forms_
 use Rattle.smt_terms.specs.Models.{Model}
 use Rattle.smt_terms.specs.Sorts.{Sort, bool, free_sort, Symbol, Variable}
 use Rattle.script_read.specs.Refusals.{Refused}
-use Rattle.script_read.specs.Parts.{symbol_in, is_name, form_text, Opening, let_word, quantifier_word, annotation_word, head, opening, named_parts}
+use Rattle.smt_lex.specs.FormText.{form_text}
+use Rattle.script_read.specs.Parts.{symbol_in, is_name, Opening, let_word, quantifier_word, annotation_word, head, opening, named_parts}
 use Rattle.script_read.specs.Scope.{Local, let_names, quantified_name, parameter_name, Binding, sort_name, function, named, level, live_sort, is_level, opened, popped, emptied, definition as definition_binding}
 use Rattle.script_read.specs.SortForms.{sort_in, sorts_in}
 use Rattle.script_read.specs.Variables.{definition_binder, variables_in}

@@ -12,7 +12,8 @@ use Rattle.smt_terms.specs.Sorts.{Sort, bool, free_sort, Symbol, Variable}
 use Rattle.smt_terms.specs.Term.{Term, constant}
 use Rattle.script_read.specs.declared.causes.Cause.TheVariants.{WrongSort, BadForm, Redeclared, ReservedName, PopTooFar, NumberLimit, SortArity, UnsupportedOption}
 use Rattle.script_read.specs.Refusals.{Refused, at, Refusal, Unaccepted, unread, refused, and_then, unless, mapped, given}
-use Rattle.script_read.specs.Parts.{place_of, symbol_in, is_name, form_text}
+use Rattle.smt_lex.specs.FormText.{form_text}
+use Rattle.script_read.specs.Parts.{place_of, symbol_in, is_name}
 use Rattle.script_read.specs.Scope.{opened, popped, emptied}
 use Rattle.script_read.specs.SortForms.{sort_in, sorts_in}
 use Rattle.script_read.specs.Variables.{definition_binder, variables_in}

@@ -2,5 +2,6 @@ pub mod Lexicon
 pub mod Names
 pub mod Lex
 pub mod Forms
+pub mod FormText
 pub mod Forest
 pub mod Building

@@ -13,7 +13,7 @@ use Rattle.smt_lex.specs.Lexicon.{is_binary_digit, is_numeral}
 use Rattle.smt_terms.specs.declared.op.Op.TheVariants.{Bits}
 use Rattle.script_read.specs.Parts.{constant_by}
 use Rattle.smt_terms.specs.Numeral.{digits_before, numeral}
-use Rattle.smt_print.specs.Basics.{last_digits}
+use Rattle.term_table.specs.WrittenForms.{last_digits}
 
 -- ---- so many digits of a number to a base
 

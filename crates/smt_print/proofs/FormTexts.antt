@@ -8,7 +8,7 @@ use Rattle.smt_lex.specs.Lexicon.{left_parenthesis, right_parenthesis}
 use Rattle.smt_lex.specs.Lex.{Token, Fault, Lexed, ended, next, lex_from, lex}
 use Rattle.smt_lex.specs.Forms.{Form, atom, node, Forms, none, ◌⨾◌, with_token, balanced, before, rest, as_forms, forms}
 use Rattle.smt_lex.proofs.Joining.{Stops, IsLexeme, lex_lexeme_before}
-use Rattle.script_read.specs.Parts.{form_text, forms_text, further_text}
+use Rattle.smt_lex.specs.FormText.{form_text, forms_text, further_text}
 
 -- ---- forms that can be written
 

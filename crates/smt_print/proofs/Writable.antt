@@ -12,7 +12,7 @@ use Rattle.smt_lex.specs.Forms.{Form, forms_of_list}
 use Rattle.smt_lex.proofs.Joining.{word_lexeme, run_lexeme, quoted_lexeme}
 use Rattle.smt_terms.specs.Numeral.{numeral}
 use Rattle.smt_terms.specs.Sorts.{Sort, bool, int, bit_vector, array, free_sort, Variable}
-use Rattle.smt_print.specs.Basics.{word_form, symbol_form, numeral_form, indexed_form, truth_form, integer_form, last_digits, vector_form, sort_form, constant_array_form, variable_form}
+use Rattle.term_table.specs.WrittenForms.{word_form, symbol_form, numeral_form, indexed_form, truth_form, integer_form, last_digits, vector_form, sort_form, constant_array_form, variable_form}
 use Rattle.smt_print.proofs.Digits.{last_digits_length, last_digits_pass, binary_digit, hex_digit, numeral_digits, numeral_some, numeral_is_numeral}
 use Rattle.smt_print.proofs.FormTexts.{IsWritten, AreWritten}
 

@@ -12,7 +12,7 @@ use Rattle.smt_terms.specs.Equal.{term_eq}
 use Rattle.smt_terms.specs.Numeral.{numeral}
 use Rattle.smt_terms.specs.Sorts.{Variable}
 use Rattle.smt_terms.specs.Term.{Quantifier, universal, existential, Head, op, symbol, const_array, Term, apply, quantified, Terms, none, ◌⨾◌}
-use Rattle.smt_print.specs.Basics.{variable_form}
+use Rattle.term_table.specs.WrittenForms.{variable_form}
 use Rattle.smt_print.specs.TermForms.{operator_form, head_form, application_form, quantifier_word, quantified_form, tree_form, tree_forms, Definition, definition_name, is_defined, defined_name, reference, references, with_definition, with_application, let_form, below_lets, defined_form, definitions, definitions_in, dag_form}
 use Rattle.smt_print.proofs.Digits.{numeral_digits}
 use Rattle.smt_print.proofs.FormTexts.{IsWritten, AreWritten}

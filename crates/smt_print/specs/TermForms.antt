@@ -9,7 +9,7 @@ use Rattle.smt_terms.specs.Equal.{term_eq}
 use Rattle.smt_terms.specs.Numeral.{numeral}
 use Rattle.smt_terms.specs.Sorts.{Variable}
 use Rattle.smt_terms.specs.Term.{Quantifier, universal, existential, Head, op, symbol, const_array, Term, apply, quantified, Terms, none, ◌⨾◌}
-use Rattle.smt_print.specs.Basics.{list_form, word_form, symbol_form, indexed_form, truth_form, integer_form, vector_form, constant_array_form, variable_form}
+use Rattle.term_table.specs.WrittenForms.{list_form, word_form, symbol_form, indexed_form, truth_form, integer_form, vector_form, constant_array_form, variable_form}
 
 -- ---- heads
 

@@ -4,11 +4,11 @@ use Rattle.smt_lex.specs.Lexicon.{line_feed}
 use Rattle.smt_lex.specs.Forms.{Form}
 use Rattle.smt_terms.specs.Sorts.{Symbol}
 use Rattle.smt_terms.specs.Term.{Term}
-use Rattle.script_read.specs.Parts.{form_text}
+use Rattle.smt_lex.specs.FormText.{form_text}
 use Rattle.script_read.specs.Commands.{Command, passed, declare_sort, declare, assert, check, check_assuming, push, pop, reset, reset_assertions, globals, exit}
 use Rattle.smt_print.specs.declared.layout.Layout.{Layout}
 use Rattle.smt_print.specs.declared.layout.Layout.TheVariants.{Tree, Dag}
-use Rattle.smt_print.specs.Basics.{list_form, word_form, keyword_form, symbol_form, numeral_form, truth_form, sort_form}
+use Rattle.term_table.specs.WrittenForms.{list_form, word_form, keyword_form, symbol_form, numeral_form, truth_form, sort_form}
 use Rattle.smt_print.specs.TermForms.{tree_form, dag_form}
 
 abbrev pub term_form : Layout → Term → Form

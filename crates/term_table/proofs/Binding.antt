@@ -1,13 +1,12 @@
 -- The rank of a quantifier, one operand after the other.
-use Rattle.std.proofs.Common.{◌≡◌, ◌≢◌, ℕ, zero, suc, ◌+◌, ◌<◌, ◌≤◌, Bool, true, false, cond, not, ◌||◌, ◌&&◌, is_some, nat_le, nat_lt, ◌==◌, ◌-◌, List, [], ◌∷◌, ◌++◌, map, length, drop, take, get_or, Option, Some, None, Ok, Err, Result, refl, ap, sym, ◌∙◌, subst, arith}
-use Rattle.std.specs.List.{list_any}
+use Rattle.std.proofs.Common.{◌≡◌, ◌≢◌, ℕ, zero, suc, ◌+◌, ◌<◌, ◌≤◌, Bool, true, false, cond, not, ◌||◌, ◌&&◌, is_some, nat_le, nat_lt, ◌==◌, ◌-◌, List, [], ◌∷◌, ◌++◌, map, length, drop, take, get_or, Option, Some, None, Ok, Err, Result, refl, ap, sym, ◌∙◌, arith}
 use Rattle.std.proofs.Math.Seq.{drop-cons, take-suc}
 use Rattle.std.proofs.lemmas.List.{get_or-map, length-map, map-append}
 use Rattle.std.proofs.lemmas.Bool.Decides.{nat_tests}
 use Rattle.smt_terms.specs.declared.ids.NodeId.{NodeId}
 use Rattle.smt_terms.specs.declared.ids.SortId.{SortId}
 use Rattle.smt_terms.specs.Sorts.{Name, Sort, bool, int, bit_vector, Symbol}
-use Rattle.smt_terms.specs.Term.{Head, op, symbol, const_array, Term, apply, quantified, Terms, none, ◌⨾◌, list, terms}
+use Rattle.smt_terms.specs.Term.{op, symbol, const_array, Term, apply, quantified, Terms, none, ◌⨾◌, list, terms}
 use Rattle.smt_terms.specs.Equal.{name_eq, sort_eq}
 use Rattle.smt_terms.specs.Rank.{Fault, wrong_arity, wrong_sort, is_quantifiable, is_empty, has_name, may_bind, symbol_name, rank_bound, rank_quantifier, sort_of, is_regular, IsWellSorted}
 use Rattle.smt_terms.proofs.Ranked.{rank-takes}

@@ -1,24 +1,23 @@
 -- What a table's fields say of its formulas.
-use Rattle.std.proofs.Common.{◌≡◌, ◌≢◌, ℕ, zero, suc, cond, ◌+◌, ◌<◌, ◌≤◌, Bool, true, false, ◌&&◌, List, [], ◌∷◌, ◌++◌, length, map, get_or, All, Contains, Option, Some, None, is_some, Ok, refl, ap, sym, ◌∙◌, subst, arith}
-use Rattle.std.specs.List.{slice_get, position, list_all, list_any}
+use Rattle.std.proofs.Common.{◌≡◌, ℕ, zero, suc, cond, ◌<◌, Bool, true, false, List, [], ◌∷◌, ◌++◌, length, map, get_or, All, Contains, Option, Some, None, is_some, Ok, refl, ap, sym, ◌∙◌, subst, arith}
+use Rattle.std.specs.List.{slice_get, position, list_all}
 use Rattle.std.specs.Map.{keys_of, lookup}
 use Rattle.std.proofs.lemmas.List.{length-map, get_or-map, map-append}
 use Rattle.std.proofs.lemmas.List.Quantifiers.{position-Some}
 use Rattle.std.proofs.lemmas.Option.{get_or_from_slice_get, slice_get_within, slice_get-get_or}
 use Rattle.smt_terms.specs.declared.ids.NodeId.{NodeId}
 use Rattle.smt_terms.specs.declared.ids.SortId.{SortId}
-use Rattle.smt_terms.specs.declared.op.Op.{Op}
-use Rattle.smt_terms.specs.Sorts.{Sort, bool, Symbol}
+use Rattle.smt_terms.specs.Sorts.{Sort, bool}
 use Rattle.smt_terms.specs.Term.{symbol, Term}
-use Rattle.smt_terms.specs.Rank.{sort_of, is_regular, is_sort, has_sorts, is_well_sorted}
+use Rattle.smt_terms.specs.Rank.{sort_of, is_regular, is_sort, has_sorts}
 use Rattle.smt_terms.proofs.Tests.{and_true}
-use Rattle.smt_values.specs.SortIds.{sort_at, IsSortId, IsSortList, IsPlain}
+use Rattle.smt_values.specs.SortIds.{sort_at, IsSortId}
 use Rattle.smt_values.proofs.SortIds.{sort_is}
 use Rattle.term_table.specs.declared.table.Node.{Node}
 use Rattle.term_table.specs.declared.table.Entry.{Entry}
-use Rattle.term_table.specs.Formulas.{Formulas, no_tree, no_symbol, tree_in, tree, trees_at, kind, kind_term, kind_rank, operands, IsKindOf, IsOpOf, AreNodes, Makes, IsNodeOf, is_minus_over, term_over, rank_over, sorts_in, IsSymbolOver, IsTable}
-use Rattle.term_table.specs.View.{Row, row_of, symbol_of, row_term, grown, FitsRow, RowsFit, IsRowAt, FitsEntry, symbols_of, IsKept, formulas_of}
-use Rattle.term_table.proofs.Trees.{length-grown, grown-push, RowsFit-push, AreRows, rows-are, one-tree, kids-same, trees-keep}
+use Rattle.term_table.specs.Formulas.{Formulas, no_tree, no_symbol, tree_in, trees_at, kind, kind_term, kind_rank, operands, IsKindOf, IsOpOf, AreNodes, Makes, IsNodeOf, is_minus_over, rank_over, IsSymbolOver, IsTable}
+use Rattle.term_table.specs.View.{row_of, symbol_of, grown, FitsRow, RowsFit, IsRowAt, FitsEntry, symbols_of, IsKept, formulas_of}
+use Rattle.term_table.proofs.Trees.{grown-push, RowsFit-push, AreRows, rows-are, one-tree, kids-same}
 use Rattle.term_table.proofs.Operators.{kind-one, kind_term-one}
 use Rattle.term_table.proofs.Derived.{node_eq, node_eq-true, node_eq-from}
 use Rattle.term_table.proofs.Fits.{AllGood, kind_term-sort, kind_term-operands, kind_term-regular}

@@ -1,20 +1,16 @@
 -- An operator that has a rank over its operands makes a well-sorted term, whose operands they are.
-use Rattle.std.proofs.Common.{◌≡◌, ◌≢◌, ℕ, zero, suc, ◌+◌, ◌<◌, Bool, true, false, ◌&&◌, not, List, [], ◌∷◌, ◌++◌, length, map, get_or, All, Option, Some, None, Result, Ok, Err, refl, ap, sym, ◌∙◌, subst, arith, length-append}
+use Rattle.std.proofs.Common.{◌≡◌, ℕ, ◌<◌, true, false, ◌&&◌, not, List, [], ◌∷◌, ◌++◌, length, map, get_or, Option, Some, None, Ok, refl, ap, sym, ◌∙◌, subst, arith}
 use Rattle.std.specs.List.{list_all}
-use Rattle.std.proofs.lemmas.List.{length-map}
-use Rattle.smt_terms.specs.declared.ids.NodeId.{NodeId}
-use Rattle.smt_terms.specs.declared.ids.SymId.{SymId}
-use Rattle.smt_terms.specs.declared.ids.SortId.{SortId}
 use Rattle.smt_terms.specs.declared.op.Op.{Op}
 use Rattle.smt_terms.specs.Sorts.{Sort, bool, Symbol, Variable}
-use Rattle.smt_terms.specs.Term.{Quantifier, Head, op, symbol, const_array, Term, apply, quantified, Terms, none, ◌⨾◌, list, terms, over, variable, constant_of}
-use Rattle.smt_terms.specs.Rank.{Fault, rank, rank_quantifier, are_bindable, sort_of, sorts_of, is_sort, has_sorts, is_minus_of, is_regular, are_regular}
+use Rattle.smt_terms.specs.Term.{Head, op, symbol, const_array, Term, quantified, Terms, list, terms, over, variable}
+use Rattle.smt_terms.specs.Rank.{sort_of, sorts_of, is_sort, has_sorts, is_minus_of, is_regular, are_regular}
 use Rattle.smt_terms.proofs.Tests.{both_true, and_true}
 use Rattle.smt_terms.proofs.Sorted.{sort_of-apply, sort_of-quantified}
-use Rattle.smt_terms.proofs.Binders.{IsBinder, rank_quantifier-ok}
-use Rattle.smt_values.specs.SortIds.{sort_at, IsSortId, IsSortList}
+use Rattle.smt_terms.proofs.Binders.{rank_quantifier-ok}
+use Rattle.smt_values.specs.SortIds.{sort_at, IsSortList}
 use Rattle.smt_values.proofs.SortIds.{sort_is}
-use Rattle.term_table.specs.Formulas.{no_tree, no_symbol, tree_in, Kind, theory, applied, filled, binder, kind, kind_term, kind_rank, binders, body, operands, IsKindOf, sort_or_bool, sorts_in, is_minus_over}
+use Rattle.term_table.specs.Formulas.{no_symbol, Kind, theory, applied, filled, binder, kind, kind_term, kind_rank, binders, body, operands, IsKindOf, sort_or_bool, sorts_in, is_minus_over}
 use Rattle.term_table.proofs.Operators.{kind-theory}
 
 -- ---- lists of operands

@@ -1,8 +1,8 @@
 -- A list with one element more, and the same list, seen by their places.
-use Rattle.std.proofs.Common.{◌≡◌, ℕ, suc, ◌+◌, ◌<◌, ◌≤◌, inl, inr, List, [], ◌∷◌, ◌++◌, length, get_or, Contains, refl, ap, sym, ◌∙◌, subst, arith, length-append}
+use Rattle.std.proofs.Common.{◌≡◌, ℕ, ◌+◌, ◌<◌, inl, inr, List, [], ◌∷◌, ◌++◌, length, get_or, Contains, ap, ◌∙◌, arith, length-append}
 use Rattle.std.proofs.Math.ListN.{get_or-append}
 use Rattle.std.proofs.Math.Seq.{get_or-append_seam}
-use Rattle.term_table.specs.Formulas.{Adds, Grows, GrowsByOne}
+use Rattle.term_table.specs.Formulas.{Adds, GrowsByOne}
 
 module _ {X : Type 0} (old new : List X) where
   pub grows-same : new ≡ old → GrowsByOne old new

@@ -1,11 +1,11 @@
 -- More symbols and more sorts leave the terms of the rows as they are.
-use Rattle.std.proofs.Common.{◌≡◌, ◌≢◌, ℕ, ◌+◌, ◌<◌, ◌≤◌, List, [], ◌∷◌, ◌++◌, length, map, get_or, All, Some, refl, ap, sym, ◌∙◌, subst, arith}
+use Rattle.std.proofs.Common.{◌≡◌, ℕ, ◌<◌, ◌≤◌, List, [], ◌∷◌, ◌++◌, length, map, get_or, Some, refl, ap, sym, ◌∙◌, subst, arith}
 use Rattle.smt_terms.specs.declared.ids.SortId.{SortId}
 use Rattle.smt_terms.specs.Sorts.{Sort, Symbol}
-use Rattle.smt_terms.specs.Term.{op, symbol, const_array, Term, over}
+use Rattle.smt_terms.specs.Term.{symbol, const_array, Term, over}
 use Rattle.smt_terms.specs.Rank.{sort_of, is_regular}
 use Rattle.smt_values.specs.SortIds.{sort_at, IsSortId}
-use Rattle.term_table.specs.Formulas.{no_tree, no_symbol, tree_in, Kind, theory, applied, filled, binder, kind, kind_term, operands, IsKindOf}
+use Rattle.term_table.specs.Formulas.{no_symbol, tree_in, Kind, theory, applied, filled, binder, kind, kind_term, operands, IsKindOf}
 use Rattle.term_table.specs.View.{Row, row_term, grown, FitsRow, RowsFit}
 
 pub record IsLarger (fs : List Symbol) (ss : List Sort) (gs : List Symbol) (us : List Sort) : Type 0 where

@@ -3,8 +3,12 @@ pub mod Operators
 pub mod Derived
 pub mod Fits
 pub mod Larger
+pub mod Made
+mod Minus
+mod Rows
 pub mod Fields
 pub mod Growth
 pub mod Symbols
 pub mod Ranks
 pub mod Binding
+mod Texts

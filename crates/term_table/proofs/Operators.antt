@@ -1,15 +1,12 @@
 -- An operator is told by its term, and a row by its term with its operands.
-use Rattle.std.proofs.Common.{◌≡◌, ℕ, ◌<◌, Bool, true, List, [], ◌∷◌, length, map, get_or, All, refl, ap, sym, ◌∙◌, subst}
-use Rattle.smt_terms.specs.declared.ids.NodeId.{NodeId}
-use Rattle.smt_terms.specs.declared.ids.SymId.{SymId}
-use Rattle.smt_terms.specs.declared.ids.SortId.{SortId}
+use Rattle.std.proofs.Common.{◌≡◌, ℕ, ◌<◌, List, length, get_or, refl, ap, sym, ◌∙◌}
 use Rattle.smt_terms.specs.declared.op.Op.{Op}
 use Rattle.smt_terms.specs.declared.op.Op.TheVariants.{Sym, Forall, Exists, ConstArray}
 use Rattle.smt_terms.specs.Sorts.{Sort, Symbol}
-use Rattle.smt_terms.specs.Term.{Quantifier, universal, existential, Head, op, symbol, const_array, Term, terms}
+use Rattle.smt_terms.specs.Term.{universal, existential, op, symbol, const_array, Term}
 use Rattle.smt_values.specs.SortIds.{sort_at, IsSortList}
 use Rattle.smt_values.proofs.SortIds.{sort_one}
-use Rattle.term_table.specs.Formulas.{no_symbol, no_tree, tree_in, Kind, theory, applied, filled, binder, kind, kind_term, operands, IsKindOf}
+use Rattle.term_table.specs.Formulas.{no_symbol, Kind, theory, applied, filled, binder, kind, kind_term, IsKindOf}
 
 -- ---- an operator is made of its kind again
 

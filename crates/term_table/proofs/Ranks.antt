@@ -1,5 +1,5 @@
 -- The rank of a shape from the tests of its operands.
-use Rattle.std.proofs.Common.{◌≡◌, ◌≢◌, ℕ, zero, suc, ◌+◌, ◌*◌, ◌/◌, ◌^◌, ◌↔◌, ◌<◌, ◌≤◌, Bool, true, false, cond, ◌==◌, nat_le, inl, inr, List, [], ◌∷◌, map, length, drop, get_or, replicate, Option, Some, None, Ok, Err, refl, ap, sym, ◌∙◌, subst, arith}
+use Rattle.std.proofs.Common.{◌≡◌, ℕ, zero, suc, ◌+◌, ◌*◌, ◌/◌, ◌^◌, ◌↔◌, ◌<◌, ◌≤◌, true, cond, ◌==◌, nat_le, inl, inr, List, [], ◌∷◌, map, length, drop, get_or, replicate, Option, Some, None, Ok, Err, refl, ap, sym, ◌∙◌, arith}
 use Rattle.std.specs.Bool.{IsTrue}
 use Rattle.std.proofs.Math.Nat.{lt-div-mul-add, div-eq_of_lt}
 use Rattle.std.proofs.Math.Seq.{drop-cons}
@@ -9,14 +9,13 @@ use Rattle.std.proofs.lemmas.Bool.Decides.{Decides-eqb, nat_tests}
 use Rattle.smt_terms.specs.declared.ids.NodeId.{NodeId}
 use Rattle.smt_terms.specs.declared.ids.SortId.{SortId}
 use Rattle.smt_terms.specs.Sorts.{Sort, bool, bit_vector}
-use Rattle.smt_terms.specs.Term.{Term}
 use Rattle.smt_terms.specs.Equal.{sort_eq}
-use Rattle.smt_terms.specs.Rank.{Fault, wrong_arity, wrong_sort, width_limit, Shape, fixed, distinctness, Place, only, any_sort, misfit, before, first_misfit, accepted, most_bits, width, sort_of, is_sort}
+use Rattle.smt_terms.specs.Rank.{Fault, wrong_arity, wrong_sort, width_limit, fixed, distinctness, Place, only, any_sort, misfit, before, first_misfit, accepted, most_bits, width, sort_of, is_sort}
 use Rattle.smt_terms.proofs.Tests.{true_or_false, both_true}
 use Rattle.smt_terms.proofs.Equal.{Decides-sort_eq}
 use Rattle.smt_values.specs.SortIds.{sort_at, IsSortId, IsSortList}
 use Rattle.smt_values.proofs.SortIds.{sort_one, sort_is}
-use Rattle.term_table.specs.Formulas.{Formulas, no_tree, tree_in, trees_at, sort_or_bool, sorts_in}
+use Rattle.term_table.specs.Formulas.{Formulas, no_tree, tree_in, trees_at, sort_or_bool}
 use Rattle.term_table.specs.ShapeRank.{shape_rank, kid_sorts}
 
 -- ---- one operand

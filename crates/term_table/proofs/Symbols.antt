@@ -1,5 +1,5 @@
 -- One symbol more, and more sorts, leave the terms as they are.
-use Rattle.std.proofs.Common.{◌≡◌, ◌≢◌, ℕ, zero, suc, ◌+◌, ◌<◌, ◌≤◌, ◌⊎◌, inl, inr, Bool, true, false, if◌then◌else◌, List, [], ◌∷◌, ◌++◌, length, map, get_or, All, Contains, Some, refl, ap, sym, ◌∙◌, subst, arith, length-append}
+use Rattle.std.proofs.Common.{◌≡◌, ℕ, zero, suc, ◌+◌, ◌<◌, ◌≤◌, ◌⊎◌, inl, inr, Bool, true, false, if◌then◌else◌, List, [], ◌∷◌, ◌++◌, length, map, get_or, All, Contains, Some, refl, ap, sym, ◌∙◌, subst, arith, length-append}
 use Rattle.std.specs.List.{slice_get, list_any}
 use Rattle.std.proofs.Math.ListN.{get_or-append}
 use Rattle.std.proofs.Math.Seq.{get_or-append_seam}
@@ -8,16 +8,15 @@ use Rattle.std.proofs.lemmas.List.Folds.{list_any_at}
 use Rattle.std.proofs.lemmas.Option.{get_or_from_slice_get, slice_get_within}
 use Rattle.indexmap.specs.IndexSet.{insert_key}
 use Rattle.smt_terms.specs.declared.ids.SortId.{SortId}
-use Rattle.smt_terms.specs.Sorts.{Sort, bool, Symbol}
-use Rattle.smt_terms.specs.Term.{Term}
-use Rattle.smt_values.specs.SortIds.{sort_at, sort_numbered, IsSortId, IsSortList, AddsSort}
+use Rattle.smt_terms.specs.Sorts.{Sort, Symbol}
+use Rattle.smt_values.specs.SortIds.{sort_at, IsSortId, IsSortList, AddsSort}
 use Rattle.smt_values.proofs.SortIds.{sort_one, sort_stays}
 use Rattle.term_table.specs.declared.table.Node.{Node}
 use Rattle.term_table.specs.declared.table.Entry.{Entry}
-use Rattle.term_table.specs.Formulas.{Formulas, no_symbol, Adds, GrowsByOne}
-use Rattle.term_table.specs.View.{Row, row_of, symbol_of, grown, RowsFit, FitsEntry, symbols_of, IsKept}
+use Rattle.term_table.specs.Formulas.{no_symbol, Adds, GrowsByOne}
+use Rattle.term_table.specs.View.{row_of, symbol_of, grown, FitsEntry, symbols_of, IsKept}
 use Rattle.term_table.proofs.Derived.{entry_eq, entry_eq-true, entry_eq-from}
-use Rattle.term_table.proofs.Growth.{grows-same, grows-push, within-push, seam-push}
+use Rattle.term_table.proofs.Growth.{grows-same, grows-push, seam-push}
 use Rattle.term_table.proofs.Larger.{IsLarger, grown-larger, RowsFit-larger}
 use Rattle.term_table.proofs.Fields.{in_list}
 

@@ -1,6 +1,6 @@
 -- How the logic stores a term, a symbol and what a contract sees of a table.
-use Rattle.std.proofs.Common.{◌≡◌, ℕ, List, [], ◌∷◌, refl, ap, arith}
-use Rattle.std.specs.Coded.{Coded, code_by, coded×, coded_ℕ, coded_list}
+use Rattle.std.proofs.Common.{◌≡◌, List, refl, ap, arith}
+use Rattle.std.specs.Coded.{Coded, code_by, coded×, coded_list}
 use base.Stored.{Gv, gnil, gnum, gcons}
 use Rattle.smt_terms.specs.contracts.op.Op as operator
 use Rattle.smt_terms.specs.Sorts.{Name, Sort, Symbol, Variable}

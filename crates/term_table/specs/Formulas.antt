@@ -1,6 +1,6 @@
 -- What a contract sees of a table of formulas: its symbols, its array sorts and free sorts, and the term of each node,
 -- each at the place that is its number. SMT-LIB 2.6, sections 3.5, 3.6 and 5.2.2.
-use Rattle.std.specs.Prelude.{◌≡◌, ℕ, suc, ◌+◌, ◌<◌, ◌≤◌, ◌⊎◌, Bool, true, false, List, [], ◌∷◌, ◌++◌, map, length, get_or, Option, Some, None, Result, Ok, Err, All, Contains, IsTrue, IsOk, refl}
+use Rattle.std.specs.Prelude.{◌≡◌, ℕ, suc, ◌<◌, ◌≤◌, ◌⊎◌, Bool, false, List, [], ◌∷◌, ◌++◌, map, length, get_or, Option, Some, None, Result, All, Contains, IsOk, refl}
 use Rattle.std.specs.Coded.{Coded, code_by, coded×, coded_ℕ, coded_list}
 use Rattle.smt_terms.specs.declared.ids.NodeId.{NodeId}
 use Rattle.smt_terms.specs.declared.ids.SymId.{SymId}
@@ -8,7 +8,7 @@ use Rattle.smt_terms.specs.declared.ids.SortId.{SortId}
 use Rattle.smt_terms.specs.declared.op.Op.{Op}
 use Rattle.smt_terms.specs.declared.op.Op.TheVariants.{Truth, Sym, Forall, Exists, ConstArray}
 use Rattle.smt_terms.specs.Sorts.{Name, Sort, bool, Symbol, Variable}
-use Rattle.smt_terms.specs.Term.{Quantifier, universal, existential, Head, op, symbol, const_array, Term, apply, quantified, Terms, none, ◌⨾◌, list, terms, over, variable}
+use Rattle.smt_terms.specs.Term.{Quantifier, universal, existential, op, symbol, const_array, Term, apply, quantified, none, list, terms, over, variable}
 use Rattle.smt_terms.specs.Rank.{Fault, rank, rank_quantifier, sort_of, IsWellSorted, is_minus_of}
 use Rattle.smt_values.specs.SortIds.{sort_at, IsSortId, IsSortList, IsPlain}
 use Rattle.smt_values.specs.Codes.{coded_sorts}

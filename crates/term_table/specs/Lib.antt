@@ -3,3 +3,4 @@ pub mod Faults
 pub mod Formulas
 pub mod ShapeRank
 pub mod View
+pub mod WrittenForms

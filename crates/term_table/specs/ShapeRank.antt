@@ -1,7 +1,6 @@
 -- The rank of a shape, and the sorts of a node's operands as a table names them.
-use Rattle.std.specs.Prelude.{◌≡◌, ℕ, ◌≤◌, List, length, Option, Some, None, Result, Ok, Err, if◌then◌else◌}
+use Rattle.std.specs.Prelude.{List, length, Option, Some, None, Result, Err, if◌then◌else◌}
 use Rattle.smt_terms.specs.declared.ids.NodeId.{NodeId}
-use Rattle.smt_terms.specs.declared.ids.SortId.{SortId}
 use Rattle.smt_terms.specs.Sorts.{Sort}
 use Rattle.smt_terms.specs.Rank.{Fault, wrong_arity, Shape, admits, arity, places, first_misfit, accepted, in_range, result_of}
 use Rattle.term_table.specs.declared.fault.RankFault.{RankFault}

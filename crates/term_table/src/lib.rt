@@ -4,11 +4,17 @@
 #![tactic(auto)]
 
 pub mod fault;
+pub mod laws;
 pub mod lists;
 pub mod rank;
 pub mod table;
+pub mod text;
 
 pub use fault::RankFault;
 pub use lists::{Bytes, Nodes, Syms};
 pub use smt_terms::NodeId;
 pub use table::Table;
+pub use text::{scalar_text, sort_text};
+
+#[cfg(test)]
+mod tests;

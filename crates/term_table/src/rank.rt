@@ -11,10 +11,10 @@ use smt_terms::NodeId;
 use smt_values::{Op, SortId, SymId};
 
 /// The number of `Bool`.
-const BOOL: SortId = SortId(0);
+pub(crate) const BOOL: SortId = SortId(0);
 
 /// The number of `Int`.
-const INT: SortId = SortId(1);
+pub(crate) const INT: SortId = SortId(1);
 
 /// The number of the bit vectors of width 1.
 const BIT: SortId = SortId(2);
@@ -26,7 +26,7 @@ const NO_BITS: u64 = 1;
 const MOST_BITS: u64 = 128;
 
 /// The width of a bit-vector sort, and None for another sort.
-fn width_of(sort: SortId) -> Option<u64>
+pub(crate) fn width_of(sort: SortId) -> Option<u64>
     ensures { MatchOption result ((sort.0 < 2) ⊎ (130 ≤ sort.0)) (λ w. (sort.0 ≡ w + 1) × (1 ≤ w) × (w ≤ 128)) }
 {
     if sort.0 < BIT.0 || sort.0 > NO_BITS + MOST_BITS {
@@ -43,7 +43,7 @@ fn is_quantifiable_sort(sort: SortId) -> bool
 }
 
 /// Whether the bits are below 2 to the width, for a width of at most 128.
-fn fits(bits: u128, width: u32) -> bool
+pub(crate) fn fits(bits: u128, width: u32) -> bool
     requires { width ≤ 128 }
     ensures { IsTrue result ↔ (bits < 2 ^ width) }
 {

@@ -1,7 +1,8 @@
 //! The table itself.
 
-ghost use Rattle.std.specs.Prelude.{◌≡◌, ◌<◌, ◌≤◌, ◌+◌, ◌++◌, ◌∷◌, ◌↔◌, [], ℕ, suc, length, map, get_or, IfOk, IfSome, MatchOption, OnOk, OnErr, IsOk, Contains, All, Ok, false};
-ghost use Rattle.smt_terms.specs.Sorts.{array, free_sort};
+ghost use Rattle.std.specs.Prelude.{◌≡◌, ◌<◌, ◌≤◌, ◌+◌, ◌++◌, ◌∷◌, ◌↔◌, [], ℕ, suc, length, map, get_or, IfOk, IfSome, MatchOption, OnOk, OnErr, IsOk, Contains, All, Ok, Some, false};
+ghost use Rattle.smt_terms.specs.Sorts.{int, array, free_sort};
+ghost use Rattle.smt_terms.specs.Made.{minus};
 ghost use Rattle.smt_terms.specs.Rank.{sort_of, is_array};
 ghost use Rattle.smt_values.specs.SortIds.{sort_at, IsSortId, IsPlain, AddsSort};
 
@@ -244,6 +245,26 @@ impl Table {
             kids: SmallVec::from_slice(self.alloc, kids).unwrap(),
         };
         self.intern_node(node).unwrap()
+    }
+
+    /// The unary minus of an integer node, or the constant of the other sign where the node is a constant.
+    #[tactic(auto, unfolding(crate::specs::Formulas::kind))]
+    pub fn minus(&mut self, kid: NodeId) -> Result<NodeId, AllocError>
+        requires node { IsNode self.old kid }
+        requires whole { sort_of (tree self.old kid) ≡ Some int }
+        ensures node { IfOk result (λ k. IsNode self.new k) }
+        ensures term { IfOk result (λ k. tree self.new k ≡ minus (tree self.old kid)) }
+        ensures grows { GrowsByOne self.old.trees self.new.trees }
+        ensures added { Adds self.old.trees self.new.trees (minus (tree self.old kid)) }
+        ensures symbols { self.new.symbols ≡ self.old.symbols }
+        ensures sorts { self.new.sorts ≡ self.old.sorts }
+        ensures spare { self.old.spare ≤ self.new.spare + 1 }
+        ensures err { OnErr result (IsUnchanged self.old self.new) }
+    {
+        match self.op(kid) {
+            Op::Whole(n) => self.intern(Op::Whole(-n), &[]),
+            _ => self.intern(Op::Neg, &[kid]),
+        }
     }
 
     /// The number of the array sort of this index, which is no array, and this element. It is made last where the table

@@ -7,7 +7,7 @@ use Rattle.smt_terms.specs.Sorts.{Name, Sort, Symbol, Variable}
 use Rattle.smt_terms.specs.Term.{op, symbol, Term, apply, none, ◌⨾◌}
 use Rattle.script_read.specs.Refusals.{Unaccepted}
 use Rattle.script_read.specs.Commands.{Command}
-use Rattle.script_read.specs.Parts.{form_text}
+use Rattle.smt_lex.specs.FormText.{form_text}
 use Rattle.script_read.specs.Scenes.{Asserted}
 use Rattle.script_read.specs.Script.{script}
 

@@ -4,9 +4,9 @@ use Rattle.smt_lex.specs.Names.{is_syntax_word, is_command_word}
 use Rattle.smt_terms.specs.declared.op.Op.TheVariants.{Truth, Not, And, Or, Xor, Implies, Equal, Distinct, Ite, Neg, Sub, Add, Mul, Div, Mod, Abs, Le, Lt, Concat, Extract, BvNot, BvNeg, BvAnd, BvOr, BvXor, BvAdd, BvMul, BvSub, BvUdiv, BvUrem, BvSdiv, BvSrem, BvSmod, BvShl, BvLshr, BvAshr, BvComp, BvUlt, BvUle, BvSlt, BvSle, ZeroExt, SignExt, RotL, RotR, Select, Store}
 use Rattle.smt_terms.specs.Sorts.{Sort, bool, int, bit_vector, array, free_sort}
 use Rattle.smt_terms.specs.Term.{universal, existential, symbol, const_array, quantified, over, variable}
-use Rattle.script_read.specs.Parts.{form_text}
+use Rattle.smt_lex.specs.FormText.{form_text}
 use Rattle.smt_print.specs.declared.layout.Layout.TheVariants.{Tree}
-use Rattle.smt_print.specs.Basics.{sort_form}
+use Rattle.term_table.specs.WrittenForms.{sort_form}
 use Rattle.smt_print.specs.TermForms.{operator_form}
 use Rattle.smt_print.proofs.Rows.Given.{Cases, printed, wanted, named, p, q, x, y, n, leaf, whole, bits, of_one, of_two, of_three}
 

@@ -1,10 +1,10 @@
-use Rattle.std.proofs.Common.{◌≡◌, List, [], ◌∷◌, ◌++◌, length, map, get_or, Contains, subst, sym, ap, ◌∙◌}
+use Rattle.std.proofs.Common.{◌≡◌, List, [], ◌∷◌, ◌++◌, length, map, Contains, subst, sym, ap, ◌∙◌}
 use Rattle.indexmap.specs.IndexMap.{spare}
 use Rattle.indexmap.proofs.CallerLemmas.{insert_entry-new}
 use Rattle.smt_terms.specs.declared.ids.SortId.{SortId}
 use Rattle.smt_terms.specs.Term.{Term}
 use Rattle.term_table.specs.declared.table.Node.{Node}
-use Rattle.term_table.specs.Formulas.{Formulas, no_tree, term_over, trees_at, GrowsByOne, Adds}
+use Rattle.term_table.specs.Formulas.{Formulas, no_tree, term_over, trees_at}
 use Rattle.term_table.specs.View.{row_of, symbols_of, grown, IsKept}
 use Rattle.term_table.proofs.Derived.{node_eq}
 use Rattle.term_table.proofs.Growth.{grows-same, adds-same, grows-push, adds-push, within-push, seam-push}

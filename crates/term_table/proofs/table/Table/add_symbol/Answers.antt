@@ -1,5 +1,5 @@
-use Rattle.std.proofs.Common.{◌≡◌, get_or, subst, sym, ap, ◌∙◌}
-use Rattle.term_table.specs.Formulas.{Formulas, no_symbol, Adds}
+use Rattle.std.proofs.Common.{subst, sym, ap, ◌∙◌}
+use Rattle.term_table.specs.Formulas.{Formulas, Adds}
 use Rattle.term_table.specs.View.{symbol_of, symbols_of, FitsEntry}
 use Rattle.term_table.proofs.Symbols.{kept_inserted, trees_inserted, added_symbol, stored_symbol}
 use Rattle.term_table.proofs.table.Table.add_symbol.Goals as goal

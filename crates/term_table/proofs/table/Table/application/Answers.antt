@@ -1,9 +1,7 @@
-use Rattle.std.proofs.Common.{◌≡◌, map, length, sym, ap, ◌∙◌, arith, Option, None}
-use Rattle.smt_terms.specs.Sorts.{Sort}
+use Rattle.std.proofs.Common.{◌≡◌, map, length, sym, ◌∙◌, None}
 use Rattle.smt_values.specs.SortIds.{sort_at}
 use Rattle.std.proofs.lemmas.List.{length-map}
-use Rattle.smt_terms.specs.Rank.{only, first_misfit, fixed}
-use Rattle.term_table.specs.Formulas.{symbol_at}
+use Rattle.smt_terms.specs.Rank.{fixed}
 use Rattle.term_table.specs.ShapeRank.{kid_sorts, shape_rank}
 use Rattle.term_table.proofs.Ranks.{fixed-rank, sort-narrow, accepted-narrow, length-kid_sorts}
 use Rattle.term_table.proofs.table.Table.application.Goals as goal

@@ -1,6 +1,5 @@
 use Rattle.std.proofs.Common.{ap, ◌∙◌}
-use Rattle.smt_terms.specs.Sorts.{array, free_sort}
-use Rattle.smt_values.specs.SortIds.{sort_at}
+use Rattle.smt_terms.specs.Sorts.{free_sort}
 use Rattle.term_table.specs.Formulas.{Formulas}
 use Rattle.term_table.proofs.Symbols.{added_longer, added_stays, symbols-stay, kept_sorts, trees_sorts}
 use Rattle.term_table.proofs.table.Table.declared_sort.Goals as goal

@@ -1,4 +1,4 @@
-use Rattle.std.proofs.Common.{◌≡◌, length, subst, sym, ◌∙◌, ap}
+use Rattle.std.proofs.Common.{◌≡◌, length, subst, sym, ◌∙◌}
 use Rattle.indexmap.specs.IndexMap.{spare}
 use Rattle.term_table.specs.Formulas.{Formulas, IsTable}
 use Rattle.term_table.proofs.Fields.{length-trees, is_table}

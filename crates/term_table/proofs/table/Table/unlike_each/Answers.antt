@@ -1,4 +1,4 @@
-use Rattle.std.proofs.Common.{map, length, arith, ◌∙◌}
+use Rattle.std.proofs.Common.{map, arith, ◌∙◌}
 use Rattle.std.proofs.lemmas.List.{length-map}
 use Rattle.smt_terms.specs.Rank.{only}
 use Rattle.smt_values.specs.SortIds.{sort_at}

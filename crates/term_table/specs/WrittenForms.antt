@@ -1,4 +1,4 @@
--- Names, numbers, constants and sorts as forms: SMT-LIB 2.6, sections 3.1, 3.5 and 3.6, and the constants of the theories
+-- Names, numbers, constants and sorts as the forms that are written for them: SMT-LIB 2.6, sections 3.1, 3.5 and 3.6, and the constants of the theories
 -- Core, Ints and FixedSizeBitVectors. Forms that are printed have no places of their own: each place is 0.
 use Rattle.std.specs.Prelude.{ℕ, zero, suc, ◌/◌, ◌%◌, ◌==◌, Bool, true, false, if◌then◌else◌, List, [], ◌∷◌, ◌++◌, map, codes, ℤ, pos, int_lt, unsigned_abs}
 use Rattle.std.specs.Char.{digit_char}
@@ -6,6 +6,8 @@ use Rattle.smt_lex.specs.Names.{Name, is_simple, printed_symbol}
 use Rattle.smt_lex.specs.Forms.{Form, atom, node, forms_of_list}
 use Rattle.smt_lex.specs.declared.items.Item.{Item}
 use Rattle.smt_lex.specs.declared.items.Item.TheVariants.{Numeral, Hex, Bin, Word, Quoted, Keyword}
+use Rattle.smt_values.specs.declared.scalar.Scalar.{Scalar}
+use Rattle.smt_values.specs.declared.scalar.Scalar.TheVariants.{Truth, Whole, Bits}
 use Rattle.smt_terms.specs.Numeral.{numeral}
 use Rattle.smt_terms.specs.Sorts.{Sort, bool, int, bit_vector, array, free_sort, Variable}
 
@@ -59,6 +61,11 @@ vector_form width n =
     if width % 4 == 0
     then token_form Hex (codes "#x" ++ last_digits 16 (width / 4) n [])
     else token_form Bin (codes "#b" ++ last_digits 2 width n [])
+
+abbrev pub scalar_form : Scalar → Form
+scalar_form (Truth b) = truth_form b
+scalar_form (Whole n) = integer_form n
+scalar_form (Bits width n) = vector_form width n
 
 -- ---- sorts
 
