@@ -1,10 +1,10 @@
 -- Which terms are among those of a list.
-use Rattle.std.proofs.Common.{◌≡◌, ◌≢◌, ℕ, zero, suc, ◌+◌, ◌<◌, ◌≤◌, ◌⊎◌, inl, inr, Bool, true, false, not, cond, ◌&&◌, ◌||◌, List, [], ◌∷◌, ◌++◌, length, get_or, filter, refl, ap, sym, ◌∙◌, arith}
+use Rattle.std.proofs.Common.{◌≡◌, ℕ, zero, suc, ◌<◌, ◌⊎◌, inl, inr, Bool, true, false, not, cond, ◌&&◌, ◌||◌, List, [], ◌∷◌, ◌++◌, length, get_or, filter, refl, ap, sym, ◌∙◌, arith}
 use Rattle.smt_terms.specs.Equal.{term_eq}
 use Rattle.smt_terms.specs.Groups.{has_term, with_new}
 use Rattle.smt_terms.specs.Term.{Term}
 use Rattle.smt_terms.proofs.Equal.{Decides-term_eq}
-use Rattle.smt_terms.proofs.Tests.{either_true, left_true, right_true, true_or_false}
+use Rattle.smt_terms.proofs.Tests.{either_true, left_true, right_true}
 
 pub has-append : (ts us : List Term) (t : Term) → has_term (ts ++ us) t ≡ (has_term ts t || has_term us t)
 has-append [] us t = refl
@@ -15,7 +15,7 @@ has-append (v ∷ ts) us t = ap (λ b. term_eq v t || b) (has-append ts us t) �
     or_grouped false b c = refl
 
 -- a list that lets through what passes a test
-has-filter : (p : Term → Bool) (ts : List Term) (t : Term) → has_term (filter p ts) t ≡ (has_term ts t && p t)
+pub has-filter : (p : Term → Bool) (ts : List Term) (t : Term) → has_term (filter p ts) t ≡ (has_term ts t && p t)
 has-filter p [] t = refl
 has-filter p (v ∷ ts) t = head (p v) refl ∙ ap (λ b. (p v && term_eq v t) || b) (has-filter p ts t) ∙ let_through (term_eq v t) (has_term ts t) (p t) (p v) (λ e. ap p ((Decides-term_eq v t).0 e))
   where

@@ -1,11 +1,10 @@
 -- What holds of the results that are kept of a table's nodes.
-use Rattle.std.specs.Prelude.{◌≡◌, ℕ, ◌+◌, ◌<◌, ◌≤◌, Bool, true, List, [], ◌∷◌, All, IsTrue, Option, Some, None, IsSome, length}
+use Rattle.std.specs.Prelude.{◌≡◌, ◌<◌, ◌≤◌, true, List, [], ◌∷◌, All, IsTrue, Some, None, IsSome, length}
 use Rattle.smt_terms.specs.declared.ids.NodeId.{NodeId}
-use Rattle.smt_terms.specs.Groups.{has_term}
 use Rattle.smt_terms.specs.Term.{Term}
 use Rattle.term_table.specs.Formulas.{Formulas, tree_in, tree, trees_at, operands, IsNode, AreNodes, Grows}
 use Rattle.term_walk.specs.declared.kept.Place.{Place}
-use Rattle.term_walk.specs.Places.{result_at, is_closed_at, results}
+use Rattle.term_walk.specs.Places.{result_at, is_closed_at}
 use Rattle.term_walk.specs.Subterms.{is_subterm}
 
 -- a table that only gained: each number names what it named

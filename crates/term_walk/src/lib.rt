@@ -3,12 +3,14 @@
 
 #![tactic(auto)]
 
+pub mod count;
 pub mod kept;
 pub mod node_step;
 mod stack;
 pub mod steps;
 pub mod walks;
 
+pub use count::count_nodes;
 pub use kept::Kept;
 pub use node_step::NodeStep;
 pub use steps::Steps;
