@@ -14,3 +14,6 @@ pub use count::count_nodes;
 pub use kept::Kept;
 pub use node_step::NodeStep;
 pub use steps::Steps;
+
+#[cfg(test)]
+mod tests;
