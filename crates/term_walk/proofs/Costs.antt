@@ -38,10 +38,10 @@ module _ {T : Type 0} (us ts : List Term) where
       | inl same ↦
           let P : ℕ → Type 0 = λ m. open_costs us ts ks' m + open_cost us ts ks' m + suc (length (operands (tree_in ts id))) ≡ open_costs us ts ks m + open_cost us ts ks m in
           subst P (sym same.1)
-            (let below : open_costs us ts ks' id.0 ≡ open_costs us ts ks id.0 = costs-same id.0 (omega arith) in
-            let after : open_cost us ts ks' id.0 ≡ 0 = cost-closed ks' id.0 here in
-            let before : open_cost us ts ks id.0 ≡ suc (length (operands (tree_in ts id))) = cost-open ks id.0 e h in
-            omega arith)
+          (let below : open_costs us ts ks' id.0 ≡ open_costs us ts ks id.0 = costs-same id.0 (omega arith) in
+          let after : open_cost us ts ks' id.0 ≡ 0 = cost-closed ks' id.0 here in
+          let before : open_cost us ts ks id.0 ≡ suc (length (operands (tree_in ts id))) = cost-open ks id.0 e h in
+          omega arith)
       | inr apart ↦
           let below = costs-closed n (let a = apart.1 in omega arith) e h in
           let one : open_cost us ts ks' n ≡ open_cost us ts ks n = cost-same ks ks' n (others (record { 0 = n }) apart.1) in

@@ -1,6 +1,7 @@
 pub mod Below
 mod Costs
 mod Counting
+mod FreeScan
 mod Marks
 pub mod Members
 pub mod Nodes
@@ -9,3 +10,4 @@ mod PlaceLemmas
 pub mod Roots
 mod Turns
 pub mod Visits
+mod SymbolLists

@@ -215,7 +215,7 @@ module _ (t : Formulas) (roots : List NodeId) (ms : List Bool) (from : AreMarked
     count-marked le =
         sym (none_beyond (length t.trees) le)
         ∙ marked-once t.trees ms (length t.trees) (all_subterms (trees_at t roots)) (once-all (trees_at t roots) sorts) table.one_tree exact
-          (λ u h. let m = each-marked u h in (m.id.0, m.node, m.term))
+        (λ u h. let m = each-marked u h in (m.id.0, m.node, m.term))
       where
         sorts : (i : ℕ) → i < length (trees_at t roots) → (s : Sort) × (sort_of (get_or (trees_at t roots) i no_tree) ≡ Some s)
         sorts i lt =

@@ -169,14 +169,14 @@ marked-once ts ms (suc n) us h distinct marks found = by (is_marked ms n) refl (
     by true e earlier_marks =
         let among : has_term us (get_or ts n no_tree) ≡ true = sym (marks n (omega arith)) ∙ e in
         let rest : marked_below ms n ≡ length (less us (get_or ts n no_tree)) =
-            earlier_marks (less us (get_or ts n no_tree)) (once-less us (get_or ts n no_tree) h) fewer
-            (λ i lt. marks i (omega arith) ∙ sym (has-less us (get_or ts n no_tree) (get_or ts i no_tree) (other i lt)))
-            (λ u k. let r = less-in us (get_or ts n no_tree) u h k in earlier u r.0 r.1) in
+        earlier_marks (less us (get_or ts n no_tree)) (once-less us (get_or ts n no_tree) h) fewer
+        (λ i lt. marks i (omega arith) ∙ sym (has-less us (get_or ts n no_tree) (get_or ts i no_tree) (other i lt)))
+        (λ u k. let r = less-in us (get_or ts n no_tree) u h k in earlier u r.0 r.1) in
         let one = length-less us (get_or ts n no_tree) among in
         omega (arith, rest, one)
     by false e earlier_marks =
         let not_among : has_term us (get_or ts n no_tree) ≡ false = sym (marks n (omega arith)) ∙ e in
         let rest : marked_below ms n ≡ length us =
-            earlier_marks us h fewer (λ i lt. marks i (omega arith))
-            (λ u k. earlier u (λ same. (let f : has_term us u ≡ false = subst (λ (w : Term). has_term us w ≡ false) same not_among in cc)) k) in
+        earlier_marks us h fewer (λ i lt. marks i (omega arith))
+        (λ u k. earlier u (λ same. (let f : has_term us u ≡ false = subst (λ (w : Term). has_term us w ≡ false) same not_among in cc)) k) in
         omega (arith, rest)

@@ -82,15 +82,15 @@ module _ {T : Type 0} where
         let same = same_tree f.id h.frame.node in
         let us = operands (tree_in ts f.id) in
         let each : (i : ℕ) → i < f.next → i < length us → HasClosed ts' ks' (get_or us i no_tree) =
-            λ i lt in_list. elim (last_or_before i f.next lt) [
-              | inl below ↦ has_closed (get_or us i no_tree) (h.before i below in_list)
-              | inr last ↦ record {
-                id = id;
-                node = within id node;
-                term = same_tree id node ∙ sym h.operand ∙ ap (λ j. get_or us j no_tree) (sym last);
-                closed = here;
-              }
-            ] in
+        λ i lt in_list. elim (last_or_before i f.next lt) [
+          | inl below ↦ has_closed (get_or us i no_tree) (h.before i below in_list)
+          | inr last ↦ record {
+            id = id;
+            node = within id node;
+            term = same_tree id node ∙ sym h.operand ∙ ap (λ j. get_or us j no_tree) (sym last);
+            closed = here;
+          }
+        ] in
         let P : Term → Type 0 = λ u. AreClosedBefore ts' ks' (operands u) f.next in
         record { frame = open-later f h.below h.frame; before = subst P (sym same) each }
 

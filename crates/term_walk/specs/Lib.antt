@@ -1,3 +1,4 @@
+pub mod FreeLists
 pub mod Marks
 pub mod Places
 pub mod Stacks

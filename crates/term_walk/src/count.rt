@@ -61,7 +61,11 @@ fn mark_operands(table: &Table, marks: &mut Vec<bool>, id: NodeId)
 }
 
 // A mark at each subterm of these nodes, and at no other node.
-pub(crate) fn mark_subterms(alloc: Global, table: &Table, roots: &[NodeId]) -> Result<Vec<bool>, AllocError>
+pub(crate) fn mark_subterms(
+    alloc: Global,
+    table: &Table,
+    roots: &[NodeId],
+) -> Result<Vec<bool>, AllocError>
     requires { AreNodes table.now roots.now }
     ensures len { IfOk result (λ ms. length ms.items ≤ length table.now.trees) }
     ensures marks { IfOk result (λ ms. AreMarkedFrom table.now roots.now 0 ms.items) }

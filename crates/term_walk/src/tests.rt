@@ -1,4 +1,4 @@
-//! Counts of small formulas and of one that is far larger as a tree. Expected values were worked out by hand.
+//! Counts and free symbols of small formulas, and counts of one that is far larger as a tree. Expected values were worked out by hand.
 
 ghost use Rattle.std.specs.Prelude.{◌≡◌, ◌<◌, ◌≤◌, false, length, IfOk};
 ghost use Rattle.smt_terms.specs.Rank.{is_minus};
@@ -6,6 +6,7 @@ ghost use Rattle.smt_values.specs.SortIds.{IsPlain};
 ghost use Rattle.term_table.specs.Formulas.{IsNode, AreNodes, IsOpOf};
 
 use crate::count::count_nodes;
+use crate::free::free_symbols;
 use crate::kept::Kept;
 use crate::node_step::NodeStep;
 use crate::steps::Steps;
@@ -153,5 +154,52 @@ fn a_walk_takes_a_step_for_each_node(rt: HostRuntime) -> Result<(), Fail> {
     let mut table = Table::new(rt.alloc());
     let node = nested_pairs(&rt, &mut table)?;
     assert!(rt; walked::<Brand>(rt.alloc(), &mut table, node, Blank::new(1))? == 303);
+    Ok(())
+}
+
+// Whether the free symbols of this node have these names, in this order.
+fn is_free_in(
+    alloc: Global,
+    table: &Table,
+    node: NodeId,
+    names: &[&[u8]],
+) -> Result<bool, AllocError>
+    requires { IsNode table.now node }
+{
+    let symbols = free_symbols(alloc, table, node)?;
+    if symbols.len() != names.len() {
+        return Ok(false);
+    }
+    for place in 0..symbols.len() {
+        if table.symbol_name(symbols[place]) != names[place] {
+            return Ok(false);
+        }
+    }
+    Ok(true)
+}
+
+#[test]
+#[tactic(auto, unfolding(term_table::specs::Formulas::kind, smt_terms::specs::Rank::is_minus))]
+fn symbols_are_listed_once_in_order(rt: HostRuntime) -> Result<(), Fail> {
+    let mut table = Table::new(rt.alloc());
+    let a = constant(&rt, &mut table, b"a")?;
+    let b = constant(&rt, &mut table, b"b")?;
+    let both = made(&rt, &mut table, Op::And, &[b, a, b])?;
+    assert!(rt; is_free_in(rt.alloc(), &table, both, &[b"b", b"a"])?);
+    Ok(())
+}
+
+#[test]
+#[tactic(auto, unfolding(term_table::specs::Formulas::kind, smt_terms::specs::Rank::is_minus))]
+fn a_bound_constant_is_not_free(rt: HostRuntime) -> Result<(), Fail> {
+    let mut table = Table::new(rt.alloc());
+    let a = constant(&rt, &mut table, b"a")?;
+    let x = constant(&rt, &mut table, b"x")?;
+    let either = made(&rt, &mut table, Op::Or, &[x, a])?;
+    let all = made(&rt, &mut table, Op::Forall, &[x, either])?;
+    assert!(rt; is_free_in(rt.alloc(), &table, all, &[b"a"])?);
+    let both = made(&rt, &mut table, Op::And, &[all, x])?;
+    assert!(rt; is_free_in(rt.alloc(), &table, both, &[b"a", b"x"])?);
+    assert!(rt; count_nodes(rt.alloc(), &table, &[both])? == 5);
     Ok(())
 }

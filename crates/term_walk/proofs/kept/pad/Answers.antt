@@ -1,4 +1,4 @@
-use Rattle.std.proofs.Common.{rules, ◌≡◌, ℕ, ◌∙◌, arith}
+use Rattle.std.proofs.Common.{◌∙◌, arith}
 use Rattle.term_walk.proofs.PlaceLemmas.{place_at-push, results-push}
 use Rattle.term_walk.proofs.kept.pad.Goals as goal
 

@@ -26,9 +26,9 @@ loop-frame-smaller g c =
     let fs = c.pop.new.self in
     let less = looked-less c.loop-frame.kept c.args.root f fs us ts ts c.loop-frame.table.trees counted grows top.1 top.0 in
     let near = c.in_ok-turn.ensures.nearer us ts (length ts)
-        (frame-within c.loop-frame.kept c.args.root f fs us ts ts c.loop-frame.table.trees counted grows top.1)
-        (tree-counted c.loop-frame.kept c.args.root f fs us ts ts c.loop-frame.table.trees counted grows top.1)
-        (tree-same c.loop-frame.kept c.args.root f fs us ts ts c.loop-frame.table.trees counted grows top.1) in
+    (frame-within c.loop-frame.kept c.args.root f fs us ts ts c.loop-frame.table.trees counted grows top.1)
+    (tree-counted c.loop-frame.kept c.args.root f fs us ts ts c.loop-frame.table.trees counted grows top.1)
+    (tree-same c.loop-frame.kept c.args.root f fs us ts ts c.loop-frame.table.trees counted grows top.1) in
     let looked : looked_up c.loop-frame.stack ≡ f.next + looked_up fs = ap looked_up c.in-Some.ensures in
     omega (arith, less, near, looked)
 
@@ -50,9 +50,9 @@ loop-frame-preserved g c =
       leads = c.in_ok-turn.ensures.leads root top.1;
       most = λ us ts counted.
           let near = c.in_ok-turn.ensures.nearer us ts (length ts)
-              (frame-within ks root f fs us ts c.args.table.now.trees c.loop-frame.table.trees counted inv.grows.trees top.1)
-              (tree-counted ks root f fs us ts c.args.table.now.trees c.loop-frame.table.trees counted inv.grows.trees top.1)
-              (tree-same ks root f fs us ts c.args.table.now.trees c.loop-frame.table.trees counted inv.grows.trees top.1) in
+          (frame-within ks root f fs us ts c.args.table.now.trees c.loop-frame.table.trees counted inv.grows.trees top.1)
+          (tree-counted ks root f fs us ts c.args.table.now.trees c.loop-frame.table.trees counted inv.grows.trees top.1)
+          (tree-same ks root f fs us ts c.args.table.now.trees c.loop-frame.table.trees counted inv.grows.trees top.1) in
           let looked : looked_up c.loop-frame.stack ≡ f.next + looked_up fs = ap looked_up c.in-Some.ensures in
           omega (arith, near, looked, inv.most us ts counted, c.turn.ensures.most);
       least = omega (arith, c.turn.ensures.least, inv.least);
