@@ -11,7 +11,7 @@ use Rattle.term_walk.specs.Stacks.{open_cost, open_costs}
 use Rattle.term_walk.specs.Subterms.{places}
 
 -- the list without the first t
-abbrev less : List Term → Term → List Term
+abbrev pub less : List Term → Term → List Term
 less [] t = []
 less (u ∷ us) t = cond (term_eq u t) us (u ∷ less us t)
 
@@ -31,7 +31,7 @@ has-split u t v us true e true h apart later = absurd (apart (sym ((Decides-term
 has-split u t v us true e false h apart later = refl
 has-split u t v us false e d h apart later = ap (λ c. c || has_term (less us t) v) h ∙ ap (λ c. d || c) later
 
-has-less : (us : List Term) (t v : Term) → t ≢ v → has_term (less us t) v ≡ has_term us v
+pub has-less : (us : List Term) (t v : Term) → t ≢ v → has_term (less us t) v ≡ has_term us v
 has-less [] t v apart = refl
 has-less (u ∷ us) t v apart = has-split u t v us (term_eq u t) refl (term_eq u v) refl apart (has-less us t v apart)
 

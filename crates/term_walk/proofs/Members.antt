@@ -15,7 +15,7 @@ has-append (v ∷ ts) us t = ap (λ b. term_eq v t || b) (has-append ts us t) �
     or_grouped false b c = refl
 
 -- a list that lets through what passes a test
-has-filter : (p : Term → Bool) (ts : List Term) (t : Term) → has_term (filter p ts) t ≡ (has_term ts t && p t)
+pub has-filter : (p : Term → Bool) (ts : List Term) (t : Term) → has_term (filter p ts) t ≡ (has_term ts t && p t)
 has-filter p [] t = refl
 has-filter p (v ∷ ts) t = head (p v) refl ∙ ap (λ b. (p v && term_eq v t) || b) (has-filter p ts t) ∙ let_through (term_eq v t) (has_term ts t) (p t) (p v) (λ e. ap p ((Decides-term_eq v t).0 e))
   where

@@ -1,3 +1,5 @@
+pub mod FreeLists
+pub mod Marks
 pub mod Places
 pub mod Stacks
 pub mod Subterms

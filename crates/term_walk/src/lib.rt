@@ -3,13 +3,20 @@
 
 #![tactic(auto)]
 
+pub mod count;
+pub mod free;
 pub mod kept;
 pub mod node_step;
 mod stack;
 pub mod steps;
 pub mod walks;
 
+pub use count::count_nodes;
+pub use free::free_symbols;
 pub use kept::Kept;
 pub use node_step::NodeStep;
 pub use steps::Steps;
 pub use walks::{walk, walk_all};
+
+#[cfg(test)]
+mod tests;
