@@ -8,5 +8,5 @@ invariant-loop g l = record {
   no : IsFormula l.table l.no;
 }
 
-abbrev pub ghosts-new : goal.ghosts-new
-ghosts-new g a = record { name = a.blank.name; parts = a.blank.parts }
+abbrev pub ghosts-normal_form : goal.ghosts-normal_form
+ghosts-normal_form g a = record { name = a.blank.name; parts = a.blank.parts }
