@@ -1,5 +1,5 @@
 -- What closing nodes costs.
-use Rattle.std.proofs.Common.{◌≡◌, ◌≢◌, ℕ, zero, suc, ◌+◌, ◌-◌, ◌<◌, ◌≤◌, inl, inr, ◌⊎◌, Bool, true, false, cond, List, [], ◌∷◌, length, get_or, if◌then◌else◌, refl, ap, sym, ◌∙◌, subst, arith}
+use Rattle.std.proofs.Common.{◌≡◌, ◌≢◌, ℕ, zero, suc, ◌+◌, ◌-◌, ◌<◌, ◌≤◌, inl, inr, true, false, cond, List, [], ◌∷◌, length, get_or, refl, ap, sym, ◌∙◌, subst, arith}
 use Rattle.std.proofs.lemmas.Bool.Decides.{eqb_tells}
 use Rattle.smt_terms.specs.declared.ids.NodeId.{NodeId}
 use Rattle.smt_terms.specs.Groups.{has_term}
@@ -8,7 +8,7 @@ use Rattle.term_table.specs.Formulas.{no_tree, tree_in, operands}
 use Rattle.term_walk.specs.declared.kept.Place.{Place}
 use Rattle.term_walk.specs.declared.stack.Frame.{Frame}
 use Rattle.term_walk.specs.Places.{is_closed_at}
-use Rattle.term_walk.specs.Stacks.{IsOpen, IsWaiting, Wait, IsReady, open_cost, open_costs, looked_up}
+use Rattle.term_walk.specs.Stacks.{IsOpen, Wait, IsReady, open_cost, open_costs, looked_up}
 
 module _ {T : Type 0} (us ts : List Term) where
   cost-closed : (ks : List (Place T)) (i : ℕ) → is_closed_at ks i ≡ true → open_cost us ts ks i ≡ 0

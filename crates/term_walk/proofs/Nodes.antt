@@ -1,9 +1,9 @@
 -- Closed nodes and the results of operands.
-use Rattle.std.proofs.Common.{◌≡◌, ℕ, ◌<◌, true, List, length, map, get_or, All, IsSome, refl, ap, sym, ◌∙◌, subst, arith}
+use Rattle.std.proofs.Common.{◌≡◌, ℕ, true, List, length, get_or, All, IsSome, ap, sym, ◌∙◌, subst, arith}
 use Rattle.std.proofs.lemmas.List.{get_or-map, length-map}
 use Rattle.smt_terms.specs.declared.ids.NodeId.{NodeId}
 use Rattle.smt_terms.specs.Term.{Term}
-use Rattle.term_table.specs.Formulas.{Formulas, no_tree, tree_in, tree, trees_at, operands, AreNodes, IsTable}
+use Rattle.term_table.specs.Formulas.{Formulas, no_tree, tree_in, tree, operands, IsTable}
 use Rattle.term_walk.specs.declared.kept.Place.{Place}
 use Rattle.term_walk.specs.Places.{result_at, is_closed_at}
 use Rattle.term_walk.specs.Walking.{HaveResults, HasClosed, IsClosed}

@@ -1,15 +1,15 @@
 -- What a walk keeps from one root to the next.
-use Rattle.std.proofs.Common.{◌≡◌, ◌≢◌, ℕ, suc, ◌+◌, ◌<◌, ◌≤◌, inl, inr, true, List, [], ◌∷◌, map, length, get_or, All, IsSome, Option, None, Some, is_some, refl, ap, sym, ◌∙◌, subst, arith}
-use Rattle.std.proofs.lemmas.List.{get_or-map, length-map, get_or_default}
+use Rattle.std.proofs.Common.{◌≡◌, ℕ, ◌<◌, true, List, length, get_or, All, IsSome, Option, None, Some, is_some, refl, ap, sym, ◌∙◌, subst, arith}
+use Rattle.std.proofs.lemmas.List.{get_or-map, length-map}
 use Rattle.smt_terms.specs.declared.ids.NodeId.{NodeId}
 use Rattle.smt_terms.specs.Groups.{has_term}
 use Rattle.smt_terms.specs.Term.{Term}
-use Rattle.term_table.specs.Formulas.{Formulas, no_tree, tree_in, tree, trees_at, operands, IsNode, AreNodes, Grows}
+use Rattle.term_table.specs.Formulas.{Formulas, no_tree, tree_in, tree, trees_at, operands, IsNode, AreNodes}
 use Rattle.term_walk.specs.declared.kept.Place.{Place}
 use Rattle.term_walk.specs.Places.{result_at, is_closed_at}
 use Rattle.term_walk.specs.Stacks.{IsCounted}
 use Rattle.term_walk.specs.Subterms.{subterms, all_subterms, is_subterm}
-use Rattle.term_walk.specs.Walking.{GrowsTo, HasClosed, IsClosed, HasResult, AllHaveResults, GainsUnder, GainsBelow, Fits}
+use Rattle.term_walk.specs.Walking.{GrowsTo, HasClosed, AllHaveResults, GainsUnder, GainsBelow, Fits}
 use Rattle.term_walk.proofs.Below.{itself, all-down, one-of, alone, all-below}
 
 module _ (t : Formulas) (roots : List NodeId) (nodes : AreNodes t roots) (i : ℕ) (k : NodeId) (lt : i < length roots) (is : get_or roots i k ≡ k) where

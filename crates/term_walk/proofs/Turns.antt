@@ -1,5 +1,5 @@
 -- How a turn leads a stack on.
-use Rattle.std.proofs.Common.{◌≡◌, ◌≢◌, ℕ, zero, suc, ◌+◌, ◌-◌, ◌<◌, ◌≤◌, inl, inr, ◌⊎◌, Bool, true, false, List, [], ◌∷◌, length, map, get_or, All, IsSome, refl, ap, sym, ◌∙◌, subst, arith}
+use Rattle.std.proofs.Common.{◌≡◌, ◌≢◌, ℕ, zero, suc, ◌+◌, ◌-◌, ◌<◌, ◌≤◌, inl, inr, ◌⊎◌, Bool, true, false, List, [], ◌∷◌, length, get_or, All, refl, ap, sym, ◌∙◌, subst, arith}
 use Rattle.std.proofs.lemmas.List.{get_or_default}
 use Rattle.std.proofs.lemmas.Bool.Decides.{eqb_tells}
 use Rattle.smt_terms.specs.declared.ids.NodeId.{NodeId}
@@ -7,7 +7,7 @@ use Rattle.smt_terms.specs.Term.{Term}
 use Rattle.term_table.specs.Formulas.{no_tree, tree_in, operands, Grows}
 use Rattle.term_walk.specs.declared.kept.Place.{Place}
 use Rattle.term_walk.specs.declared.stack.Frame.{Frame}
-use Rattle.term_walk.specs.Places.{result_at, is_closed_at}
+use Rattle.term_walk.specs.Places.{is_closed_at}
 use Rattle.term_walk.specs.Walking.{HasClosed}
 use Rattle.term_walk.specs.Stacks.{AreClosedBefore, IsOpen, IsWaiting, Wait, IsReady, Leads, first, advanced, looked}
 

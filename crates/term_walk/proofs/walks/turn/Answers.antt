@@ -1,4 +1,4 @@
-use Rattle.std.proofs.Common.{◌≡◌, ℕ, ◌≤◌, length, ap, arith}
+use Rattle.std.proofs.Common.{◌≡◌, ◌≤◌, length, ap, arith}
 use Rattle.smt_terms.specs.Term.{Term}
 use Rattle.term_table.specs.Formulas.{tree_in, tree, operands}
 use Rattle.term_walk.proofs.Costs.{costs-closed}

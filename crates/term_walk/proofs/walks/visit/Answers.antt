@@ -1,5 +1,4 @@
-use Rattle.std.proofs.Common.{rules, ◌≡◌, ℕ, ◌+◌, List, ◌∷◌, length, ap, sym, ◌∙◌, subst, arith}
-use Rattle.smt_terms.specs.Term.{Term}
+use Rattle.std.proofs.Common.{◌≡◌, ◌+◌, ◌∷◌, length, ap, sym, ◌∙◌, subst, arith}
 use Rattle.term_table.specs.Formulas.{tree_in}
 use Rattle.term_walk.specs.Stacks.{Leads, IsCounted, looked_up}
 use Rattle.term_walk.specs.Subterms.{subterms}

@@ -1,4 +1,4 @@
-use Rattle.std.proofs.Common.{rules, ◌≡◌, ℕ, ◌<◌, ◌≤◌, true, length, get_or, inl, inr, ap, sym, ◌∙◌, subst, arith}
+use Rattle.std.proofs.Common.{◌≡◌, true, length, get_or, inl, inr, ap, sym, ◌∙◌, subst, arith}
 use Rattle.std.proofs.lemmas.Bool.Decides.{eqb_tells}
 use Rattle.std.proofs.lemmas.List.{get_or_default}
 use Rattle.smt_terms.specs.declared.ids.NodeId.{NodeId}
@@ -7,7 +7,7 @@ use Rattle.term_walk.specs.Places.{is_closed_at}
 use Rattle.term_walk.specs.Subterms.{all_subterms}
 use Rattle.term_walk.specs.Walking.{Fits}
 use Rattle.term_walk.proofs.Counting.{costs-bounded}
-use Rattle.term_walk.proofs.Roots.{counted-roots, gained-more, closed-results, closed-roots}
+use Rattle.term_walk.proofs.Roots.{counted-roots, gained-more, closed-results}
 use Rattle.term_walk.proofs.Visits.{table-grows}
 use Rattle.term_walk.proofs.walks.walk_all.Goals as goal
 
