@@ -70,18 +70,63 @@ fn constant(
     Ok(node)
 }
 
-#[test]
+// The node of `true`.
 #[tactic(auto, unfolding(crate::specs::Formulas::kind, smt_terms::specs::Rank::is_minus))]
+fn truth(rt: &impl Abort, table: &mut Table) -> Result<NodeId, AllocError>
+    ensures node { IfOk result (λ k. IsNode table.new k) }
+    ensures grows { GrowsByOne table.old.trees table.new.trees }
+{
+    let node = made(rt, table, Op::Truth(true), &[])?;
+    Ok(node)
+}
+
+// The negation of a node.
+#[tactic(auto, unfolding(crate::specs::Formulas::kind, smt_terms::specs::Rank::is_minus))]
+fn negated(rt: &impl Abort, table: &mut Table, kid: NodeId) -> Result<NodeId, AllocError>
+    requires { IsNode table.old kid }
+    ensures node { IfOk result (λ k. IsNode table.new k) }
+    ensures grows { GrowsByOne table.old.trees table.new.trees }
+{
+    let node = made(rt, table, Op::Not, &[kid])?;
+    Ok(node)
+}
+
+// The negation of a node, where the table has it.
+#[tactic(auto, unfolding(crate::specs::Formulas::kind))]
+fn negation_found(table: &Table, kid: NodeId) -> Result<Option<NodeId>, AllocError>
+    requires { IsNode table.now kid }
+{
+    let found = table.find(Op::Not, &[kid])?;
+    Ok(found)
+}
+
+// Whether the only operand of a node is this one.
+fn is_over(table: &Table, node: NodeId, kid: NodeId) -> bool
+    requires { IsNode table.now node }
+{
+    table.kids(node) == [kid].as_slice()
+}
+
+#[test]
 fn equal_nodes_are_one(rt: HostRuntime) -> Result<(), Fail> {
     let mut table = Table::new(rt.alloc());
-    let yes = made(&rt, &mut table, Op::Truth(true), &[])?;
-    let no = made(&rt, &mut table, Op::Not, &[yes])?;
-    let again = made(&rt, &mut table, Op::Not, &[yes])?;
-    assert!(rt; again == no && table.len() == 2);
-    assert!(rt; table.find(Op::Not, &[yes])? == Some(no));
-    assert!(rt; table.find(Op::Not, &[no])?.is_none());
-    assert!(rt; table.kids(no) == [yes].as_slice());
+    let yes = truth(&rt, &mut table)?;
+    let no = negated(&rt, &mut table, yes)?;
+    let again = negated(&rt, &mut table, yes)?;
+    assert!(rt; again == no);
+    assert!(rt; table.len() == 2);
+    assert!(rt; is_over(&table, no, yes));
     assert!(rt; table.sort_of(no) == BOOL);
+    Ok(())
+}
+
+#[test]
+fn a_node_is_found_where_it_is_there(rt: HostRuntime) -> Result<(), Fail> {
+    let mut table = Table::new(rt.alloc());
+    let yes = truth(&rt, &mut table)?;
+    let no = negated(&rt, &mut table, yes)?;
+    assert!(rt; negation_found(&table, yes)? == Some(no));
+    assert!(rt; negation_found(&table, no)?.is_none());
     Ok(())
 }
 
@@ -93,7 +138,9 @@ fn nodes_are_made_in_room(rt: HostRuntime) -> Result<(), Fail> {
     let yes = made_in_room(&rt, &mut table, Op::Truth(true), &[]);
     let no = made_in_room(&rt, &mut table, Op::Not, &[yes]);
     let again = made(&rt, &mut table, Op::Truth(true), &[])?;
-    assert!(rt; again == yes && no != yes && table.len() == 2);
+    assert!(rt; again == yes);
+    assert!(rt; no != yes);
+    assert!(rt; table.len() == 2);
     Ok(())
 }
 
@@ -117,7 +164,8 @@ fn the_minus_of_a_constant_is_a_constant(rt: HostRuntime) -> Result<(), Fail> {
     let less = minus_of(&rt, &mut table, five)?;
     let back = minus_of(&rt, &mut table, less)?;
     assert!(rt; table.op(less) == Op::Whole(-5));
-    assert!(rt; back == five && table.len() == 2);
+    assert!(rt; back == five);
+    assert!(rt; table.len() == 2);
     Ok(())
 }
 
