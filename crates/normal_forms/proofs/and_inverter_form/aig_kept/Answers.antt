@@ -1,4 +1,4 @@
-use Rattle.std.proofs.Common.{◌≡◌, Some, option_copied, ap, sym, ◌∙◌}
+use Rattle.std.proofs.Common.{◌≡◌, option_copied, ap, sym, ◌∙◌}
 use Rattle.smt_terms.specs.Rank.{sort_of}
 use Rattle.smt_terms.specs.Shapes.{is_aig}
 use Rattle.term_table.specs.Formulas.{no_tree, tree}

@@ -1,4 +1,4 @@
-use Rattle.std.proofs.Common.{◌≡◌, ap, sym, ◌∙◌}
+use Rattle.std.proofs.Common.{ap, sym, ◌∙◌}
 use Rattle.term_table.specs.Formulas.{tree, trees_at}
 use Rattle.normal_forms.specs.Aig.{inverted}
 use Rattle.normal_forms.specs.Shape.{kind_seen}

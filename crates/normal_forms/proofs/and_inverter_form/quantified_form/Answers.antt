@@ -1,11 +1,11 @@
-use Rattle.std.proofs.Common.{◌≡◌, Some, true, is_some, option_copied, ap, sym, ◌∙◌}
+use Rattle.std.proofs.Common.{◌≡◌, Some, is_some, option_copied, ap, sym, ◌∙◌}
 use Rattle.smt_terms.specs.Rank.{sort_of}
 use Rattle.smt_terms.specs.Term.{quantified}
 use Rattle.term_table.specs.Formulas.{tree}
 use Rattle.term_walk.specs.Places.{result_at}
 use Rattle.normal_forms.specs.Aig.{aig}
 use Rattle.normal_forms.specs.InvertedNodes.{IsInverted}
-use Rattle.normal_forms.specs.Shape.{is_universally_quantified, quantifier_seen, variables_of, body_in}
+use Rattle.normal_forms.specs.Shape.{is_universally_quantified, quantifier_seen, variables_of}
 use Rattle.normal_forms.proofs.Inverted.{aig-quantified}
 use Rattle.normal_forms.proofs.Taken.{copied-some, body-bool}
 use Rattle.normal_forms.proofs.and_inverter_form.quantified_form.Goals as goal

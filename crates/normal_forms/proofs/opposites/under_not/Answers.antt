@@ -1,4 +1,4 @@
-use Rattle.std.proofs.Common.{◌≡◌, ◌<◌, ◌+◌, ◌≤◌, length, arith}
+use Rattle.std.proofs.Common.{◌≡◌, length, arith}
 use Rattle.term_table.specs.Formulas.{kind, tree, AreNodes}
 use Rattle.normal_forms.proofs.Inverted.{one-kid, under-not}
 use Rattle.normal_forms.proofs.opposites.under_not.Goals as goal
