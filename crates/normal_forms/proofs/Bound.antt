@@ -1,18 +1,16 @@
 -- Quantifiers over new bodies, as nodes.
-use Rattle.std.proofs.Common.{◌≡◌, ℕ, zero, suc, ◌+◌, ◌-◌, ◌<◌, ◌≤◌, Bool, true, false, List, [], ◌∷◌, ◌++◌, map, length, get_or, take, All, Some, Ok, IsOk, is_ok, refl, ap, sym, ◌∙◌, subst, arith, length-append}
+use Rattle.std.proofs.Common.{◌≡◌, ◌+◌, ◌-◌, ◌<◌, true, false, List, [], ◌∷◌, ◌++◌, map, length, get_or, take, Some, Ok, is_ok, refl, ap, sym, ◌∙◌, subst, arith, length-append}
 use Rattle.std.proofs.lemmas.List.{get_or-map, length-map}
 use Rattle.smt_terms.specs.declared.ids.NodeId.{NodeId}
 use Rattle.smt_terms.specs.declared.op.Op.TheVariants.{Forall, Exists}
-use Rattle.smt_terms.specs.Sorts.{Sort, bool, Variable}
-use Rattle.smt_terms.specs.Term.{Quantifier, universal, existential, Term, apply, quantified, terms, variable}
+use Rattle.smt_terms.specs.Sorts.{bool, Variable}
+use Rattle.smt_terms.specs.Term.{Quantifier, Term, apply, quantified, terms, variable}
 use Rattle.smt_terms.specs.Rank.{rank_quantifier, sort_of, is_minus, are_bindable}
-use Rattle.smt_terms.specs.Laws.{IsBinder}
 use Rattle.smt_terms.proofs.Binders.{binder-rank_quantifier}
 use Rattle.smt_terms.proofs.Sorted.{quantified_sort, sort_of-quantified}
 use Rattle.term_table.specs.Formulas.{Formulas, no_tree, tree, tree_in, trees_at, operands, binders, body, sort_or_bool, sorts_in, kind, Makes, AreNodes}
 use Rattle.term_table.proofs.Binding.{earlier_terms}
-use Rattle.normal_forms.specs.Nodes.{IsFormula}
-use Rattle.normal_forms.specs.Shape.{is_quantified, variables_of, body_in, quantifier_seen}
+use Rattle.normal_forms.specs.Shape.{is_quantified, variables_of, body_in}
 use Rattle.normal_forms.proofs.NnfShape.{no-minus}
 
 pub quantified-operands : (u : Term) → is_quantified u ≡ true → operands u ≡ map variable (variables_of u) ++ body_in u ∷ []

@@ -7,6 +7,7 @@ pub mod Drawn
 mod Duals
 mod Inherited
 pub mod Inside
+mod Inverted
 mod Keeps
 pub mod MadeNodes
 pub mod Nnf

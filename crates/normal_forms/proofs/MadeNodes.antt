@@ -1,18 +1,18 @@
 -- What makes the node of a connective.
-use Rattle.std.proofs.Common.{◌≡◌, ℕ, zero, suc, ◌+◌, ◌<◌, ◌≤◌, Bool, true, false, List, [], ◌∷◌, map, length, get_or, replicate, All, Some, Ok, IsOk, is_ok, refl, ap, sym, ◌∙◌, subst, arith}
+use Rattle.std.proofs.Common.{◌≡◌, ℕ, zero, suc, ◌<◌, ◌≤◌, Bool, false, List, [], ◌∷◌, length, replicate, All, Some, Ok, IsOk, is_ok, refl, ap, sym, ◌∙◌, subst, arith}
 use Rattle.std.proofs.lemmas.List.{get_or-map, length-map}
 use Rattle.std.proofs.lemmas.List.Elements.{All-head, All-tail}
 use Rattle.smt_terms.specs.declared.ids.NodeId.{NodeId}
 use Rattle.smt_terms.specs.declared.op.Op.{Op}
 use Rattle.smt_terms.specs.declared.op.Op.TheVariants.{Truth, Not, And, Or}
 use Rattle.smt_terms.specs.Connectives.{truth_term, negated, all_of, any_of}
-use Rattle.smt_terms.specs.Sorts.{Sort, bool}
-use Rattle.smt_terms.specs.Term.{Term, op, Terms, none, ◌⨾◌, list, terms, over}
-use Rattle.smt_terms.specs.Rank.{Shape, several as several_of, fixed, shape, rank, sort_of, sorts_of, with_sort, width, most_bits, is_minus}
+use Rattle.smt_terms.specs.Sorts.{bool}
+use Rattle.smt_terms.specs.Term.{Term, op, terms, over}
+use Rattle.smt_terms.specs.Rank.{several as several_of, shape, rank, sort_of, sorts_of, with_sort, width, most_bits, is_minus}
 use Rattle.smt_terms.specs.Takes.{Takes}
 use Rattle.smt_terms.proofs.Ranked.{takes-rank}
 use Rattle.smt_terms.proofs.Sorted.{sort_of-apply}
-use Rattle.term_table.specs.Formulas.{Formulas, no_tree, tree, tree_in, trees_at, sort_or_bool, sorts_in, Kind, kind, theory, kind_rank, IsKindOf, rank_over, term_over, is_minus_over, Makes, AreNodes}
+use Rattle.term_table.specs.Formulas.{Formulas, tree, tree_in, trees_at, sort_or_bool, sorts_in, Kind, kind, theory, kind_rank, IsKindOf, Makes, AreNodes}
 use Rattle.normal_forms.specs.Nodes.{IsFormula}
 use Rattle.normal_forms.proofs.NnfShape.{no-minus}
 

@@ -1,10 +1,10 @@
 -- The kinds of terms, from the sorts of their operands.
-use Rattle.std.proofs.Common.{◌≡◌, ℕ, zero, suc, ◌+◌, ◌<◌, ◌≤◌, ◌↔◌, Bool, true, false, cond, IsTrue, List, [], ◌∷◌, map, length, get_or, replicate, All, Some, Ok, refl, ap, sym, ◌∙◌, subst, arith}
+use Rattle.std.proofs.Common.{◌≡◌, ℕ, zero, suc, ◌<◌, ◌↔◌, Bool, true, false, cond, IsTrue, List, [], ◌∷◌, length, get_or, replicate, All, Some, refl, ap, sym, ◌∙◌, subst, arith}
 use Rattle.std.proofs.lemmas.List.Elements.{All-cons}
 use Rattle.smt_terms.specs.declared.op.Op.TheVariants.{Ite}
-use Rattle.smt_terms.specs.Connectives.{Kind, conditional, atom, where_bool, where_branch_bool, operator_kind, kind_of}
+use Rattle.smt_terms.specs.Connectives.{Kind, conditional, atom, where_bool, where_branch_bool, operator_kind}
 use Rattle.smt_terms.specs.Sorts.{Sort, bool, int, bit_vector, array, free_sort}
-use Rattle.smt_terms.specs.Term.{Head, op, Term, apply, quantified, Terms, none, ◌⨾◌, list, terms, over}
+use Rattle.smt_terms.specs.Term.{op, Term, apply, quantified, Terms, none, ◌⨾◌, list, terms, over}
 use Rattle.smt_terms.specs.Rank.{shape, sort_of, sorts_of}
 use Rattle.smt_terms.proofs.Connected.{Count, Connected, connected, is_logical}
 use Rattle.smt_terms.proofs.Ranked.{rank-takes}

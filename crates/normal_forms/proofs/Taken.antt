@@ -1,5 +1,5 @@
 -- Parts of kept results, as the terms that they name.
-use Rattle.std.proofs.Common.{◌≡◌, ◌≢◌, ℕ, suc, ◌+◌, ◌<◌, ◌≤◌, inl, inr, true, not, List, [], ◌∷◌, ◌++◌, map, length, get_or, All, Option, Some, None, option_map, option_copied, is_some, Bor, refl, ap, sym, ◌∙◌, subst, arith}
+use Rattle.std.proofs.Common.{◌≡◌, ℕ, ◌+◌, ◌<◌, inl, inr, true, not, List, [], ◌∷◌, ◌++◌, map, length, get_or, All, Option, Some, None, option_map, option_copied, is_some, Bor, refl, ap, sym, ◌∙◌, subst, arith}
 use Rattle.std.proofs.Math.ListN.{get_or-append}
 use Rattle.std.proofs.Math.Seq.{get_or-append_seam}
 use Rattle.std.proofs.lemmas.Bool.Decides.{eqb_tells}

@@ -1,5 +1,5 @@
 -- The two forms of a formula as nodes of a table.
-use Rattle.std.specs.Prelude.{◌≡◌, ℕ, ◌<◌, List, length, get_or, Option, Some, option_map}
+use Rattle.std.specs.Prelude.{◌≡◌, ℕ, ◌<◌, List, length, get_or, Some, option_map}
 use Rattle.std.proofs.Common.{◌∙◌}
 use Rattle.smt_terms.specs.declared.ids.NodeId.{NodeId}
 use Rattle.smt_terms.specs.Sorts.{bool}

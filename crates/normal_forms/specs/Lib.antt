@@ -1,5 +1,6 @@
 pub mod Aig
 pub mod FormNodes
+pub mod InvertedNodes
 pub mod Laws
 pub mod Nnf
 pub mod Nodes

@@ -3,6 +3,7 @@
 
 #![tactic(auto)]
 
+pub mod and_inverter_form;
 mod binding;
 mod connective;
 mod forms;
@@ -10,6 +11,7 @@ pub mod laws;
 mod making;
 pub mod negation_normal_form;
 pub mod node_forms;
+mod opposites;
 mod shapes;
 #[cfg(test)]
 mod tests;

@@ -1,4 +1,4 @@
-use Rattle.std.proofs.Common.{◌≡◌, ◌∷◌, ◌++◌, [], ap, ◌∙◌}
+use Rattle.std.proofs.Common.{◌∷◌, ◌++◌, [], ap, ◌∙◌}
 use Rattle.term_table.specs.Formulas.{tree, trees_at}
 use Rattle.normal_forms.proofs.Bound.{rebound-terms}
 use Rattle.normal_forms.proofs.binding.rebound.Goals as goal

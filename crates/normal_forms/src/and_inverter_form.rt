@@ -1,0 +1,318 @@
+//! And-inverter form.
+
+ghost use Rattle.std.specs.Prelude.{◌≡◌, ◌∷◌, [], ◌+◌, ◌≤◌, length, map, true, Some, All, IsSome, IsTrue, IfOk};
+ghost use Rattle.smt_terms.specs.Connectives.{all_of, opposite};
+ghost use Rattle.smt_terms.specs.Sorts.{bool};
+ghost use Rattle.smt_terms.specs.Rank.{sort_of};
+ghost use Rattle.smt_terms.specs.Shapes.{is_aig};
+ghost use Rattle.smt_terms.specs.Term.{Term};
+ghost use Rattle.term_table.specs.Formulas.{tree, trees_at, operands, IsNode};
+ghost use Rattle.term_walk.specs.Places.{result_at};
+ghost use Rattle.term_walk.specs.Subterms.{all_subterms, places};
+ghost use Rattle.term_walk.specs.Walking.{GrowsTo, AreRelated, Fits, HaveResults};
+ghost use Rattle.normal_forms.specs.Aig as plain;
+ghost use Rattle.normal_forms.specs.Nodes.{IsFormula};
+ghost use Rattle.normal_forms.specs.Shape.{Takes, IsOfKind, kind_seen, is_quantified};
+ghost use Rattle.normal_forms.specs.InvertedNodes.{IsInverted, HasInverted, AreResults};
+
+use crate::binding::{bind, body_of, is_universal};
+use crate::connective::{Connective, Shape};
+use crate::making::{conjunction, truth};
+use crate::opposites::{choice, implication, opposite, opposites, same_sides};
+use crate::shapes::{is_formula, shape_of};
+use smt_terms::NodeId;
+use std::alloc::{AllocError, Global};
+use std::sync::ledger::Ledger;
+use term_table::Table;
+use term_walk::walks::walk;
+use term_walk::{Kept, NodeStep, Steps};
+
+// Whether two formulas differ.
+fn differ(table: &mut Table, ids: &[NodeId]) -> Result<NodeId, AllocError>
+    requires ids { All (IsFormula table.old) ids.now }
+    requires number { length ids.now ≡ 2 }
+    ensures formula { IfOk result (IsFormula table.new) }
+    ensures term { IfOk result (λ k. tree table.new k ≡ opposite (plain.same_sides (trees_at table.old ids.now))) }
+    ensures grows { GrowsTo table.old table.new }
+{
+    let same = same_sides(table, ids[0], ids[1])?;
+    let id = opposite(table, same)?;
+    Ok(id)
+}
+
+// Whether all of some formulas differ.
+fn all_differ(table: &mut Table, ids: &[NodeId]) -> Result<NodeId, AllocError>
+    requires ids { All (IsFormula table.old) ids.now }
+    requires number { 2 ≤ length ids.now }
+    ensures formula { IfOk result (IsFormula table.new) }
+    ensures term { IfOk result (λ k. tree table.new k ≡ plain.aig_distinct (trees_at table.old ids.now)) }
+    ensures grows { GrowsTo table.old table.new }
+{
+    if ids.len() > 2 {
+        let id = truth(table, false)?;
+        return Ok(id);
+    }
+    let id = differ(table, ids)?;
+    Ok(id)
+}
+
+// Whether some of these formulas hold.
+fn disjunction(alloc: Global, table: &mut Table, ids: &[NodeId]) -> Result<NodeId, AllocError>
+    requires ids { All (IsFormula table.old) ids.now }
+    requires number { 2 ≤ length ids.now }
+    ensures formula { IfOk result (IsFormula table.new) }
+    ensures term { IfOk result (λ k. tree table.new k ≡ opposite (all_of (map opposite (trees_at table.old ids.now)))) }
+    ensures grows { GrowsTo table.old table.new }
+{
+    let others = opposites(alloc, table, ids)?;
+    let none = conjunction(table, &others)?;
+    let id = opposite(table, none)?;
+    Ok(id)
+}
+
+// The form of a connective, of its operands' forms.
+fn inverted(
+    alloc: Global,
+    table: &mut Table,
+    connective: Connective,
+    ids: &[NodeId],
+) -> Result<NodeId, AllocError>
+    requires ids { All (IsFormula table.old) ids.now }
+    requires number { Takes connective (length ids.now) }
+    ensures formula { IfOk result (IsFormula table.new) }
+    ensures term { (t : Term) → IfOk result (λ k. tree table.new k ≡ plain.inverted (kind_seen connective) t (trees_at table.old ids.now)) }
+    ensures grows { GrowsTo table.old table.new }
+{
+    match connective {
+        Connective::Not => {
+            let id = opposite(table, ids[0])?;
+            Ok(id)
+        }
+        Connective::And => {
+            let id = conjunction(table, ids)?;
+            Ok(id)
+        }
+        Connective::Or => {
+            let id = disjunction(alloc, table, ids)?;
+            Ok(id)
+        }
+        Connective::Xor => {
+            let id = differ(table, ids)?;
+            Ok(id)
+        }
+        Connective::Implies => {
+            let id = implication(table, ids[0], ids[1])?;
+            Ok(id)
+        }
+        Connective::Equal => {
+            let id = same_sides(table, ids[0], ids[1])?;
+            Ok(id)
+        }
+        Connective::Distinct => {
+            let id = all_differ(table, ids)?;
+            Ok(id)
+        }
+        Connective::Ite => {
+            let id = choice(table, ids[0], ids[1], ids[2])?;
+            Ok(id)
+        }
+    }
+}
+
+// The results of these nodes.
+fn results_of(
+    alloc: Global,
+    kept: &Kept<NodeId>,
+    kids: &[NodeId],
+) -> Result<Vec<NodeId>, AllocError>
+    requires { All (λ k. IsSome (result_at kept.now k.0)) kids.now }
+    ensures { IfOk result (λ ks. AreResults kept.now kids.now ks.items) }
+{
+    let mut results = Vec::with_capacity(alloc, kids.len())?;
+    for kid in kids {
+        let found = *kept.get(*kid).unwrap();
+        results.push(found)?;
+    }
+    Ok(results)
+}
+
+// The forms of a connective's operands.
+fn operand_forms(
+    alloc: Global,
+    table: &Table,
+    id: NodeId,
+    connective: Connective,
+    kept: &Kept<NodeId>,
+) -> Result<Vec<NodeId>, AllocError>
+    requires formula { IsFormula table.now id }
+    requires shape { IsOfKind (tree table.now id) (kind_seen connective) }
+    requires related { AreRelated HasInverted table.now kept.now }
+    requires kids { HaveResults table.now (tree table.now id) kept.now }
+    ensures formulas { IfOk result (λ ks. All (IsFormula table.now) ks.items) }
+    ensures terms { IfOk result (λ ks. trees_at table.now ks.items ≡ map plain.aig (operands (tree table.now id))) }
+    ensures number { IfOk result (λ ks. Takes connective (length ks.items)) }
+{
+    let found = results_of(alloc, kept, table.kids(id))?;
+    Ok(found)
+}
+
+// The form of a connective.
+fn connected_form(
+    alloc: Global,
+    table: &mut Table,
+    id: NodeId,
+    connective: Connective,
+    kept: &Kept<NodeId>,
+) -> Result<NodeId, AllocError>
+    requires formula { IsFormula table.old id }
+    requires shape { IsOfKind (tree table.old id) (kind_seen connective) }
+    requires related { AreRelated HasInverted table.old kept.now }
+    requires kids { HaveResults table.old (tree table.old id) kept.now }
+    ensures form { IfOk result (IsInverted table.new (tree table.old id)) }
+    ensures grows { GrowsTo table.old table.new }
+{
+    let operands = operand_forms(alloc, table, id, connective, kept)?;
+    let form = inverted(alloc, table, connective, &operands)?;
+    Ok(form)
+}
+
+// The form of a quantified formula.
+fn quantified_form(
+    alloc: Global,
+    table: &mut Table,
+    id: NodeId,
+    kept: &Kept<NodeId>,
+) -> Result<NodeId, AllocError>
+    requires formula { IsFormula table.old id }
+    requires quantified { is_quantified (tree table.old id) ≡ true }
+    requires related { AreRelated HasInverted table.old kept.now }
+    requires kids { HaveResults table.old (tree table.old id) kept.now }
+    ensures form { IfOk result (IsInverted table.new (tree table.old id)) }
+    ensures grows { GrowsTo table.old table.new }
+{
+    let body = *kept.get(body_of(table, id)).unwrap();
+    let universal = is_universal(table, id);
+    let form = bind(alloc, table, id, universal, body)?;
+    Ok(form)
+}
+
+// The form of a formula.
+fn formula_form(
+    alloc: Global,
+    table: &mut Table,
+    id: NodeId,
+    kept: &Kept<NodeId>,
+) -> Result<NodeId, AllocError>
+    requires formula { IsFormula table.old id }
+    requires related { AreRelated HasInverted table.old kept.now }
+    requires kids { HaveResults table.old (tree table.old id) kept.now }
+    ensures form { IfOk result (IsInverted table.new (tree table.old id)) }
+    ensures grows { GrowsTo table.old table.new }
+{
+    match shape_of(table, id) {
+        Shape::Truth(_) => Ok(id),
+        Shape::Atom => Ok(id),
+        Shape::Quantified => {
+            let form = quantified_form(alloc, table, id, kept)?;
+            Ok(form)
+        }
+        Shape::Connected(connective) => {
+            let form = connected_form(alloc, table, id, connective, kept)?;
+            Ok(form)
+        }
+    }
+}
+
+// The form of a node. One of another sort than Bool has none, and the node itself stands in its place.
+fn form_of(
+    alloc: Global,
+    table: &mut Table,
+    id: NodeId,
+    kept: &Kept<NodeId>,
+) -> Result<NodeId, AllocError>
+    requires node { IsNode table.old id }
+    requires related { AreRelated HasInverted table.old kept.now }
+    requires kids { HaveResults table.old (tree table.old id) kept.now }
+    ensures form { IfOk result (HasInverted table.new (tree table.old id)) }
+    ensures grows { GrowsTo table.old table.new }
+{
+    if is_formula(table, id) {
+        let form = formula_form(alloc, table, id, kept)?;
+        return Ok(form);
+    }
+    Ok(id)
+}
+
+#[derive(Drop)]
+struct InvertStep {
+    alloc: Global,
+}
+
+impl NodeStep for InvertStep {
+    type Out = NodeId;
+
+    ghost use Rattle.normal_forms.specs.InvertedNodes.{HasInverted, inverted_stays};
+
+    ghost Meaning = { Unit {0} };
+
+    ghost meaning = { λ _. tt };
+
+    ghost related = { λ _ t u r. HasInverted t u r };
+
+    fn step<L: Ledger>(
+        &mut self,
+        table: &mut Table,
+        id: NodeId,
+        kept: &Kept<NodeId>,
+        steps: &mut Steps<L>,
+    ) -> Result<NodeId, AllocError> {
+        steps.tick();
+        let form = form_of(self.alloc, table, id, kept)?;
+        Ok(form)
+    }
+
+    ghost stays = { λ _ old new t r grows has. inverted_stays old new t r grows has };
+}
+
+/// The and-inverter form of a formula: the formula says the same, and has no connectives but `and` and `not`, and no
+/// `not` over a `not`. It takes one step for each distinct subterm, and one for each place of an operand.
+pub fn aig<L: Ledger>(
+    alloc: Global,
+    table: &mut Table,
+    id: NodeId,
+    steps: &mut Steps<L>,
+) -> Result<NodeId, AllocError>
+    requires { IsFormula table.old id }
+    ensures formula { IfOk result (IsFormula table.new) }
+    ensures term { IfOk result (λ k. tree table.new k ≡ plain.aig (tree table.old id)) }
+    ensures shape { IfOk result (λ k. IsTrue (is_aig (tree table.new k))) }
+    ensures grows { GrowsTo table.old table.new }
+    ensures most { steps.new ≤ steps.old + places (all_subterms (tree table.old id ∷ [])) }
+{
+    let mut kept = Kept::new(alloc);
+    let form = aig_kept(alloc, table, id, &mut kept, steps)?;
+    Ok(form)
+}
+
+/// As `aig`, with what earlier calls over the table found, and keeps what it finds: no subterm is met twice.
+pub fn aig_kept<L: Ledger>(
+    alloc: Global,
+    table: &mut Table,
+    id: NodeId,
+    kept: &mut Kept<NodeId>,
+    steps: &mut Steps<L>,
+) -> Result<NodeId, AllocError>
+    requires formula { IsFormula table.old id }
+    requires fits { Fits HasInverted table.old kept.old }
+    ensures formula { IfOk result (IsFormula table.new) }
+    ensures term { IfOk result (λ k. tree table.new k ≡ plain.aig (tree table.old id)) }
+    ensures shape { IfOk result (λ k. IsTrue (is_aig (tree table.new k))) }
+    ensures fits { Fits HasInverted table.new kept.new }
+    ensures grows { GrowsTo table.old table.new }
+    ensures most { steps.new ≤ steps.old + places (all_subterms (tree table.old id ∷ [])) }
+{
+    let mut step = InvertStep { alloc };
+    walk(alloc, table, &mut step, kept, id, steps)?;
+    let form = *kept.get(id).unwrap();
+    Ok(form)
+}
