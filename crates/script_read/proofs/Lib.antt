@@ -1,6 +1,9 @@
+mod Agreeing
 mod Agreement
 mod Bindings
 mod Builds
+mod Fitting
+mod NameFacts
 mod Outcomes
 mod Points
 mod Rows
