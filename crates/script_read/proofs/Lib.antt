@@ -8,3 +8,4 @@ mod Outcomes
 mod Points
 mod Rows
 mod Shown
+mod SortFacts
