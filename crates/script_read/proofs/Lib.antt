@@ -6,6 +6,7 @@ mod Fitting
 mod NameFacts
 mod Outcomes
 mod Points
+mod Quantifying
 mod Rows
 mod Shown
 mod SortFacts
