@@ -2,6 +2,7 @@ mod Agreeing
 mod Agreement
 mod Bindings
 mod Builds
+mod Expanding
 mod Fitting
 mod NameFacts
 mod Outcomes
