@@ -133,18 +133,18 @@ unwrapped (Some us) s ss h = ap Some h
 unwrapped None s ss h = absurd cc
 
 -- the arguments in the places of the parameters, with all that substitution asks of them
-pub record Arguments (m : Model) (s : Supply) (xs : List Variable) (ts : List Term) : Type 0 where
+pub record Arguments (s : Supply) (xs : List Variable) (ts : List Term) : Type 0 where
   pub images : (g : Symbol) (u : Term) → image (arguments_from 0 xs ts) g ≡ Some u → ImageSound s g u
-  pub given : (e : Env) → Given 0 xs (map (denoted m e) ts) (under m (arguments_from 0 xs ts) e)
+  pub given : (m : Model) (e : Env) → Given 0 xs (map (denoted m e) ts) (under m (arguments_from 0 xs ts) e)
 
-pub arguments_sound : (m : Model) (s : Supply) (xs : List Variable) (ts : List Term) (r : Sort) → have_sorts xs ≡ true → GivesNone s (names_within_each (terms ts)) → rank_of_arguments xs ts ≡ Ok r → Arguments m s xs ts
-arguments_sound m s [] ts r fine spared h = record { images = λ g u found. absurd (nothing_there g u found); given = λ e. tt }
+pub arguments_sound : (s : Supply) (xs : List Variable) (ts : List Term) (r : Sort) → have_sorts xs ≡ true → GivesNone s (names_within_each (terms ts)) → rank_of_arguments xs ts ≡ Ok r → Arguments s xs ts
+arguments_sound s [] ts r fine spared h = record { images = λ g u found. absurd (nothing_there g u found); given = λ m e. tt }
   where
     nothing_there : (g : Symbol) (u : Term) → image (arguments_from 0 [] ts) g ≡ Some u → ⊥
     nothing_there g u found = absurd cc
-arguments_sound m s (x ∷ xs) ts r fine spared h = record {
+arguments_sound s (x ∷ xs) ts r fine spared h = record {
   images = λ g u found. images_sound s 0 (x ∷ xs) ts sorts fine spared g u found;
-  given = λ e. arguments_given m e (under m (arguments_from 0 (x ∷ xs) ts) e) 0 (x ∷ xs) ts sorts (λ g u found. ap (λ o. value_or m o e g) found);
+  given = λ m e. arguments_given m e (under m (arguments_from 0 (x ∷ xs) ts) e) 0 (x ∷ xs) ts sorts (λ g u found. ap (λ o. value_or m o e g) found);
 }
   where
     takes : operand_sorts ts ≡ sorts_of_variables (x ∷ xs)
@@ -155,23 +155,23 @@ arguments_sound m s (x ∷ xs) ts r fine spared h = record {
 
 -- ---- the law of substitution at a definition
 
-pub record Expanded (m : Model) (fs : List Symbol) (s : Supply) (xs : List Variable) (t : Term) (ts : List Term) : Type 0 where
+pub record Expanded (fs : List Symbol) (s : Supply) (xs : List Variable) (t : Term) (ts : List Term) : Type 0 where
   pub later : Later s (expand (parameters_from 0 xs) t ts s).1
   pub spared : GivesNone (expand (parameters_from 0 xs) t ts s).1 (names_within (expand (parameters_from 0 xs) t ts s).0)
-  pub means : (e : Env) → Unassigned fs e → (d : Env) × Unassigned fs d × Given 0 xs (map (denoted m e) ts) d × (denoted m d t ≡ denoted m e (expand (parameters_from 0 xs) t ts s).0)
+  pub means : (m : Model) (e : Env) → Unassigned fs e → (d : Env) × Unassigned fs d × Given 0 xs (map (denoted m e) ts) d × (denoted m d t ≡ denoted m e (expand (parameters_from 0 xs) t ts s).0)
 
-pub expansion : (m : Model) (fs : List Symbol) (s : Supply) (xs : List Variable) (t : Term) (ts : List Term) (r : Sort) (result : Sort) → sort_of t ≡ Some r → have_sorts xs ≡ true → GivesNone s (names_within t) → GivesNone s (names_within_each (terms ts)) → ((g : Symbol) → is_among fs g ≡ true → is_reserved_for_declaring g.name ≡ false) → rank_of_arguments xs ts ≡ Ok result → Expanded m fs s xs t ts
-expansion m fs s xs t ts r result sorted fine spared operands declared ranked = record {
+pub expansion : (fs : List Symbol) (s : Supply) (xs : List Variable) (t : Term) (ts : List Term) (r : Sort) (result : Sort) → sort_of t ≡ Some r → have_sorts xs ≡ true → GivesNone s (names_within t) → GivesNone s (names_within_each (terms ts)) → ((g : Symbol) → is_among fs g ≡ true → is_reserved_for_declaring g.name ≡ false) → rank_of_arguments xs ts ≡ Ok result → Expanded fs s xs t ts
+expansion fs s xs t ts r result sorted fine spared operands declared ranked = record {
   later = subst-gives_later f t s sorts images spared;
   spared = subst-spares_names f t s spared (λ g u found. (a.images g u found).spared);
-  means = λ e own. (under m f e, (λ g among. untouched e own g among (image f g) refl), a.given e, same e);
+  means = λ m e own. (under m f e, (λ g among. untouched m e own g among (image f g) refl), a.given m e, same m e);
 }
   where
     f : Map
     f = arguments_from 0 xs ts
 
-    a : Arguments m s xs ts
-    a = arguments_sound m s xs ts result fine operands ranked
+    a : Arguments s xs ts
+    a = arguments_sound s xs ts result fine operands ranked
 
     sorts : HaveSorts f
     sorts g u found = (a.images g u found).sort
@@ -179,12 +179,12 @@ expansion m fs s xs t ts r result sorted fine spared operands declared ranked = 
     images : GivesNoImage s f
     images g u found = free_spared s u (a.images g u found).spared
 
-    untouched : (e : Env) → Unassigned fs e → (g : Symbol) → is_among fs g ≡ true → (o : Option Term) → image f g ≡ o → value_or m o e g ≡ None
-    untouched e own g among None found = own g among
-    untouched e own g among (Some u) found = contrary (is_reserved_for_declaring g.name) (a.images g u found).reserved (declared g among)
+    untouched : (m : Model) (e : Env) → Unassigned fs e → (g : Symbol) → is_among fs g ≡ true → (o : Option Term) → image f g ≡ o → value_or m o e g ≡ None
+    untouched m e own g among None found = own g among
+    untouched m e own g among (Some u) found = contrary (is_reserved_for_declaring g.name) (a.images g u found).reserved (declared g among)
 
-    same : (e : Env) → denoted m (under m f e) t ≡ denoted m e (substitute f t s).0
-    same e =
+    same : (m : Model) (e : Env) → denoted m (under m f e) t ≡ denoted m e (substitute f t s).0
+    same m e =
         let law = subst-keeps_meaning f t s sorts images spared r sorted in
         let value : val m t (under m f e) ≡ val m (substitute f t s).0 e = sym (law.1 m e) in
         let sort : sort_of t ≡ sort_of (substitute f t s).0 = sorted ∙ sym law.0 in

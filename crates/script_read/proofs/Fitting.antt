@@ -17,7 +17,7 @@ use Rattle.smt_terms.specs.SubstLaws.{names_within, names_within_each, GivesNone
 use Rattle.smt_terms.specs.Val.{Env}
 use Rattle.smt_terms.proofs.Agree.{SameAt}
 use Rattle.script_read.specs.Laws.{denoted}
-use Rattle.script_read.specs.Mean.{Denoted, Meaning, over_symbol, mean, mean_all, mean_bindings, meaning}
+use Rattle.script_read.specs.Mean.{Denoted, Meaning, over_symbol, mean_all, mean_bindings, meaning}
 use Rattle.script_read.specs.Read.{local_constants}
 use Rattle.script_read.specs.Reading.{ReadLocal, lets_as, quantified_as, parameter_as, ReadBinding, function_known, Sofar, as_bindings, live_sorts, Entry, symbol_entry, definition_entry, term_entry, entry_of, term_among, bound_as, is_quantified}
 
@@ -125,11 +125,11 @@ pub record Moves (ns : List Name) (fs : List Symbol) (s t : Sofar) : Type 0 wher
   pub later : Later s.supply t.supply
   pub sound : Sound ns fs t
 
--- a form is read as a term that has its meaning in every later state
-pub record Reads (ns : List Name) (fs : List Symbol) (ls : List ReadLocal) (f : Form) (s : Sofar) (p : Term × Sofar) : Type 0 where
+-- something is read as a term that has its meaning in every later state
+pub record Reads (ns : List Name) (fs : List Symbol) (ls : List ReadLocal) (means_at : Meaning → Model → Denoted) (s : Sofar) (p : Term × Sofar) : Type 0 where
   pub moves : Moves ns fs s p.1
   pub spared : GivesNone p.1.supply (names_within p.0)
-  pub means : (m : Model) (E : Meaning) (e : Env) → Agrees m fs p.1.live ls e E → mean f E m ≡ denoted m e p.0
+  pub means : (m : Model) (E : Meaning) (e : Env) → Agrees m fs p.1.live ls e E → means_at E m ≡ denoted m e p.0
 
 pub record ReadsAll (ns : List Name) (fs : List Symbol) (ls : List ReadLocal) (gs : Forms) (s : Sofar) (p : List Term × Sofar) : Type 0 where
   pub moves : Moves ns fs s p.1
@@ -140,3 +140,9 @@ pub record ReadsBindings (ns : List Name) (fs : List Symbol) (ls : List ReadLoca
   pub moves : Moves ns fs s p.1
   pub spared : (n : Name) (t : Term) → term_among p.0 n ≡ Some t → GivesNone p.1.supply (names_within t)
   pub means : (m : Model) (E : Meaning) (e : Env) → Agrees m fs p.1.live ls e E → mean_bindings gs E m ≡ pairs_denoted m e p.0
+
+-- what is known before a reading
+pub record Ready (ns : List Name) (fs : List Symbol) (ls : List ReadLocal) (s : Sofar) : Type 0 where
+  pub sound : Sound ns fs s
+  pub locals : LocalsSound ns fs s.supply ls
+  pub lets : LetsMean fs s.live ls

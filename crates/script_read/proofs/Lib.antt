@@ -1,7 +1,9 @@
 mod Agreeing
 mod Agreement
+mod Applying
 mod Bindings
 mod Builds
+mod Calling
 mod Expanding
 mod Fitting
 mod NameFacts
