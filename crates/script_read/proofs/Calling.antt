@@ -196,7 +196,7 @@ constant_theory place n gs (i ∷ []) c h = go (is_bit_vector_constant n) h
     go false e = absurd cc
 constant_theory place n gs (i ∷ j ∷ is) c h = absurd cc
 
-theory_called : (place : ℕ) (n : Name) (gs : Forms) (indices : List ℕ) (o : Option Indexed) (c : Callee) → theory_head place n gs indices o ≡ Ok c → (o ≡ None → operandless ≡ c) × ((x : Indexed) → o ≡ Some x → (w : Written) × (at_indices x indices ≡ Some w) × (written w ≡ c))
+pub theory_called : (place : ℕ) (n : Name) (gs : Forms) (indices : List ℕ) (o : Option Indexed) (c : Callee) → theory_head place n gs indices o ≡ Ok c → (o ≡ None → operandless ≡ c) × ((x : Indexed) → o ≡ Some x → (w : Written) × (at_indices x indices ≡ Some w) × (written w ≡ c))
 theory_called place n gs indices (Some o) c h =
     (λ e. absurd cc, λ x e. let found = written_theory place gs (at_indices o indices) c h in let same : o ≡ x = cc in (found.0, ap (λ y. at_indices y indices) (sym same) ∙ found.1, found.2))
 theory_called place n gs indices None c h = (λ e. go (is_among_names real_names n) (is_theory_name n) h, λ x e. absurd cc)

@@ -3,7 +3,7 @@
 use Rattle.std.proofs.Common.{◌≡◌, ℕ, suc, Bool, true, false, List, [], ◌∷◌, map, Option, Some, None, ◌⊎◌}
 use Rattle.std.specs.Prelude.{⊤, option_map}
 use Rattle.std.specs.List.{list_all}
-use Rattle.smt_lex.specs.Names.{Name, is_theory_name, is_reserved_for_declaring}
+use Rattle.smt_lex.specs.Names.{Name, is_among as is_among_names, is_theory_name, is_reserved_for_declaring}
 use Rattle.smt_lex.specs.Lex.{symbol_of}
 use Rattle.smt_lex.specs.Forms.{Form, atom, node, Forms, none, ◌⨾◌}
 use Rattle.smt_terms.specs.Sorts.{Sort, Symbol, Variable}
@@ -17,9 +17,9 @@ use Rattle.smt_terms.specs.SubstLaws.{names_within, names_within_each, GivesNone
 use Rattle.smt_terms.specs.Val.{Env}
 use Rattle.smt_terms.proofs.Agree.{SameAt}
 use Rattle.script_read.specs.Laws.{denoted}
-use Rattle.script_read.specs.Mean.{Denoted, Meaning, over_symbol, mean_all, mean_bindings, meaning}
+use Rattle.script_read.specs.Mean.{Denoted, Meaning, over_symbol, mean, mean_all, mean_bindings, with_locals, with_arguments, meaning}
 use Rattle.script_read.specs.Read.{local_constants}
-use Rattle.script_read.specs.Reading.{ReadLocal, lets_as, quantified_as, parameter_as, ReadBinding, function_known, Sofar, as_bindings, live_sorts, Entry, symbol_entry, definition_entry, term_entry, entry_of, term_among, bound_as, is_quantified}
+use Rattle.script_read.specs.Reading.{ReadLocal, lets_as, quantified_as, parameter_as, ReadBinding, sort_known, function_known, definition_as, named_as, level_known, Sofar, as_local, as_bindings, live_sorts, Entry, symbol_entry, definition_entry, term_entry, entry_of, term_among, bound_as, is_quantified}
 
 -- ---- forms and the names of a text
 
@@ -108,6 +108,23 @@ EntrySound s (symbol_entry f) = NeverGives s f.name
 EntrySound s (definition_entry xs t) = GivesNone s (names_within t) × ((r : Sort) × (sort_of t ≡ Some r)) × (have_sorts xs ≡ true)
 EntrySound s (term_entry t) = GivesNone s (names_within t)
 
+-- what is known of a binding in front of others
+abbrev pub BindingSound : List Name → Supply → List ReadBinding → ReadBinding → Type 0
+BindingSound ns s bs (sort_known n r) = is_sort r ≡ true
+BindingSound ns s bs (function_known f) = (name_among ns f.name ≡ true) × (is_reserved_for_declaring f.name ≡ false)
+BindingSound ns s bs (definition_as n xs body t) =
+    (is_reserved_for_declaring n ≡ false) × EntrySound s (definition_entry xs t)
+    × ((m : Model) (ds : List Denoted) (d : Env) → Unassigned (declared_of bs) d → Given 0 xs ds d → mean body (with_arguments xs ds (meaning (as_bindings bs) m)) m ≡ denoted m d t)
+BindingSound ns s bs (named_as names f t ls) =
+    ((n : Name) → is_among_names names n ≡ true → is_reserved_for_declaring n ≡ false) × GivesNone s (names_within t)
+    × ((m : Model) (d : Env) → Unassigned (declared_of bs) d → mean f (with_locals (map as_local ls) m (meaning (as_bindings bs) m)) m ≡ denoted m d t)
+BindingSound ns s bs level_known = ⊤
+
+-- the same of all bindings
+abbrev pub Built : List Name → Supply → List ReadBinding → Type 0
+Built ns s [] = ⊤
+Built ns s (b ∷ bs) = BindingSound ns s bs b × Built ns s bs
+
 pub record Sound (ns : List Name) (fs : List Symbol) (s : Sofar) : Type 0 where
   pub declared : declared_of s.live ≡ fs
   pub entries : (n : Name) (x : Entry) → entry_of s.live n ≡ Some x → EntrySound s.supply x × (is_reserved_for_declaring n ≡ false)
@@ -115,6 +132,7 @@ pub record Sound (ns : List Name) (fs : List Symbol) (s : Sofar) : Type 0 where
   pub text : GivesNone s.supply ns
   pub sorts : (n : Name) (r : Sort) → live_sorts s.live n ≡ Some r → is_sort r ≡ true
   pub meant : (m : Model) → LiveFits m fs s.live (meaning (as_bindings s.live) m).live
+  pub built : Built ns s.supply s.live
 
 -- ---- readings
 
