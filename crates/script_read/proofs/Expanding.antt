@@ -41,7 +41,7 @@ or_else a b c d f g h = go (either_true a b h)
     go (inr k) = right_true c d (g k)
 
 mutual
-  free_named : (t : Term) (g : Symbol) → is_among (free t) g ≡ true → name_among (names_within t) g.name ≡ true
+  pub free_named : (t : Term) (g : Symbol) → is_among (free t) g ≡ true → name_among (names_within t) g.name ≡ true
   free_named (apply h ts) g among =
       name_among-append (names_of (head_symbols h)) (names_within_each ts) g.name
       ∙ or_else (is_among (head_symbols h) g) (is_among (free_of ts) g) (name_among (names_of (head_symbols h)) g.name) (name_among (names_within_each ts) g.name)
@@ -128,7 +128,7 @@ arguments_given m e d i (x ∷ xs) (t ∷ ts) sorts have =
 
 -- ---- the ranks of the arguments
 
-unwrapped : (o : Option (List Sort)) (s : Sort) (ss : List Sort) → unwrap_or o [] ≡ s ∷ ss → o ≡ Some (s ∷ ss)
+pub unwrapped : (o : Option (List Sort)) (s : Sort) (ss : List Sort) → unwrap_or o [] ≡ s ∷ ss → o ≡ Some (s ∷ ss)
 unwrapped (Some us) s ss h = ap Some h
 unwrapped None s ss h = absurd cc
 

@@ -4,6 +4,7 @@ mod Applying
 mod Bindings
 mod Builds
 mod Calling
+mod ClearTerms
 mod Defining
 mod Expanding
 mod Fitting
@@ -21,5 +22,7 @@ mod RegularTerms
 mod Rows
 mod Shown
 mod SortFacts
+mod Sources
 mod Standing
+mod SubstClear
 mod TermsMean

@@ -1,9 +1,10 @@
 -- At each point the terms of an accepted text mean what its forms mean.
 use Rattle.std.proofs.Common.{◌≡◌, ◌∙◌, sym, ap, subst, refl, ℕ, Bool, true, false, ◌&&◌, List, [], ◌∷◌, ◌++◌, map, Option, Some, None, Result, Ok}
-use Rattle.std.specs.Prelude.{option_map, IsTrue}
+use Rattle.std.specs.Prelude.{option_map, is_some, IsTrue}
 use Rattle.std.specs.List.{list_all}
 use Rattle.smt_terms.specs.Fresh.{Supply}
 use Rattle.smt_terms.specs.Models.{Model}
+use Rattle.smt_terms.specs.Rank.{sort_of, is_regular, is_well_sorted}
 use Rattle.smt_terms.specs.Sorts.{bool}
 use Rattle.smt_terms.specs.Term.{Term}
 use Rattle.smt_terms.specs.Val.{no_variables}
@@ -20,7 +21,7 @@ use Rattle.script_read.proofs.Points.{point_with, points_with, nth_kept, live_at
 
 -- ---- what assertions hold, changed one by one
 
-live_with : {A B : Type 0} (g : A → B) (cs : List (Command A)) (k : ℕ) → live (map (with_asserted g) cs) k ≡ map g (live cs k)
+pub live_with : {A B : Type 0} (g : A → B) (cs : List (Command A)) (k : ℕ) → live (map (with_asserted g) cs) k ≡ map g (live cs k)
 live_with g cs k =
     ap (λ ps. at_point (λ p. live_in p.state) (nth_point ps k)) (points_with g start cs)
     ∙ ap (λ o. at_point (λ p. live_in p.state) o) (nth_kept g (points cs) k)
@@ -30,7 +31,7 @@ literals_at : {A B : Type 0} (g : A → B) (o : Option (Point A)) → at_point (
 literals_at g (Some p) = refl
 literals_at g None = refl
 
-literals_with : {A B : Type 0} (g : A → B) (cs : List (Command A)) (k : ℕ) → literals (map (with_asserted g) cs) k ≡ map g (literals cs k)
+pub literals_with : {A B : Type 0} (g : A → B) (cs : List (Command A)) (k : ℕ) → literals (map (with_asserted g) cs) k ≡ map g (literals cs k)
 literals_with g cs k =
     ap (λ ps. at_point (λ p. p.literals) (nth_point ps k)) (points_with g start cs)
     ∙ ap (λ o. at_point (λ p. p.literals) o) (nth_kept g (points cs) k)
@@ -48,10 +49,14 @@ pairs_mean : (m : Model) (xs : List Meant) → map (form_denoted m) (forms_of xs
 pairs_mean m [] = refl
 pairs_mean m (p ∷ xs) = λ i. p.same m i ∷ pairs_mean m xs i
 
-pairs_sorted : (xs ys : List Meant) → list_all (has_sort bool) (terms_of xs ++ terms_of ys) ≡ true
-pairs_sorted [] [] = refl
-pairs_sorted [] (p ∷ ys) = and_true (has_sort bool p.term) (list_all (has_sort bool) (terms_of ys)) (ap (is_of_sort bool) p.sort) (pairs_sorted [] ys)
-pairs_sorted (p ∷ xs) ys = and_true (has_sort bool p.term) (list_all (has_sort bool) (terms_of xs ++ terms_of ys)) (ap (is_of_sort bool) p.sort) (pairs_sorted xs ys)
+-- what holds of the term of each pair
+pairs_all : (test : Term → Bool) → ((p : Meant) → test p.term ≡ true) → (xs ys : List Meant) → list_all test (terms_of xs ++ terms_of ys) ≡ true
+pairs_all test each [] [] = refl
+pairs_all test each [] (p ∷ ys) = and_true (test p.term) (list_all test (terms_of ys)) (each p) (pairs_all test each [] ys)
+pairs_all test each (p ∷ xs) ys = and_true (test p.term) (list_all test (terms_of xs ++ terms_of ys)) (each p) (pairs_all test each xs ys)
+
+is_sorted : (p : Meant) → is_well_sorted p.term ≡ true
+is_sorted p = and_true (is_some (sort_of p.term)) (is_regular p.term) (ap is_some p.sort) p.rules
 
 forms_true : (m : Model) (xs : List Asserted) → list_all (means_true m) xs ≡ list_all is_true_of (map (form_denoted m) xs)
 forms_true m [] = refl
@@ -68,7 +73,8 @@ same_at : (b : List ℕ) (cs : List (Command Term)) (m : Model) (k : ℕ) → Pa
 same_at b cs m k pairs = record {
   asserted = asserted;
   assumed = assumed;
-  truth_values = ap (λ ts. list_all (has_sort bool) (ts ++ literals cs k)) (sym live_terms) ∙ ap (λ ts. list_all (has_sort bool) (terms_of (live pairs.0 k) ++ ts)) (sym literal_terms) ∙ pairs_sorted (live pairs.0 k) (literals pairs.0 k);
+  truth_values = all_terms (has_sort bool) (λ p. ap (is_of_sort bool) p.sort);
+  well_sorted = all_terms is_well_sorted is_sorted;
   satisfied = λ i. all_true m (live (forms_script b) k) (live cs k) asserted i && all_true m (literals (forms_script b) k) (literals cs k) assumed i;
 }
   where
@@ -83,6 +89,12 @@ same_at b cs m k pairs = record {
 
     literal_forms : forms_of (literals pairs.0 k) ≡ literals (forms_script b) k
     literal_forms = sym (literals_with (λ (p : Meant). p.form) pairs.0 k) ∙ ap (λ ds. literals ds k) pairs.2
+
+    all_terms : (test : Term → Bool) → ((p : Meant) → test p.term ≡ true) → list_all test (live cs k ++ literals cs k) ≡ true
+    all_terms test each =
+        ap (λ ts. list_all test (ts ++ literals cs k)) (sym live_terms)
+        ∙ ap (λ ts. list_all test (terms_of (live pairs.0 k) ++ ts)) (sym literal_terms)
+        ∙ pairs_all test each (live pairs.0 k) (literals pairs.0 k)
 
     asserted : map (form_denoted m) (live (forms_script b) k) ≡ map (denoted m no_variables) (live cs k)
     asserted = ap (map (form_denoted m)) (sym live_forms) ∙ pairs_mean m (live pairs.0 k) ∙ ap (map (denoted m no_variables)) live_terms

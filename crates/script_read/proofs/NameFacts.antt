@@ -172,6 +172,10 @@ tail_of : List ℕ → List ℕ
 tail_of [] = []
 tail_of (n ∷ ns) = ns
 
+pub parameter_numbers : (i j : ℕ) (s t : Sort) → (parameter i s).name ≡ (parameter j t).name → i ≡ j
+unfolding tail_of
+parameter_numbers i j s t same = numeral-injective i j (ap (λ ns. tail_of (tail_of ns)) same)
+
 pub parameters_apart : (i j : ℕ) (s t : Sort) → i ≢ j → symbol_eq (parameter i s) (parameter j t) ≡ false
 unfolding tail_of
 parameters_apart i j s t apart = go (symbol_eq (parameter i s) (parameter j t)) refl

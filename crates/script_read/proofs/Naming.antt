@@ -102,7 +102,7 @@ names_new live defines place earlier (p ∷ ps) ns h n among =
 
 -- ---- a term that mentions no local constant
 
-none_of : (p : Symbol → Bool) (gs : List Symbol) (g : Symbol) → list_any p gs ≡ false → is_among gs g ≡ true → p g ≡ false
+pub none_of : (p : Symbol → Bool) (gs : List Symbol) (g : Symbol) → list_any p gs ≡ false → is_among gs g ≡ true → p g ≡ false
 none_of p [] g h among = absurd cc
 none_of p (k ∷ gs) g h among =
     let parts = both_false (p k) (list_any p gs) h in

@@ -2,6 +2,7 @@
 -- what its term means.
 use Rattle.std.proofs.Common.{◌≡◌, ◌∙◌, sym, ap, subst, refl, ℕ, zero, suc, ◌+◌, ◌==◌, Bool, true, false, not, ◌||◌, List, [], ◌∷◌, ◌++◌, map, Option, Some, None, Result, Ok, Err}
 use Rattle.std.specs.Prelude.{⊤, cond, nat_lt, is_some, option_map, if◌then◌else◌}
+use Rattle.std.specs.List.{list_all}
 use Rattle.std.proofs.lemmas.List.{map-append}
 use Rattle.smt_lex.specs.Names.{Name, is_command_word, is_reserved_for_declaring, is_reserved_for_sorts}
 use Rattle.smt_lex.specs.Lex.{Fault, symbol_of}
@@ -9,11 +10,12 @@ use Rattle.smt_lex.specs.Forms.{Form, atom, node, Forms, none, ◌⨾◌, forms_
 use Rattle.smt_terms.specs.Free.{is_among, name_among}
 use Rattle.smt_terms.specs.Fresh.{Supply}
 use Rattle.smt_terms.specs.Models.{Model}
-use Rattle.smt_terms.specs.Rank.{is_sort, sort_of}
+use Rattle.smt_terms.specs.Rank.{is_sort, sort_of, is_regular}
 use Rattle.smt_terms.specs.Sorts.{Sort, bool, free_sort, Symbol, Variable}
 use Rattle.smt_terms.specs.SubstLaws.{GivesNone}
 use Rattle.smt_terms.specs.Term.{Term}
 use Rattle.smt_terms.specs.Val.{Env, no_variables}
+use Rattle.smt_terms.proofs.Tests.{and_true}
 use Rattle.script_read.specs.declared.causes.Cause.{Cause}
 use Rattle.script_read.specs.declared.causes.Cause.TheVariants.{WrongSort, BadForm, Redeclared, ReservedName, PopTooFar, NumberLimit, SortArity, UnsupportedOption, UnknownCommand}
 use Rattle.script_read.specs.Commands.{Command, passed, declare_sort, declare, assert, check, check_assuming, push, pop, reset, reset_assertions, globals, exit, with_asserted}
@@ -38,6 +40,8 @@ use Rattle.script_read.proofs.Literals.{LiteralRead, literal_means}
 use Rattle.script_read.proofs.NameFacts.{all_within_text}
 use Rattle.script_read.proofs.Naming.{agrees_alone}
 use Rattle.script_read.proofs.Outcomes.{and_then_ok, mapped_ok, given_ok, ok_same}
+use Rattle.script_read.proofs.RegularReads.{AllRegular, RegularRead, form_regular, parameters_regular, nothing_regular}
+use Rattle.script_read.proofs.RegularStanding.{regular_opened, regular_popped, regular_emptied, sorts_fine, literal_regular}
 use Rattle.script_read.proofs.Shown.{scene_of, bindings_of, truth_of_form, same_symbol, of_sort_ok, leads_ok}
 use Rattle.script_read.proofs.SortFacts.{VariablesRead, variables_read, sort_fine, unless_passed}
 use Rattle.script_read.proofs.Standing.{sound_built, built_opened, built_popped, built_emptied}
@@ -51,6 +55,7 @@ pub record Meant : Type 0 where
   pub form : Asserted
   pub same : (m : Model) → mean form.form (meaning form.bindings m) m ≡ denoted m no_variables term
   pub sort : sort_of term ≡ Some bool
+  pub rules : is_regular term ≡ true
 
 abbrev pub with_terms : List (Command Meant) → List (Command Term)
 with_terms ps = map (with_asserted (λ p. p.term)) ps
@@ -65,16 +70,17 @@ Pairs cs ds = (ps : List (Command Meant)) × (with_terms ps ≡ cs) × (with_for
 pub record Stands (ns : List Name) (s : Standing) : Type 0 where
   pub text : GivesNone s.sofar.supply ns
   pub built : Built ns s.sofar.supply s.sofar.live
+  pub rules : AllRegular s.sofar.live
 
 -- a step gives what the outline shows, in pairs, and leads to where all is known again
 abbrev pub Goes : List Name → Step → List (Command Asserted) → Type 0
 Goes ns (Ok r) ds = Pairs r.0 ds × Stands ns r.1
 Goes ns (Err e) ds = ⊤
 
-stands_with : (ns : List Name) (s : Standing) (bs : List ReadBinding) → Stands ns s → Built ns s.sofar.supply bs → Stands ns (begun_with s bs)
-stands_with ns s bs stands built = record { text = stands.text; built = built }
+stands_with : (ns : List Name) (s : Standing) (bs : List ReadBinding) → Stands ns s → Built ns s.sofar.supply bs → AllRegular bs → Stands ns (begun_with s bs)
+stands_with ns s bs stands built rules = record { text = stands.text; built = built; rules = rules }
 
-sound_of : (ns : List Name) (s : Standing) → Stands ns s → Sound ns (declared_of s.sofar.live) s.sofar
+pub sound_of : (ns : List Name) (s : Standing) → Stands ns s → Sound ns (declared_of s.sofar.live) s.sofar
 sound_of ns s stands = sound_built ns s.sofar.supply stands.text s.sofar.live stands.built
 
 -- ---- tests before a step
@@ -107,7 +113,7 @@ no_parameters_goes ns (f ⨾ fs) next ds h = tt
 
 -- ---- the forms of a command are those of the text
 
-abbrev OutlineWithin : List Name → Outline → Type 0
+abbrev pub OutlineWithin : List Name → Outline → Type 0
 OutlineWithin ns (symbol_declaration n arguments f) = name_among ns n.it ≡ true
 OutlineWithin ns (symbol_definition n parameters f body) = AllWithin ns parameters × Within ns body
 OutlineWithin ns (assertion f) = Within ns f
@@ -176,7 +182,7 @@ shaped_within : (ns : List Name) (place : ℕ) (fs : Forms) (w : Option CommandW
 shaped_within ns place fs None o within e = absurd cc
 shaped_within ns place fs (Some w) o within e = shape_within ns w fs o within (given_ok BadForm place (shape w fs) o e)
 
-outline_within : (ns : List Name) (f : Form) (o : Outline) → Within ns f → outline f ≡ Ok o → OutlineWithin ns o
+pub outline_within : (ns : List Name) (f : Form) (o : Outline) → Within ns f → outline f ≡ Ok o → OutlineWithin ns o
 outline_within ns (atom t) o within e = absurd cc
 outline_within ns (node place none) o within e = absurd cc
 outline_within ns (node place (f ⨾ fs)) o within e = by_word (word_in f) e
@@ -198,8 +204,8 @@ of_sort_sorted to place (Ok q) p h =
     ap (λ (x : Term × Sofar). sort_of x.0) (sym same) ∙ the_sort to q.0 sorted
 of_sort_sorted to place (Err e) p h = absurd cc
 
-stands_behind : (ns : List Name) (s : Standing) (fs : List Symbol) (sofar : Sofar) (global begun : Bool) (asserted : ℕ) → Moves ns fs s.sofar sofar → Stands ns (record { sofar = sofar; global = global; begun = begun; asserted = asserted })
-stands_behind ns s fs sofar global begun asserted moves = record { text = moves.sound.text; built = moves.sound.built }
+stands_behind : (ns : List Name) (s : Standing) (fs : List Symbol) (sofar : Sofar) (global begun : Bool) (asserted : ℕ) → Moves ns fs s.sofar sofar → AllRegular sofar.live → Stands ns (record { sofar = sofar; global = global; begun = begun; asserted = asserted })
+stands_behind ns s fs sofar global begun asserted moves rules = record { text = moves.sound.text; built = moves.sound.built; rules = rules }
 
 module _ (ns : List Name) (s : Standing) (stands : Stands ns s) where
   abbrev known_symbols : List Symbol
@@ -213,26 +219,30 @@ module _ (ns : List Name) (s : Standing) (stands : Stands ns s) where
       mapped_goes ns (asserted_with s) (of_sort bool (place_of f) (read f no_context s.sofar)) (assert (suc s.asserted) (record { form = f; bindings = naming f [] (bindings_of s) }) ∷ []) (λ p h.
       let is : read f no_context s.sofar ≡ Ok p = of_sort_ok bool (place_of f) (read f no_context s.sofar) p h in
       let reads : Reads ns known_symbols [] (λ E m. mean f E m) s.sofar p = ok_on (read f no_context s.sofar) (Reads ns known_symbols [] (λ E m. mean f E m) s.sofar) p (form_reads f ns known_symbols within no_context s.sofar (nothing_ready ns known_symbols s.sofar sound)) is in
+      let fine : RegularRead p = ok_on (read f no_context s.sofar) RegularRead p (form_regular f ns within no_context s.sofar nothing_regular stands.rules) is in
       let leads : as_bindings p.1.live ≡ naming f [] (bindings_of s) = leads_ok (read f no_context s.sofar) p (naming f [] (bindings_of s)) is (read_leads f no_context s.sofar) in
       let meant : Meant = record {
         term = p.0;
         form = record { form = f; bindings = naming f [] (bindings_of s) };
         same = λ m. ap (λ bs. mean f (meaning bs m) m) (sym leads) ∙ reads.means m (meaning (as_bindings p.1.live) m) no_variables (agrees_alone ns known_symbols p.1 m no_variables reads.moves.sound (λ g among. refl));
         sort = of_sort_sorted bool (place_of f) (read f no_context s.sofar) p h;
+        rules = fine.rules;
       } in
-      ((assert (suc s.asserted) meant ∷ [], refl, refl), stands_behind ns s known_symbols p.1 s.global true (suc s.asserted) reads.moves))
+      ((assert (suc s.asserted) meant ∷ [], refl, refl), stands_behind ns s known_symbols p.1 s.global true (suc s.asserted) reads.moves fine.live))
 
   body_goes : (n : Name) (xs : List Variable) (to : Sort) (body : Form) → is_reserved_for_declaring n ≡ false → VariablesRead ns definition_binder [] xs → Within ns body → Goes ns (read_body n xs to body s) []
   body_goes n xs to body allowed variables within =
       mapped_goes ns (defined_with n xs body s) (of_sort to (place_of body) (read body (body_context n xs) s.sofar)) [] (λ p h.
       let is : read body (body_context n xs) s.sofar ≡ Ok p = of_sort_ok to (place_of body) (read body (body_context n xs) s.sofar) p h in
       let reads : Reads ns known_symbols (body_context n xs).locals (λ E m. mean body E m) s.sofar p = ok_on (read body (body_context n xs) s.sofar) (Reads ns known_symbols (body_context n xs).locals (λ E m. mean body E m) s.sofar) p (form_reads body ns known_symbols within (body_context n xs) s.sofar (body_ready ns known_symbols s.sofar sound xs (variables_fine ns [] xs variables.sound))) is in
+      let fine : RegularRead p = ok_on (read body (body_context n xs) s.sofar) RegularRead p (form_regular body ns within (body_context n xs) s.sofar (parameters_regular 0 xs [] (variables_fine ns [] xs variables.sound) nothing_regular) stands.rules) is in
       let means : (m : Model) (ds : List Denoted) (d : Env) → Unassigned (declared_of p.1.live) d → Given 0 xs ds d → mean body (with_arguments xs ds (meaning (as_bindings p.1.live) m)) m ≡ denoted m d p.0 = λ m ds d own arguments.
         let undeclared : Unassigned known_symbols d = subst (λ gs. Unassigned gs d) reads.moves.sound.declared own in
         reads.means m (with_arguments xs ds (meaning (as_bindings p.1.live) m)) d (agrees_arguments m ns known_symbols p.1.live xs ds d (meaning (as_bindings p.1.live) m) variables.sound (agrees_alone ns known_symbols p.1 m d reads.moves.sound undeclared) arguments) in
       (([], refl, refl), record {
         text = reads.moves.sound.text;
         built = ((allowed, (reads.spared, (to, of_sort_sorted to (place_of body) (read body (body_context n xs) s.sofar) p h), variables_fine ns [] xs variables.sound), means), reads.moves.sound.built);
+        rules = (fine.rules, fine.live);
       }))
 
   -- ---- declarations and definitions
@@ -242,7 +252,7 @@ module _ (ns : List Name) (s : Standing) (stands : Stands ns s) where
       let given_step : Step = Ok (declare_sort n.it ∷ [], begun_with s (sort_known n.it (free_sort n.it) ∷ live_of s)) in
       sort_declarable_goes ns (live_of s) n (unless (not (arity.it == 0)) SortArity arity.place given_step) (declare_sort n.it ∷ [])
       (unless_goes ns (not (arity.it == 0)) SortArity arity.place given_step (declare_sort n.it ∷ []) (λ none_there.
-      ((declare_sort n.it ∷ [], refl, refl), stands_with ns s (sort_known n.it (free_sort n.it) ∷ live_of s) stands (refl, stands.built))))
+      ((declare_sort n.it ∷ [], refl, refl), stands_with ns s (sort_known n.it (free_sort n.it) ∷ live_of s) stands (refl, stands.built) (refl, stands.rules))))
 
   defines_sort_goes : (n : At Name) (parameters : Forms) (f : Form) → Goes ns (defines_sort n parameters f s) []
   defines_sort_goes n parameters f =
@@ -250,7 +260,7 @@ module _ (ns : List Name) (s : Standing) (stands : Stands ns s) where
       sort_declarable_goes ns (live_of s) n (without_parameters parameters (mapped make (sort_in (live_sorts (live_of s)) f))) []
       (no_parameters_goes ns parameters (mapped make (sort_in (live_sorts (live_of s)) f)) []
       (mapped_goes ns make (sort_in (live_sorts (live_of s)) f) [] (λ to h.
-      (([], refl, refl), stands_with ns s (sort_known n.it to ∷ live_of s) stands (sort_fine f (live_sorts (live_of s)) to sound.sorts h, stands.built)))))
+      (([], refl, refl), stands_with ns s (sort_known n.it to ∷ live_of s) stands (sort_fine f (live_sorts (live_of s)) to sound.sorts h, stands.built) (sort_fine f (live_sorts (live_of s)) to sound.sorts h, stands.rules)))))
 
   declares_symbol_goes : (n : At Name) (arguments : Forms) (f : Form) → name_among ns n.it ≡ true → Goes ns (declares_symbol n arguments f s) (declare (symbol_meant (bindings_of s) n.it arguments f) ∷ [])
   declares_symbol_goes n arguments f text =
@@ -260,7 +270,8 @@ module _ (ns : List Name) (s : Standing) (stands : Stands ns s) where
       then_goes ns result (sorts_in (live_sorts (live_of s)) arguments) ds (λ args h.
       mapped_goes ns (λ to. declares s (symbol_of_sorts n.it args to)) (sort_in (live_sorts (live_of s)) f) ds (λ to k.
       ((declare (symbol_of_sorts n.it args to) ∷ [], refl, ap (λ g. declare g ∷ []) (same_symbol s n.it arguments f args to h k)),
-      stands_with ns s (function_known (symbol_of_sorts n.it args to) ∷ live_of s) stands ((text, allowed), stands.built)))))
+      stands_with ns s (function_known (symbol_of_sorts n.it args to) ∷ live_of s) stands ((text, allowed), stands.built)
+      (and_true (list_all is_sort args) (is_sort to) (sorts_fine arguments (live_sorts (live_of s)) args sound.sorts h) (sort_fine f (live_sorts (live_of s)) to sound.sorts k), stands.rules)))))
 
   defines_symbol_goes : (n : At Name) (parameters : Forms) (f body : Form) → AllWithin ns parameters → Within ns body → Goes ns (defines_symbol n parameters f body s) []
   defines_symbol_goes n parameters f body within_parameters within_body =
@@ -279,33 +290,33 @@ module _ (ns : List Name) (s : Standing) (stands : Stands ns s) where
       let (us, behind_it, all) = mapped_ok (λ us. t ∷ us) (literals_in (live_of s) gs) ts rest in
       let read_it : LiteralRead (λ m. mean f (meaning (bindings_of s) m) m) t = literal_means ns known_symbols s.sofar sound f t (given_ok BadForm (place_of f) (literal (live_of s) f) t here) in
       let others = literals_go gs us behind_it in
-      let first : Meant = record { term = t; form = record { form = f; bindings = bindings_of s }; same = read_it.means; sort = read_it.sort } in
+      let first : Meant = record { term = t; form = record { form = f; bindings = bindings_of s }; same = read_it.means; sort = read_it.sort; rules = literal_regular (live_of s) stands.rules f t (given_ok BadForm (place_of f) (literal (live_of s) f) t here) } in
       (first ∷ others.0, ap (λ vs. t ∷ vs) others.1 ∙ all, ap (λ vs. first.form ∷ vs) others.2)
 
   assumes_goes : (gs : Forms) → Goes ns (assumes gs s) (check_assuming (literals_meant (bindings_of s) gs) ∷ [])
   assumes_goes gs =
       mapped_goes ns (λ ts. (check_assuming ts ∷ [], begun_with s (live_of s))) (literals_in (live_of s) gs) (check_assuming (literals_meant (bindings_of s) gs) ∷ []) (λ ts h.
       let found = literals_go gs ts h in
-      ((check_assuming found.0 ∷ [], ap (λ us. check_assuming us ∷ []) found.1, ap (λ us. check_assuming us ∷ []) found.2), stands_with ns s (live_of s) stands stands.built))
+      ((check_assuming found.0 ∷ [], ap (λ us. check_assuming us ∷ []) found.1, ap (λ us. check_assuming us ∷ []) found.2), stands_with ns s (live_of s) stands stands.built stands.rules))
 
   -- ---- levels and options
 
   pushed_goes : (test : Bool) (place n : ℕ) → Goes ns (pushed_unless test place n s) (push n ∷ [])
   pushed_goes true place n = tt
-  pushed_goes false place n = ((push n ∷ [], refl, refl), stands_with ns s (opened level_known n (live_of s)) stands (built_opened ns s.sofar.supply n (live_of s) stands.built))
+  pushed_goes false place n = ((push n ∷ [], refl, refl), stands_with ns s (opened level_known n (live_of s)) stands (built_opened ns s.sofar.supply n (live_of s) stands.built) (regular_opened n (live_of s) stands.rules))
 
   pops_goes : (command place n : ℕ) → Goes ns (pops command place n s) (pop n ∷ [])
   pops_goes command place n =
       let given_step : Step = Ok (pop n ∷ [], begun_with s (popped is_level_known s.global n (live_of s))) in
       unless_goes ns (nat_lt most_levels n) NumberLimit place (unless (nat_lt (open_levels s) n) PopTooFar command given_step) (pop n ∷ []) (λ few.
       unless_goes ns (nat_lt (open_levels s) n) PopTooFar command given_step (pop n ∷ []) (λ open_ones.
-      ((pop n ∷ [], refl, refl), stands_with ns s (popped is_level_known s.global n (live_of s)) stands (built_popped ns s.sofar.supply s.global n (live_of s) stands.built))))
+      ((pop n ∷ [], refl, refl), stands_with ns s (popped is_level_known s.global n (live_of s)) stands (built_popped ns s.sofar.supply s.global n (live_of s) stands.built) (regular_popped s.global n (live_of s) stands.rules))))
 
   sets_goes : (place : ℕ) (o : Option Bool) (seen_value : Bool) → ((b : Bool) → o ≡ Some b → seen_value ≡ b) → Goes ns (sets_globals place o s) (globals seen_value ∷ [])
   sets_goes place None v h = tt
   sets_goes place (Some b) v h =
       unless_goes ns s.begun UnsupportedOption place (Ok (globals b ∷ [], record { sofar = s.sofar; global = b; begun = false; asserted = s.asserted })) (globals v ∷ []) (λ early.
-      ((globals b ∷ [], refl, ap (λ c. globals c ∷ []) (sym (h b refl))), record { text = stands.text; built = stands.built }))
+      ((globals b ∷ [], refl, ap (λ c. globals c ∷ []) (sym (h b refl))), record { text = stands.text; built = stands.built; rules = stands.rules }))
 
   -- ---- commands
 
@@ -317,22 +328,22 @@ module _ (ns : List Name) (s : Standing) (stands : Stands ns s) where
   step_goes place text (symbol_declaration n arguments f) within = declares_symbol_goes n arguments f within
   step_goes place text (symbol_definition n parameters f body) within = defines_symbol_goes n parameters f body within.0 within.1
   step_goes place text (assertion f) within = asserts_goes f within
-  step_goes place text checking within = ((check ∷ [], refl, refl), stands_with ns s (live_of s) stands stands.built)
+  step_goes place text checking within = ((check ∷ [], refl, refl), stands_with ns s (live_of s) stands stands.built stands.rules)
   step_goes place text (assuming gs) within = assumes_goes gs
   step_goes place text (pushing n) within = pushed_goes (nat_lt most_levels (levels_written n) || nat_lt most_levels (open_levels s + levels_written n)) (place_or n place) (levels_written n)
   step_goes place text (popping n) within = pops_goes place (place_or n place) (levels_written n)
-  step_goes place text resetting within = ((reset ∷ [], refl, refl), record { text = stands.text; built = tt })
-  step_goes place text resetting_assertions within = ((reset_assertions ∷ [], refl, refl), record { text = stands.text; built = built_emptied ns s.sofar.supply s.global (live_of s) stands.built })
+  step_goes place text resetting within = ((reset ∷ [], refl, refl), record { text = stands.text; built = tt; rules = tt })
+  step_goes place text resetting_assertions within = ((reset_assertions ∷ [], refl, refl), record { text = stands.text; built = built_emptied ns s.sofar.supply s.global (live_of s) stands.built; rules = regular_emptied s.global (live_of s) stands.rules })
   step_goes place text ending within = ((exit ∷ [], refl, refl), stands)
 
 outlined_goes : (ns : List Name) (f : Form) (s : Standing) (o : Result Outline Refused) → Stands ns s → ((x : Outline) → o ≡ Ok x → OutlineWithin ns x) → Goes ns (and_then (step (place_of f) (form_text f) s) o) (seen_or_none (form_text f) (scene_of s) o).0
 outlined_goes ns f s (Ok o) stands within = step_goes ns s stands (place_of f) (form_text f) o (within o refl)
 outlined_goes ns f s (Err e) stands within = tt
 
-command_goes : (ns : List Name) (f : Form) (s : Standing) → Stands ns s → Within ns f → Goes ns (read_command f s) (seen_command f (scene_of s)).0
+pub command_goes : (ns : List Name) (f : Form) (s : Standing) → Stands ns s → Within ns f → Goes ns (read_command f s) (seen_command f (scene_of s)).0
 command_goes ns f s stands within = outlined_goes ns f s (outline f) stands (λ o h. outline_within ns f o within h)
 
-gone_ok : (ns : List Name) (r : Step) (p : List (Command Term) × Standing) (ds : List (Command Asserted)) → r ≡ Ok p → Goes ns r ds → Pairs p.0 ds × Stands ns p.1
+pub gone_ok : (ns : List Name) (r : Step) (p : List (Command Term) × Standing) (ds : List (Command Asserted)) → r ≡ Ok p → Goes ns r ds → Pairs p.0 ds × Stands ns p.1
 gone_ok ns r p ds h k = subst (λ x. Goes ns x ds) h k
 
 -- ---- all commands
@@ -355,8 +366,8 @@ commands_pair ns i (f ⨾ fs) s r stands within h =
     let others : Pairs q.0 (commands_seen fs (seen_command f (scene_of s)).1) = subst (λ sc. Pairs q.0 (commands_seen fs sc)) later (commands_pair ns (suc i) fs p.1 q gone.1 within.1 more) in
     subst (λ (x : List (Command Term) × Supply). Pairs x.0 (commands_seen (f ⨾ fs) (scene_of s))) all (pairs_joined p.0 q.0 (seen_command f (scene_of s)).0 (commands_seen fs (seen_command f (scene_of s)).1) gone.0 others)
 
-first_stands : (fs : Forms) → Stands (names_with_all [] fs) (first_standing fs)
-first_stands fs = record { text = λ n h i k e. h; built = tt }
+pub first_stands : (fs : Forms) → Stands (names_with_all [] fs) (first_standing fs)
+first_stands fs = record { text = λ n h i k e. h; built = tt; rules = tt }
 
 forms_pair : (b : List ℕ) (o : Result Forms Fault) (r : List (Command Term) × Supply) → read_forms b o ≡ Ok r → Pairs r.0 (commands_seen (accepted_or none o) first_scene)
 forms_pair b (Ok fs) r h = commands_pair (names_with_all [] fs) 1 fs (first_standing fs) r (first_stands fs) (all_within_text fs) (read_ok b (read_commands 1 fs (first_standing fs)) r h)

@@ -1,6 +1,6 @@
 -- The names that a quantifier's variables are read as: apart from all that is known, and the quantifier over them runs as the
 -- one that is written.
-use Rattle.std.proofs.Common.{◌≡◌, ◌∙◌, sym, ap, subst, refl, ℕ, Bool, true, false, not, cond, ◌&&◌, ◌||◌, ◌⊎◌, inl, inr, List, [], ◌∷◌, map, Option, Some, None}
+use Rattle.std.proofs.Common.{◌≡◌, ◌≢◌, ◌∙◌, sym, ap, subst, refl, ℕ, Bool, true, false, not, cond, ◌&&◌, ◌||◌, ◌⊎◌, inl, inr, List, [], ◌∷◌, ◌++◌, map, Option, Some, None}
 use Rattle.std.specs.Prelude.{⊤, bytes_eq}
 use Rattle.std.specs.List.{list_all, list_any}
 use Rattle.smt_lex.specs.Names.{Name, is_among as is_among_names, is_reserved_for_declaring}
@@ -14,6 +14,7 @@ use Rattle.smt_terms.specs.SubstLaws.{names_within, GivesNone, Later}
 use Rattle.smt_terms.specs.Term.{Quantifier, Term, constant_of}
 use Rattle.smt_terms.specs.Val.{Env, assign, runs}
 use Rattle.smt_terms.specs.Values.{Value, Sizes, over_values}
+use Rattle.smt_terms.proofs.Among.{is_among-append}
 use Rattle.smt_terms.proofs.Equal.{Decides-symbol_eq}
 use Rattle.smt_terms.proofs.Fresh.{never-next, never-after, never-drawn}
 use Rattle.smt_terms.proofs.Runs.{among-name}
@@ -23,6 +24,7 @@ use Rattle.script_read.specs.Read.{local_constants, constant_names, name_drawn_i
 use Rattle.script_read.specs.Reading.{ReadLocal, quantified_as, ReadBinding, bound_as, is_quantified, constant_as}
 use Rattle.script_read.specs.Variables.{quantifier_binder, may_have}
 use Rattle.script_read.proofs.Agreeing.{variable_as, agrees_variable, locals_later}
+use Rattle.script_read.proofs.ClearTerms.{Apart, apart_front}
 use Rattle.script_read.proofs.Fitting.{Agrees, LetsMean, Origin, drawn, quantified, internal, ConstantSound, LocalsSound}
 use Rattle.script_read.proofs.NameFacts.{name_same, name_itself, names_differ, among_alike, spared_first, spared_none, drawn_outside}
 use Rattle.script_read.proofs.SortFacts.{VariableSound, VariablesSound, earlier_apart, refuted, contrary}
@@ -58,6 +60,7 @@ pub record Renames (ns : List Name) (fs : List Symbol) (xs : List Variable) (s :
   pub locals : LocalsSound ns fs r.1 (with_quantified xs r.0 ls)
   pub spared : GivesNone r.1 (map (λ x. x.name) (renamed xs r.0))
   pub lets : (bs : List ReadBinding) → LetsMean fs bs ls → LetsMean fs bs (with_quantified xs r.0 ls)
+  pub apart : Apart (local_constants ls ++ fs) → Apart (local_constants (with_quantified xs r.0 ls) ++ fs)
   pub runs : (q : Quantifier) (m : Model) (bs : List ReadBinding) (sizes : Sizes) (means : Meaning → Bool) (test : Env → Bool) → ((E : Meaning) (e : Env) → Agrees m fs bs (with_quantified xs r.0 ls) e E → means E ≡ test e) → (E : Meaning) (e : Env) → Agrees m fs bs ls e E → over_variables q xs sizes means E ≡ runs q (renamed xs r.0) sizes test e
 
 renames_none : (ns : List Name) (fs : List Symbol) (s : Supply) (ls : List ReadLocal) → LocalsSound ns fs s ls → Renames ns fs [] s ls ([], s)
@@ -66,15 +69,17 @@ renames_none ns fs s ls sound = record {
   locals = sound;
   spared = spared_none s;
   lets = λ bs h. h;
+  apart = λ h. h;
   runs = λ q m bs sizes means test same E e a. same E e a;
 }
 
-renames_first : (ns : List Name) (fs : List Symbol) (x : Variable) (n : Name) (xs : List Variable) (s t : Supply) (ls : List ReadLocal) (r : List Name × Supply) → is_sort x.sort ≡ true → Later s t → NeverGives t n → is_among (local_constants ls) (constant_of (variable_as x n)) ≡ false → is_among fs (constant_of (variable_as x n)) ≡ false → Renames ns fs xs t (quantified_as x n ∷ ls) r → Renames ns fs (x ∷ xs) s ls (n ∷ r.0, r.1)
-renames_first ns fs x n xs s t ls r fine later never outside undeclared below = record {
+renames_first : (ns : List Name) (fs : List Symbol) (x : Variable) (n : Name) (xs : List Variable) (s t : Supply) (ls : List ReadLocal) (r : List Name × Supply) → is_sort x.sort ≡ true → Later s t → NeverGives t n → is_among (local_constants ls) (constant_of (variable_as x n)) ≡ false → is_among fs (constant_of (variable_as x n)) ≡ false → ((g : Symbol) → is_among (local_constants ls ++ fs) g ≡ true → n ≢ g.name) → Renames ns fs xs t (quantified_as x n ∷ ls) r → Renames ns fs (x ∷ xs) s ls (n ∷ r.0, r.1)
+renames_first ns fs x n xs s t ls r fine later never outside undeclared unshared below = record {
   later = λ k h. below.later k (later k h);
   locals = below.locals;
   spared = spared_first r.1 n (map (λ y. y.name) (renamed xs r.0)) (below.later n never) below.spared;
   lets = λ bs h. below.lets bs (fine, h);
+  apart = λ h. below.apart (apart_front (constant_of (variable_as x n)) (local_constants ls ++ fs) h unshared);
   runs = λ q m bs sizes means test same E e a.
     ap (over_values q x.sort sizes) (λ i v. below.runs q m bs sizes means test same (with_bound x.name (denoted_as v x.sort) E) (assign (variable_as x n) v e) (agrees_variable m fs bs ls e E x n v fine outside undeclared a) i);
 }
@@ -104,7 +109,7 @@ untaken_more fs earlier ls taken x n u = record {
 
 renames_by : (b : Bool) (ns : List Name) (fs : List Symbol) (taken : Name → Bool) (earlier : List Name) (x : Variable) (xs : List Variable) (s : Supply) (ls : List ReadLocal) → taken x.name ≡ b → VariableSound ns x → is_among_names earlier x.name ≡ false → Known ns fs s → LocalsSound ns fs s ls → Untaken fs earlier ls taken → ((n : Name) (t : Supply) → Known ns fs t → LocalsSound ns fs t (quantified_as x n ∷ ls) → Renames ns fs xs t (quantified_as x n ∷ ls) (constant_names taken xs t)) → Renames ns fs (x ∷ xs) s ls (name_drawn_if b x.name s (λ t. constant_names taken xs t))
 renames_by true ns fs taken earlier x xs s ls is sound other known locals untaken below =
-    renames_first ns fs x (next_name s) xs s (after_draw s) ls (constant_names taken xs (after_draw s)) sound.fine after never outside undeclared
+    renames_first ns fs x (next_name s) xs s (after_draw s) ls (constant_names taken xs (after_draw s)) sound.fine after never outside undeclared unshared
     (below (next_name s) (after_draw s) (known_later ns fs s (after_draw s) after known)
     (locals_variable ns fs (after_draw s) ls x (next_name s) never undeclared (drawn (drawn_outside s ns known.text)) (locals_later ns fs s (after_draw s) ls after locals)))
   where
@@ -122,8 +127,15 @@ renames_by true ns fs taken earlier x xs s ls is sound other known locals untake
 
     undeclared : is_among fs c ≡ false
     undeclared = refuted (is_among fs c) (λ e. absurd (never-next s (next_name s) (known.text (next_name s) (known.symbols c e)) refl))
+
+    unshared : (g : Symbol) → is_among (local_constants ls ++ fs) g ≡ true → next_name s ≢ g.name
+    unshared g among same = spared_by (either_true (is_among (local_constants ls) g) (is_among fs g) (sym (is_among-append (local_constants ls) fs g) ∙ among))
+      where
+        spared_by : (is_among (local_constants ls) g ≡ true) ⊎ (is_among fs g ≡ true) → ⊥
+        spared_by (inl e) = never-next s g.name (locals.constants g e).spared (sym same)
+        spared_by (inr e) = never-next s g.name (known.text g.name (known.symbols g e)) (sym same)
 renames_by false ns fs taken earlier x xs s ls is sound other known locals untaken below =
-    renames_first ns fs x x.name xs s s ls (constant_names taken xs s) sound.fine (λ k h. h) never outside undeclared
+    renames_first ns fs x x.name xs s s ls (constant_names taken xs s) sound.fine (λ k h. h) never outside undeclared unshared
     (below x.name s known
     (locals_variable ns fs s ls x x.name never undeclared (quantified (left_true (name_eq x.name x.name) (is_quantified ls x.name) (name_itself x.name))) locals))
   where
@@ -143,6 +155,13 @@ renames_by false ns fs taken earlier x xs s ls is sound other known locals untak
 
     undeclared : is_among fs c ≡ false
     undeclared = refuted (is_among fs c) (λ e. absurd (contrary {A = ⊥} (name_among (names_of fs) x.name) (among-name fs c e) (untaken.undeclared x.name is)))
+
+    unshared : (g : Symbol) → is_among (local_constants ls ++ fs) g ≡ true → x.name ≢ g.name
+    unshared g among same = named_by (either_true (is_among (local_constants ls) g) (is_among fs g) (sym (is_among-append (local_constants ls) fs g) ∙ among))
+      where
+        named_by : (is_among (local_constants ls) g ≡ true) ⊎ (is_among fs g ≡ true) → ⊥
+        named_by (inl e) = impossible (subst (Origin ns ls) (sym same) (locals.constants g e).origin)
+        named_by (inr e) = contrary {A = ⊥} (name_among (names_of fs) x.name) (ap (name_among (names_of fs)) same ∙ among-name fs g e) (untaken.undeclared x.name is)
 
 pub renames : (ns : List Name) (fs : List Symbol) (taken : Name → Bool) (earlier : List Name) (xs : List Variable) (s : Supply) (ls : List ReadLocal) → VariablesSound ns earlier xs → Known ns fs s → LocalsSound ns fs s ls → Untaken fs earlier ls taken → Renames ns fs xs s ls (constant_names taken xs s)
 renames ns fs taken earlier [] s ls sound known locals untaken = renames_none ns fs s ls locals

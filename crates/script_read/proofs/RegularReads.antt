@@ -1,41 +1,35 @@
 -- The terms that reading gives are regular: each sort is well formed, and no unary minus stands over a constant.
 use Rattle.std.proofs.Common.{◌≡◌, ◌∙◌, sym, ap, subst, refl, ℕ, suc, Bool, true, false, not, cond, ◌&&◌, ◌||◌, List, [], ◌∷◌, map, Option, Some, None, Result, Ok, Err}
-use Rattle.std.specs.Prelude.{⊤, nat_lt, nat_le, nat_abs, ◌==◌, ◌^◌, codes, bytes_eq, is_some, if◌then◌else◌}
-use Rattle.smt_lex.specs.Names.{Name, is_among as is_among_names, is_theory_name, is_bit_vector_constant, is_reserved_for_let}
-use Rattle.smt_lex.specs.Lex.{Token, symbol_of}
+use Rattle.std.specs.Prelude.{⊤}
+use Rattle.smt_lex.specs.Names.{Name, is_among as is_among_names}
+use Rattle.smt_lex.specs.Lex.{Token}
 use Rattle.smt_lex.specs.Forms.{Form, atom, node, Forms, none, ◌⨾◌}
-use Rattle.smt_lex.specs.declared.items.Item.{Item}
-use Rattle.smt_lex.specs.declared.items.Item.TheVariants.{Decimal}
 use Rattle.smt_terms.specs.declared.op.Op.{Op}
-use Rattle.smt_terms.specs.declared.op.Op.TheVariants.{Truth, Whole, Bits}
-use Rattle.smt_terms.specs.Connectives.{truth_term}
 use Rattle.smt_terms.specs.Equal.{name_eq}
 use Rattle.smt_terms.specs.Fresh.{Supply}
-use Rattle.smt_terms.specs.Rank.{Fault, most_bits, rank, is_sort, has_sorts, is_minus_of, is_regular, are_regular}
+use Rattle.smt_terms.specs.Rank.{Fault, rank, is_sort, has_sorts, is_minus_of, is_regular, are_regular}
 use Rattle.smt_terms.specs.Sorts.{Sort, bool, Symbol, Variable}
 use Rattle.smt_terms.specs.Subst.{parameter, expand}
 use Rattle.smt_terms.specs.Term.{Quantifier, op, symbol, const_array, Term, apply, quantified, none as no_terms, terms, over, constant}
-use Rattle.smt_terms.specs.Written.{Written, Indexed, operator_named, at_indices, written_rank, build}
+use Rattle.smt_terms.specs.Written.{written_rank, build}
 use Rattle.smt_terms.proofs.SortsOfTerms.{regular_over}
 use Rattle.smt_terms.proofs.Tests.{and_true}
-use Rattle.script_read.specs.declared.causes.Cause.TheVariants.{WrongArity, WrongSort, WidthLimit, BadIndex, BadForm, UnknownName, NumberLimit, RealSort, Redeclared, ReservedName}
-use Rattle.script_read.specs.Heads.{real_names, theory_symbol, constant_or_refused, live_symbol, symbol_term, token_constant, other_atom, name_or_other, atom_by, atom_term, is_vector_name, vector_of_width, vector_constant_of, vector_constant, Callee, written, array_of_sort, called, defined, operandless, theory_head, live_head, named_head, indexed_head, filling_head, list_head, atom_head, callee_of, term_algebra, operand_sorts, where_ranked, parameters_from, expanded, rank_of_arguments, applied}
-use Rattle.script_read.specs.Parts.{Opening, let_word, quantifier_word, annotation_word, index_word, head, opening, place_of, symbol_in, word_in, is_name, numeral_in, numerals_in, constant_by, greatest_number, vector_number, are_attributes, named_parts}
+use Rattle.script_read.specs.declared.causes.Cause.TheVariants.{WrongSort, BadForm}
+use Rattle.script_read.specs.Heads.{atom_term, vector_constant, Callee, written, array_of_sort, called, defined, operandless, callee_of, term_algebra, operand_sorts, where_ranked, parameters_from, expanded, rank_of_arguments, applied}
+use Rattle.script_read.specs.Parts.{Opening, let_word, quantifier_word, annotation_word, index_word, head, opening, place_of, symbol_in, are_attributes, named_parts}
 use Rattle.script_read.specs.Read.{Context, with_local, is_empty, let_name, constant_names, is_taken, draws_names, with_quantified, below_quantifier, renamed, has_sort, quantified_over, term_names, mentions_local, annotated, read, read_list, read_bindings, read_all}
 use Rattle.script_read.specs.Reading.{ReadLocal, lets_as, quantified_as, parameter_as, ReadBinding, sort_known, function_known, definition_as, named_as, level_known, Sofar, Entry, symbol_entry, definition_entry, term_entry, entry_of, live_sorts, term_among, term_or, bound_as, constant_as, Reading, continued, ◌>>=◌, gives, refused_if, beside, by_live, by_rule, binds}
-use Rattle.script_read.specs.Refusals.{Refused, at, unless, mapped}
+use Rattle.script_read.specs.Refusals.{Refused, unless}
 use Rattle.script_read.specs.Scope.{or_later}
 use Rattle.script_read.specs.Script.{parameters_read}
-use Rattle.script_read.specs.SortForms.{sort_in}
 use Rattle.script_read.specs.Variables.{quantifier_binder, variables_in}
-use Rattle.script_read.proofs.Applying.{beside_ok}
-use Rattle.script_read.proofs.Calling.{theory_called}
 use Rattle.script_read.proofs.Fitting.{Within, AllWithin, have_sorts}
-use Rattle.script_read.proofs.Outcomes.{mapped_ok, ok_same}
+use Rattle.script_read.proofs.Outcomes.{ok_same}
 use Rattle.script_read.proofs.RegularTerms.{symbol_regular, build_regular, variable_regular, expand_regular}
+use Rattle.script_read.proofs.Sources.{entry_alone, AtomSource, of_constant, of_local, of_entry, atom_source, entry_called, CalleeSource, of_operator, of_sort_form, of_nothing, of_live, callee_source}
 use Rattle.script_read.proofs.SortFacts.{SortsFine, sort_fine, unless_passed, VariablesSound, VariablesRead, variables_read}
 use Rattle.script_read.proofs.Defining.{variables_fine}
-use Rattle.script_read.proofs.TermsMean.{OnOk, then_on, on_rule, on_last, on_unless, on_map, on_given, on_refused, on_ok}
+use Rattle.script_read.proofs.TermsMean.{OnOk, then_on, on_rule, on_last, on_unless, on_map, on_given, on_refused, on_ok, vector_source}
 
 -- ---- what is known
 
@@ -91,55 +85,19 @@ number_regular : (o : Op) → is_regular (apply (op o) no_terms) ≡ true
 unfolding is_minus_of
 number_regular o = refl
 
-token_regular : (place : ℕ) (o : Op) (r : Term) → token_constant place o ≡ Ok r → is_regular r ≡ true
-token_regular place (Whole n) r h =
-    let (fits, given) = unless_passed (nat_lt greatest_number (nat_abs n)) NumberLimit place (Ok (apply (op (Whole n)) no_terms)) r h in
-    rules_moved (apply (op (Whole n)) no_terms) r (Ok (apply (op (Whole n)) no_terms)) refl given (number_regular (Whole n))
-token_regular place (Bits w n) r h =
-    let (fits, given) = unless_passed (nat_lt most_bits w) WidthLimit place (Ok (apply (op (Bits w n)) no_terms)) r h in
-    rules_moved (apply (op (Bits w n)) no_terms) r (Ok (apply (op (Bits w n)) no_terms)) refl given (number_regular (Bits w n))
-token_regular place _ r h = absurd cc
+alone_regular : (x : Entry) (r : Term) → EntryRegular x → entry_alone x ≡ Some r → is_regular r ≡ true
+alone_regular (symbol_entry f) r fine h = let same : constant f ≡ r = cc in subst (λ u. is_regular u ≡ true) same (symbol_regular f no_terms fine refl)
+alone_regular (definition_entry [] t) r fine h = let same : t ≡ r = cc in subst (λ u. is_regular u ≡ true) same fine
+alone_regular (definition_entry (x ∷ xs) t) r fine h = absurd cc
+alone_regular (term_entry t) r fine h = let same : t ≡ r = cc in subst (λ u. is_regular u ≡ true) same fine
 
-theory_regular : (place : ℕ) (n : Name) (r : Term) → theory_symbol place n ≡ Ok r → is_regular r ≡ true
-theory_regular place n r h = go (bytes_eq n (codes "true")) (bytes_eq n (codes "false")) (is_among_names real_names n) (is_theory_name n) h
+atom_regular : (ls : List ReadLocal) (live : List ReadBinding) → LocalsRegular ls → AllRegular live → (t : Token) (r : Term) → atom_term ls t live ≡ Ok r → is_regular r ≡ true
+atom_regular ls live locals all t r h = go (atom_source ls live t r h)
   where
-    go : (a b c d : Bool) → (if a then Ok (truth_term true) else (if b then Ok (truth_term false) else (if c then at RealSort place else (if d then at WrongArity place else at UnknownName place)))) ≡ Ok r → is_regular r ≡ true
-    go true b c d k = rules_moved (truth_term true) r (Ok (truth_term true)) refl k (number_regular (Truth true))
-    go false true c d k = rules_moved (truth_term false) r (Ok (truth_term false)) refl k (number_regular (Truth false))
-    go false false true d k = absurd cc
-    go false false false true k = absurd cc
-    go false false false false k = absurd cc
-
-symbol_alone_regular : (place : ℕ) (f : Symbol) (args : List Sort) (r : Term) → has_sorts (symbol f) ≡ true → constant_or_refused place f args ≡ Ok r → is_regular r ≡ true
-symbol_alone_regular place f [] r fine h = rules_moved (constant f) r (Ok (constant f)) refl h (symbol_regular f no_terms fine refl)
-symbol_alone_regular place f (a ∷ args) r fine h = absurd cc
-
-live_symbol_regular : (place : ℕ) (n : Name) (o : Option Entry) (r : Term) → ((x : Entry) → o ≡ Some x → EntryRegular x) → live_symbol place n o ≡ Ok r → is_regular r ≡ true
-live_symbol_regular place n (Some (symbol_entry f)) r fine h = symbol_alone_regular place f f.args r (fine (symbol_entry f) refl) h
-live_symbol_regular place n (Some (definition_entry [] t)) r fine h = rules_moved t r (Ok t) refl h (fine (definition_entry [] t) refl)
-live_symbol_regular place n (Some (definition_entry (x ∷ xs) t)) r fine h = absurd cc
-live_symbol_regular place n (Some (term_entry t)) r fine h = rules_moved t r (Ok t) refl h (fine (term_entry t) refl)
-live_symbol_regular place n None r fine h = theory_regular place n r h
-
-module _ (ls : List ReadLocal) (live : List ReadBinding) (locals : LocalsRegular ls) (all : AllRegular live) where
-  symbol_term_regular : (place : ℕ) (n : Name) (o : Option Term) (r : Term) → bound_as ls n ≡ o → symbol_term place n o (entry_of live n) ≡ Ok r → is_regular r ≡ true
-  symbol_term_regular place n (Some t) r bound h = rules_moved t r (Ok t) refl h (locals n t bound)
-  symbol_term_regular place n None r bound h = live_symbol_regular place n (entry_of live n) r (λ x e. entry_regular live all n x e) h
-
-  other_refused : (place : ℕ) (i : Item) (r : Term) → other_atom place i ≡ Ok r → ⊥
-  other_refused place Decimal r h = absurd cc
-  other_refused place _ r h = absurd cc
-
-  name_regular : (t : Token) (o : Option Name) (r : Term) → name_or_other ls live t o ≡ Ok r → is_regular r ≡ true
-  name_regular t (Some n) r h = symbol_term_regular t.start n (bound_as ls n) r refl h
-  name_regular t None r h = absurd (other_refused t.start t.item r h)
-
-  by_constant_regular : (t : Token) (o : Option Op) (r : Term) → atom_by ls live t o ≡ Ok r → is_regular r ≡ true
-  by_constant_regular t (Some o) r h = token_regular t.start o r h
-  by_constant_regular t None r h = name_regular t (symbol_of t) r h
-
-  atom_regular : (t : Token) (r : Term) → atom_term ls t live ≡ Ok r → is_regular r ≡ true
-  atom_regular t r h = by_constant_regular t (constant_by t.item t.text) r h
+    go : AtomSource ls live r → is_regular r ≡ true
+    go (of_constant o e) = subst (λ u. is_regular u ≡ true) e (number_regular o)
+    go (of_local n e) = locals n r e
+    go (of_entry n x entry e) = alone_regular x r (entry_regular live all n x entry) e
 
 -- ---- heads
 
@@ -149,63 +107,19 @@ CalleeRegular (called f) = has_sorts (symbol f) ≡ true
 CalleeRegular (defined xs t) = is_regular t ≡ true
 CalleeRegular _ = ⊤
 
-theory_head_regular : (place : ℕ) (n : Name) (gs : Forms) (indices : List ℕ) (o : Option Indexed) (c : Callee) → theory_head place n gs indices o ≡ Ok c → CalleeRegular c
-theory_head_regular place n gs indices (Some x) c h =
-    let found = (theory_called place n gs indices (Some x) c h).1 x refl in subst CalleeRegular found.2 tt
-theory_head_regular place n gs indices None c h = subst CalleeRegular ((theory_called place n gs indices None c h).0 refl) tt
+called_regular : (x : Entry) → EntryRegular x → CalleeRegular (entry_called x)
+called_regular (symbol_entry f) fine = fine
+called_regular (definition_entry xs t) fine = fine
+called_regular (term_entry t) fine = tt
 
-callee_moved : (c d : Callee) (a : Result Callee Refused) → a ≡ Ok c → a ≡ Ok d → CalleeRegular c → CalleeRegular d
-callee_moved c d a h k fine = subst CalleeRegular (ok_same c d a h k) fine
-
-live_head_regular : (place : ℕ) (n : Name) (gs : Forms) (is : List ℕ) (o : Option Entry) (c : Callee) → ((x : Entry) → o ≡ Some x → EntryRegular x) → live_head place n gs is o ≡ Ok c → CalleeRegular c
-live_head_regular place n gs is None c fine h = theory_head_regular place n gs is (operator_named n) c h
-live_head_regular place n gs [] (Some (symbol_entry f)) c fine h = callee_moved (called f) c (Ok (called f)) refl h (fine (symbol_entry f) refl)
-live_head_regular place n gs [] (Some (definition_entry xs t)) c fine h = callee_moved (defined xs t) c (Ok (defined xs t)) refl h (fine (definition_entry xs t) refl)
-live_head_regular place n gs [] (Some (term_entry t)) c fine h = callee_moved operandless c (Ok operandless) refl h tt
-live_head_regular place n gs (i ∷ is) (Some (symbol_entry f)) c fine h = absurd cc
-live_head_regular place n gs (i ∷ is) (Some (definition_entry xs t)) c fine h = absurd cc
-live_head_regular place n gs (i ∷ is) (Some (term_entry t)) c fine h = absurd cc
-
-module _ (ls : List ReadLocal) (live : List ReadBinding) (all : AllRegular live) where
-  named_head_regular : (place : ℕ) (n : Name) (gs : Forms) (is : List ℕ) (c : Callee) → named_head ls live place n gs is ≡ Ok c → CalleeRegular c
-  named_head_regular place n gs is c h =
-      let (free, next) = unless_passed (is_some (bound_as ls n)) UnknownName place (live_head place n gs is (entry_of live n)) c h in
-      live_head_regular place n gs is (entry_of live n) c (λ x e. entry_regular live all n x e) next
-
-  atom_head_regular : (place : ℕ) (o : Option Name) (c : Callee) → atom_head ls live place o ≡ Ok c → CalleeRegular c
-  atom_head_regular place None c h = absurd cc
-  atom_head_regular place (Some n) c h = named_head_regular place n none [] c h
-
-  indexed_head_regular : (place : ℕ) (gs : Forms) (o : Option Name) (is : Option (List ℕ)) (c : Callee) → indexed_head ls live place gs o is ≡ Ok c → CalleeRegular c
-  indexed_head_regular place gs (Some n) (Some (i ∷ is)) c h = named_head_regular place n gs (i ∷ is) c h
-  indexed_head_regular place gs (Some n) (Some []) c h = absurd cc
-  indexed_head_regular place gs (Some n) None c h = absurd cc
-  indexed_head_regular place gs None is c h = absurd cc
-
-  filling_head_regular : (place : ℕ) (gs : Forms) (c : Callee) → filling_head live place gs ≡ Ok c → CalleeRegular c
-  filling_head_regular place (f ⨾ g ⨾ none) c h = go (is_name (codes "const") (symbol_in f)) h
-    where
-      go : (b : Bool) → (if b then mapped array_of_sort (sort_in (live_sorts live) g) else at BadForm place) ≡ Ok c → CalleeRegular c
-      go true e =
-          let (to, sorted, made) = mapped_ok array_of_sort (sort_in (live_sorts live) g) c e in
-          subst CalleeRegular made (sort_fine g (live_sorts live) to (sorts_regular live all) sorted)
-      go false e = absurd cc
-  filling_head_regular place _ c h = absurd cc
-
-  list_head_regular : (place : ℕ) (w : Option Name) (gs : Forms) (c : Callee) → list_head ls live place w gs ≡ Ok c → CalleeRegular c
-  list_head_regular place None gs c h = absurd cc
-  list_head_regular place (Some w) none c h = absurd cc
-  list_head_regular place (Some w) (f ⨾ gs) c h = go (bytes_eq w (codes "_")) (bytes_eq w (codes "as")) h
-    where
-      go : (a b : Bool) → (if a then indexed_head ls live place gs (symbol_in f) (numerals_in gs) else (if b then filling_head live place (f ⨾ gs) else at BadForm place)) ≡ Ok c → CalleeRegular c
-      go true b k = indexed_head_regular place gs (symbol_in f) (numerals_in gs) c k
-      go false true k = filling_head_regular place (f ⨾ gs) c k
-      go false false k = absurd cc
-
-  callee_regular : (f : Form) (c : Callee) → callee_of ls f live ≡ Ok c → CalleeRegular c
-  callee_regular (atom t) c h = atom_head_regular t.start (symbol_of t) c h
-  callee_regular (node place none) c h = absurd cc
-  callee_regular (node place (f ⨾ gs)) c h = list_head_regular place (word_in f) gs c h
+callee_regular : (ls : List ReadLocal) (live : List ReadBinding) → AllRegular live → (f : Form) (c : Callee) → callee_of ls f live ≡ Ok c → CalleeRegular c
+callee_regular ls live all f c h = go (callee_source ls live f c h)
+  where
+    go : CalleeSource live c → CalleeRegular c
+    go (of_operator w e) = subst CalleeRegular e tt
+    go (of_sort_form g to sorted e) = subst CalleeRegular e (sort_fine g (live_sorts live) to (sorts_regular live all) sorted)
+    go (of_nothing e) = subst CalleeRegular e tt
+    go (of_live n x entry e) = subst CalleeRegular e (called_regular x (entry_regular live all n x entry))
 
 -- ---- applications
 
@@ -348,25 +262,8 @@ annotation_reads place f attributes inner c s locals live =
     on_rule (term_names c.defines place [] (named_parts attributes) p.1.live) (λ names. naming p.0 names) p.1 RegularRead (λ names h.
     annotated_reads place c f p.0 names p.1 b.rules b.live)))
 
-width_regular : (place x n : ℕ) (r : Term) → vector_of_width place x n ≡ Ok r → is_regular r ≡ true
-width_regular place x n r h =
-    let (some, next) = unless_passed (n == 0) BadIndex place (unless (nat_lt most_bits n) WidthLimit place (unless (nat_le (2 ^ n) x) BadIndex place (Ok (apply (op (Bits n x)) no_terms)))) r h in
-    let (few, last) = unless_passed (nat_lt most_bits n) WidthLimit place (unless (nat_le (2 ^ n) x) BadIndex place (Ok (apply (op (Bits n x)) no_terms))) r next in
-    let (small, given) = unless_passed (nat_le (2 ^ n) x) BadIndex place (Ok (apply (op (Bits n x)) no_terms)) r last in
-    rules_moved (apply (op (Bits n x)) no_terms) r (Ok (apply (op (Bits n x)) no_terms)) refl given (number_regular (Bits n x))
-
-vector_of_regular : (place : ℕ) (o : Option Name) (i : Option ℕ) (r : Term) → vector_constant_of place o i ≡ Ok r → is_regular r ≡ true
-vector_of_regular place (Some name) (Some n) r h = go (is_vector_name (Some name)) h
-  where
-    go : (b : Bool) → (if b then vector_of_width place (vector_number name) n else at BadForm place) ≡ Ok r → is_regular r ≡ true
-    go true k = width_regular place (vector_number name) n r k
-    go false k = absurd cc
-vector_of_regular place (Some name) None r h = absurd cc
-vector_of_regular place None i r h = absurd cc
-
 vector_regular : (place : ℕ) (gs : Forms) (r : Term) → vector_constant place gs ≡ Ok r → is_regular r ≡ true
-vector_regular place (f ⨾ g ⨾ none) r h = vector_of_regular place (symbol_in f) (numeral_in g) r h
-vector_regular place _ r h = absurd cc
+vector_regular place gs r h = let found = vector_source place gs r h in subst (λ u. is_regular u ≡ true) found.1 (number_regular found.0)
 
 application_reads : (place : ℕ) (f g : Form) (gs : Forms) → FormRegular g → AllFormsRegular gs → (c : Context) (s : Sofar) → LocalsRegular c.locals → AllRegular s.live → OnOk RegularRead (read_list (head f) (g ⨾ gs) place c s)
 application_reads place f g gs first others c s locals live =

@@ -138,9 +138,9 @@ built_closed ns s (suc n) (level_known ∷ bs) built = built_closed ns s n bs bu
 built_closed ns s (suc n) (_ ∷ bs) built = built_closed ns s (suc n) bs built.1
 
 -- bindings that declare and mean the same
-record Alike (bs cs : List ReadBinding) : Type 0 where
-  declared : declared_of bs ≡ declared_of cs
-  means : (m : Model) → meaning (as_bindings bs) m ≡ meaning (as_bindings cs) m
+pub record Alike (bs cs : List ReadBinding) : Type 0 where
+  pub declared : declared_of bs ≡ declared_of cs
+  pub means : (m : Model) → meaning (as_bindings bs) m ≡ meaning (as_bindings cs) m
 
 alike_front : (b : ReadBinding) (bs cs : List ReadBinding) → Alike bs cs → Alike (b ∷ bs) (b ∷ cs)
 alike_front (sort_known n r) bs cs a = record { declared = a.declared; means = λ m. ap (with_binding (as_binding (sort_known n r)) m) (a.means m) }
@@ -158,7 +158,7 @@ sound_alike ns s (named_as names f t ls) bs cs a h =
     (h.0, h.1, λ m d own. ap (λ E. mean f (with_locals (map as_local ls) m E) m) (a.means m) ∙ h.2 m d (subst (λ gs. Unassigned gs d) a.declared own))
 sound_alike ns s level_known bs cs a h = tt
 
-alike_merged : (n : ℕ) (bs : List ReadBinding) → Alike (merged is_level_known n bs) bs
+pub alike_merged : (n : ℕ) (bs : List ReadBinding) → Alike (merged is_level_known n bs) bs
 alike_merged n [] = record { declared = refl; means = λ m. refl }
 alike_merged zero (b ∷ bs) = record { declared = refl; means = λ m. refl }
 alike_merged (suc n) (level_known ∷ bs) = let a : Alike (merged is_level_known n bs) bs = alike_merged n bs in record { declared = a.declared; means = a.means }
@@ -171,7 +171,7 @@ built_merged ns s (suc n) (level_known ∷ bs) built = built_merged ns s n bs bu
 built_merged ns s (suc n) (b ∷ bs) built =
     (sound_alike ns s b bs (merged is_level_known (suc n) bs) (alike_merged (suc n) bs) built.0, built_merged ns s (suc n) bs built.1)
 
-alike_flattened : (bs : List ReadBinding) → Alike (flattened is_level_known bs) bs
+pub alike_flattened : (bs : List ReadBinding) → Alike (flattened is_level_known bs) bs
 alike_flattened [] = record { declared = refl; means = λ m. refl }
 alike_flattened (level_known ∷ bs) = let a : Alike (flattened is_level_known bs) bs = alike_flattened bs in record { declared = a.declared; means = a.means }
 alike_flattened (b ∷ bs) = alike_front b (flattened is_level_known bs) bs (alike_flattened bs)

@@ -5,6 +5,7 @@ use Rattle.std.specs.List.{list_all}
 use Rattle.smt_lex.specs.Names.{Name, is_among as is_among_names, is_reserved_for_let}
 use Rattle.smt_lex.specs.Lex.{Token}
 use Rattle.smt_lex.specs.Forms.{Form, atom, node, Forms, none, ◌⨾◌}
+use Rattle.smt_terms.specs.declared.op.Op.{Op}
 use Rattle.smt_terms.specs.declared.op.Op.TheVariants.{Bits}
 use Rattle.smt_terms.specs.Equal.{name_eq, sort_eq}
 use Rattle.smt_terms.specs.Free.{is_among, name_among, names_of}
@@ -69,6 +70,11 @@ pub on_map : {A : Type 0} (r : Result (A × Sofar) Refused) (P Q : A × Sofar �
 unfolding OnOk
 on_map (Ok p) P Q k h = k p h
 on_map (Err e) P Q k h = tt
+
+pub on_both : {A : Type 0} (r : Result (A × Sofar) Refused) (P Q : A × Sofar → Type 0) → OnOk P r → OnOk Q r → OnOk (λ p. P p × Q p) r
+unfolding OnOk
+on_both (Ok p) P Q h k = (h, k)
+on_both (Err e) P Q h k = tt
 
 pub on_ok : {A : Type 0} (r : Result (A × Sofar) Refused) (Q : A × Sofar → Type 0) → ((p : A × Sofar) → r ≡ Ok p → Q p) → OnOk Q r
 unfolding OnOk
@@ -144,6 +150,27 @@ the_sort to t h = of_sort to (sort_of t) (not_false (has_sort to t) h)
 
 -- ---- bit vectors that are written with `_`
 
+-- such a form is read as a constant
+pub vector_source : (place : ℕ) (gs : Forms) (r : Term) → vector_constant place gs ≡ Ok r → (o : Op) × (apply (op o) no_terms ≡ r)
+vector_source place (f ⨾ g ⨾ none) r h = of_parts (symbol_in f) (numeral_in g) h
+  where
+    of_width : (x n : ℕ) → vector_of_width place x n ≡ Ok r → (o : Op) × (apply (op o) no_terms ≡ r)
+    of_width x n k =
+        let (some, next) = unless_passed (n == 0) BadIndex place (unless (nat_lt most_bits n) WidthLimit place (unless (nat_le (2 ^ n) x) BadIndex place (Ok (apply (op (Bits n x)) no_terms)))) r k in
+        let (few, last) = unless_passed (nat_lt most_bits n) WidthLimit place (unless (nat_le (2 ^ n) x) BadIndex place (Ok (apply (op (Bits n x)) no_terms))) r next in
+        let (small, given) = unless_passed (nat_le (2 ^ n) x) BadIndex place (Ok (apply (op (Bits n x)) no_terms)) r last in
+        (Bits n x, ok_same (apply (op (Bits n x)) no_terms) r (Ok (apply (op (Bits n x)) no_terms)) refl given)
+
+    of_parts : (o : Option Name) (i : Option ℕ) → vector_constant_of place o i ≡ Ok r → (o : Op) × (apply (op o) no_terms ≡ r)
+    of_parts (Some name) (Some n) k = tested (is_vector_name (Some name)) k
+      where
+        tested : (b : Bool) → (if b then vector_of_width place (vector_number name) n else at BadForm place) ≡ Ok r → (o : Op) × (apply (op o) no_terms ≡ r)
+        tested true l = of_width (vector_number name) n l
+        tested false l = absurd cc
+    of_parts (Some name) None k = absurd cc
+    of_parts None i k = absurd cc
+vector_source place _ r h = absurd cc
+
 vector_reads_width : (m : Model) (e : Env) (place x n : ℕ) (r : Term) → vector_of_width place x n ≡ Ok r → over_op m (Bits n x) [] ≡ denoted m e r
 vector_reads_width m e place x n r h =
     let (some, next) = unless_passed (n == 0) BadIndex place (unless (nat_lt most_bits n) WidthLimit place (unless (nat_le (2 ^ n) x) BadIndex place (Ok (apply (op (Bits n x)) no_terms)))) r h in
@@ -217,6 +244,13 @@ module _ (ns : List Name) (fs : List Symbol) where
       go n t (Some u) e h = spared n t (e ∙ h)
       go n t None e h = sound.terms n t h
 
+  pub ready_let : (ls : List ReadLocal) (bs : Forms) (s : Sofar) (p : List (Name × Term) × Sofar) → Ready ns fs ls s → ReadsBindings ns fs ls bs s p → Ready ns fs (lets_as bs p.0 ∷ ls) p.1
+  ready_let ls bs s p ready b = record {
+    sound = b.moves.sound;
+    locals = locals_let p.1.supply ls bs p.0 b.spared (locals_later ns fs s.supply p.1.supply ls b.moves.later ready.locals);
+    lets = (λ m E e a. b.means m E e a, lets_later ns fs s p.1 ls b.moves ready.lets);
+  }
+
   let_reads : (part place : ℕ) (bs : Forms) (body : Form) → BindingsRead bs → FormReads body → (c : Context) (s : Sofar) → Ready ns fs c.locals s → MeansAs (λ E m. mean_list let_word (node part bs ⨾ body ⨾ none) E m) c s (read_list let_word (node part bs ⨾ body ⨾ none) place c s)
   let_reads part place bs body bindings inner c s ready =
       let Q : Term × Sofar → Type 0 = Reads ns fs c.locals (λ E m. mean_list let_word (node part bs ⨾ body ⨾ none) E m) s in
@@ -230,11 +264,7 @@ module _ (ns : List Name) (fs : List Symbol) where
           r.means m (with_all (mean_bindings bs E m) E) e
           (agrees_let m fs q.1.live c.locals e E bs p.0 (mean_bindings bs E m) (λ d a'. b.means m E d (agrees_before ns fs p.1 q.1 m c.locals d E r.moves a')) a);
       })
-      (inner (with_local (lets_as bs p.0) c) p.1 (record {
-        sound = b.moves.sound;
-        locals = locals_let p.1.supply c.locals bs p.0 b.spared (locals_later ns fs s.supply p.1.supply c.locals b.moves.later ready.locals);
-        lets = (λ m E e a. b.means m E e a, lets_later ns fs s p.1 c.locals b.moves ready.lets);
-      }))))
+      (inner (with_local (lets_as bs p.0) c) p.1 (ready_let c.locals bs s p ready b))))
 
   -- ---- quantifiers
 
@@ -243,7 +273,7 @@ module _ (ns : List Name) (fs : List Symbol) where
   declared_names (function_known f ∷ bs) n = ap (λ b. name_eq f.name n || b) (declared_names bs n)
   declared_names (_ ∷ bs) n = declared_names bs n
 
-  untaken : (ls : List ReadLocal) (s : Sofar) → Sound ns fs s → Untaken fs [] ls (is_taken ls s.live)
+  pub untaken : (ls : List ReadLocal) (s : Sofar) → Sound ns fs s → Untaken fs [] ls (is_taken ls s.live)
   untaken ls s sound = record {
     undeclared = λ n h. ap (λ gs. name_among (names_of gs) n) (sym sound.declared) ∙ sym (declared_names s.live n) ∙ (both_false (is_declared s.live n) (is_quantified ls n) h).0;
     unquantified = λ n h other. (both_false (is_declared s.live n) (is_quantified ls n) h).1;
@@ -323,7 +353,7 @@ module _ (ns : List Name) (fs : List Symbol) where
 
   -- ---- applications
 
-  callee_later : (s t : Supply) (k : Callee) → Later s t → CalleeSound s k → CalleeSound t k
+  pub callee_later : (s t : Supply) (k : Callee) → Later s t → CalleeSound s k → CalleeSound t k
   callee_later s t (called f) later h = later f.name h
   callee_later s t (defined xs u) later h = entry_later s t (definition_entry xs u) later h
   callee_later s t _ later h = tt
@@ -430,11 +460,11 @@ mutual
   list_reads (head f) (g ⨾ gs) ns fs place within c s ready = application_reads ns fs place f g gs (form_reads g ns fs within.0) (all_read gs ns fs within.1) c s ready
   list_reads (head f) none ns fs place within c s ready = on_refused _ _
 
-  bindings_read : (bs : Forms) (ns : List Name) (fs : List Symbol) → AllWithin ns bs → BindingsRead ns fs bs
+  pub bindings_read : (bs : Forms) (ns : List Name) (fs : List Symbol) → AllWithin ns bs → BindingsRead ns fs bs
   bindings_read none ns fs within earlier c s ready = no_binding_reads ns fs earlier c s ready
   bindings_read (node part (x ⨾ f ⨾ none) ⨾ bs) ns fs within earlier c s ready = binding_reads ns fs part x f bs (form_reads f ns fs within.0.1.0) (bindings_read bs ns fs within.1) earlier c s ready
   bindings_read (f ⨾ bs) ns fs within earlier c s ready = on_refused _ _
 
-  all_read : (gs : Forms) (ns : List Name) (fs : List Symbol) → AllWithin ns gs → AllRead ns fs gs
+  pub all_read : (gs : Forms) (ns : List Name) (fs : List Symbol) → AllWithin ns gs → AllRead ns fs gs
   all_read none ns fs within c s ready = no_reads ns fs c s ready
   all_read (f ⨾ gs) ns fs within c s ready = all_reads_more ns fs f gs (form_reads f ns fs within.0) (all_read gs ns fs within.1) c s ready

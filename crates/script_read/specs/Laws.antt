@@ -8,7 +8,7 @@ use Rattle.smt_lex.specs.Names.{Name, IsName, printed_symbol}
 use Rattle.smt_lex.proofs.Joining.{spaced, placed}
 use Rattle.smt_terms.specs.Fresh.{Supply}
 use Rattle.smt_terms.specs.Models.{Model}
-use Rattle.smt_terms.specs.Rank.{sort_of}
+use Rattle.smt_terms.specs.Rank.{sort_of, is_well_sorted}
 use Rattle.smt_terms.specs.Sorts.{bool}
 use Rattle.smt_terms.specs.Term.{Term}
 use Rattle.smt_terms.specs.Val.{Env, no_variables, val}
@@ -81,12 +81,13 @@ WrittenMeaning = (m : Model) (e : Env) (w : Written) (ts : List Term) → build 
 abbrev pub form_denoted : Model → Asserted → Denoted
 form_denoted m a = mean a.form (meaning a.bindings m) m
 
--- the terms of point k have in a model the values and the sorts that the text's forms mean, one by one; they are truth values,
--- and so the model satisfies the one where it satisfies the other
+-- the terms of point k have in a model the values and the sorts that the text's forms mean, one by one; they are
+-- well-sorted truth values, and so the model satisfies the one where it satisfies the other
 pub record SameMeaning (b : List ℕ) (cs : List (Command Term)) (m : Model) (k : ℕ) : Type 0 where
   pub asserted : map (form_denoted m) (live (forms_script b) k) ≡ map (denoted m no_variables) (live cs k)
   pub assumed : map (form_denoted m) (literals (forms_script b) k) ≡ map (denoted m no_variables) (literals cs k)
   pub truth_values : IsTrue (list_all (has_sort bool) (live cs k ++ literals cs k))
+  pub well_sorted : IsTrue (list_all is_well_sorted (live cs k ++ literals cs k))
   pub satisfied : holds m b k ≡ sat m cs k
 
 abbrev pub ReadingKeepsMeaning : Type 0

@@ -34,7 +34,7 @@ pub fn written_operators_keep_meaning()
 
 /// Reading keeps meaning: at every point of an accepted text and in every model, each live assertion's term and each
 /// literal has the value and the sort that its form means, where nothing is put in the place of anything else; and each is
-/// a truth value.
+/// a well-sorted truth value.
 pub fn reading_keeps_meaning()
     ensures { ReadingKeepsMeaning }
 {}
