@@ -1,15 +1,15 @@
 -- How agreement of a reader with a meaning goes on: to earlier states, to other environments, and below names that are bound.
-use Rattle.std.proofs.Common.{◌≡◌, ◌∙◌, sym, ap, subst, refl, ℕ, Bool, true, false, cond, List, [], ◌∷◌, map, Option, Some, None, Result, Ok, Err}
-use Rattle.std.specs.Prelude.{⊤, option_map, nat_le, unwrap_or, if◌then◌else◌}
+use Rattle.std.proofs.Common.{◌≡◌, ◌∙◌, sym, ap, subst, refl, Bool, true, false, cond, List, [], ◌∷◌, map, Option, Some, Ok, Err}
+use Rattle.std.specs.Prelude.{option_map, unwrap_or, if◌then◌else◌}
 use Rattle.smt_lex.specs.Names.{Name}
 use Rattle.smt_lex.specs.Forms.{Forms}
 use Rattle.smt_terms.specs.Equal.{name_eq, symbol_eq}
-use Rattle.smt_terms.specs.Sorts.{Sort, Symbol, Variable}
-use Rattle.smt_terms.specs.Term.{Term, symbol, none, constant_of, constant, variable}
+use Rattle.smt_terms.specs.Sorts.{Symbol, Variable}
+use Rattle.smt_terms.specs.Term.{Term, symbol, none, constant_of, variable}
 use Rattle.smt_terms.specs.Free.{is_among}
 use Rattle.smt_terms.specs.Fresh.{Supply}
 use Rattle.smt_terms.specs.Models.{Model, symbol_value}
-use Rattle.smt_terms.specs.Rank.{Fault, width_limit, width, most_bits, rank, sort_of, is_sort}
+use Rattle.smt_terms.specs.Rank.{width_limit, width, most_bits, rank, sort_of, is_sort}
 use Rattle.smt_terms.specs.SubstLaws.{names_within, Later}
 use Rattle.smt_terms.specs.Val.{Env, assign, val}
 use Rattle.smt_terms.specs.Values.{Value, default_value}
@@ -22,8 +22,8 @@ use Rattle.smt_terms.proofs.Tests.{left_true, right_true}
 use Rattle.script_read.specs.Laws.{denoted}
 use Rattle.script_read.specs.Mean.{Denoted, Meaning, bound_to, with_bound, with_all, denoted_as, mean_bindings, with_locals}
 use Rattle.script_read.specs.Read.{local_constants}
-use Rattle.script_read.specs.Reading.{ReadLocal, lets_as, quantified_as, parameter_as, ReadBinding, Sofar, as_local, live_sorts, term_among, term_or, bound_as, constant_as}
-use Rattle.script_read.proofs.Fitting.{Unassigned, LiveFits, BoundFits, Agrees, pairs_denoted, LetsMean, Origin, ConstantSound, LocalsSound, Sound, Moves}
+use Rattle.script_read.specs.Reading.{ReadLocal, lets_as, quantified_as, parameter_as, ReadBinding, Sofar, as_local, term_among, term_or, bound_as, constant_as}
+use Rattle.script_read.proofs.Fitting.{Unassigned, LiveFits, BoundFits, Agrees, pairs_denoted, LetsMean, ConstantSound, LocalsSound, Sound, Moves}
 use Rattle.script_read.proofs.NameFacts.{symbol_itself, spared_later}
 
 -- ---- states
@@ -108,9 +108,9 @@ agrees_variable m fs bs ls e E x n v fine outside undeclared a = record {
   live = a.live;
   sorts = a.sorts;
   bound = bound_variable m fs ls (assign (variable_as x n) v e) e E.bound x n v fine
-    (ap (λ b. cond b (Some v) (e (constant_of (variable_as x n)))) (symbol_itself (constant_of (variable_as x n))))
-    (λ g among. ap (λ b. cond b (Some v) (e g)) (constants_differ (local_constants ls) (constant_of (variable_as x n)) g outside among))
-    a.bound;
+      (ap (λ b. cond b (Some v) (e (constant_of (variable_as x n)))) (symbol_itself (constant_of (variable_as x n))))
+      (λ g among. ap (λ b. cond b (Some v) (e g)) (constants_differ (local_constants ls) (constant_of (variable_as x n)) g outside among))
+      a.bound;
   own = λ g among. ap (λ b. cond b (Some v) (e g)) (constants_differ fs (constant_of (variable_as x n)) g undeclared among) ∙ a.own g among;
 }
 
@@ -137,8 +137,8 @@ agrees_let m fs bs ls e E forms ts ps same a = record {
   live = subst (λ live. LiveFits m fs bs live) (sym (all_live ps E)) a.live;
   sorts = all_sorts ps E ∙ a.sorts;
   bound = λ d alike own n.
-    ap (λ qs. (with_all qs E).bound n) (same d (agrees_moved m fs bs ls d e E a alike own))
-    ∙ pairs_bound m d E n (bound_as ls n) ts (a.bound d alike own n);
+      ap (λ qs. (with_all qs E).bound n) (same d (agrees_moved m fs bs ls d e E a alike own))
+      ∙ pairs_bound m d E n (bound_as ls n) ts (a.bound d alike own n);
   own = a.own;
 }
 

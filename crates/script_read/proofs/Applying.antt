@@ -1,21 +1,19 @@
 -- Applications of what heads call to operands that were read.
-use Rattle.std.proofs.Common.{◌≡◌, ◌∙◌, sym, ap, subst, refl, ℕ, Bool, true, false, List, [], ◌∷◌, ◌++◌, map, Option, Some, None, Result, Ok, Err}
-use Rattle.std.specs.Prelude.{⊤}
-use Rattle.smt_lex.specs.Names.{Name, is_reserved_for_declaring}
-use Rattle.smt_terms.specs.declared.op.Op.{Op}
+use Rattle.std.proofs.Common.{◌≡◌, ◌∙◌, sym, ap, subst, refl, ℕ, List, [], ◌∷◌, map, Result, Ok, Err}
+use Rattle.smt_lex.specs.Names.{Name}
 use Rattle.smt_terms.specs.declared.op.Op.TheVariants.{Whole, Neg}
-use Rattle.smt_terms.specs.Free.{is_among, name_among, names_of, head_symbols}
+use Rattle.smt_terms.specs.Free.{name_among}
 use Rattle.smt_terms.specs.Fresh.{Supply}
 use Rattle.smt_terms.specs.Made.{minus, made}
 use Rattle.smt_terms.specs.Models.{Model, symbol_value}
 use Rattle.smt_terms.specs.Operators.{first_value}
-use Rattle.smt_terms.specs.Rank.{Fault, rank, sort_of, sorts_of, sort_over}
+use Rattle.smt_terms.specs.Rank.{Fault, rank, sort_over}
 use Rattle.smt_terms.specs.Sorts.{Sort, Symbol, Variable}
 use Rattle.smt_terms.specs.Subst.{expand}
 use Rattle.smt_terms.specs.SubstLaws.{names_within, names_within_each, GivesNone, Later}
 use Rattle.smt_terms.specs.Term.{Head, op, symbol, const_array, Term, apply, Terms, none, ◌⨾◌, terms, over}
-use Rattle.smt_terms.specs.Val.{Env, val, vals}
-use Rattle.smt_terms.specs.Values.{Value, table, no_pairs}
+use Rattle.smt_terms.specs.Val.{Env, vals}
+use Rattle.smt_terms.specs.Values.{table, no_pairs}
 use Rattle.smt_terms.specs.Written.{Algebra, Written, written_rank, build}
 use Rattle.smt_terms.proofs.Cuts.{name_among-append}
 use Rattle.smt_terms.proofs.Tests.{left_true, right_true}
@@ -29,7 +27,7 @@ use Rattle.script_read.proofs.Builds.{builds, sorts_of_denoted, values_of_denote
 use Rattle.script_read.proofs.Calling.{CalleeMeans, CalleeSound}
 use Rattle.script_read.proofs.Expanding.{Expanded, expansion}
 use Rattle.script_read.proofs.Fitting.{Unassigned, Sound}
-use Rattle.script_read.proofs.NameFacts.{spared_first, spared_none, spared_both, spared_later}
+use Rattle.script_read.proofs.NameFacts.{spared_first, spared_none, spared_both}
 use Rattle.script_read.proofs.Outcomes.{ok_same}
 
 -- ---- names of what is built

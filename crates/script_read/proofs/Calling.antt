@@ -1,7 +1,7 @@
 -- What atoms and heads of applications are read as means what they mean, where the reader agrees with the meaning.
-use Rattle.std.proofs.Common.{◌≡◌, ◌∙◌, sym, ap, subst, refl, ℕ, Bool, true, false, cond, ◌||◌, ◌⊎◌, inl, inr, List, [], ◌∷◌, ◌++◌, map, Option, Some, None, Result, Ok, Err}
+use Rattle.std.proofs.Common.{◌≡◌, ◌∙◌, sym, ap, subst, refl, ℕ, Bool, true, false, cond, List, [], ◌∷◌, Option, Some, None, Result, Ok}
 use Rattle.std.specs.Prelude.{⊤, option_map, option_and_then, unwrap_or, codes, bytes_eq, nat_lt, nat_abs, is_some, if◌then◌else◌}
-use Rattle.smt_lex.specs.Names.{Name, is_among as is_among_names, is_theory_name, is_bit_vector_constant, is_reserved_for_declaring}
+use Rattle.smt_lex.specs.Names.{Name, is_among as is_among_names, is_theory_name, is_bit_vector_constant}
 use Rattle.smt_lex.specs.Lex.{Token, symbol_of}
 use Rattle.smt_lex.specs.Forms.{Form, atom, node, Forms, none, ◌⨾◌}
 use Rattle.smt_lex.specs.declared.items.Item.{Item}
@@ -9,31 +9,23 @@ use Rattle.smt_lex.specs.declared.items.Item.TheVariants.{Decimal}
 use Rattle.smt_terms.specs.declared.op.Op.{Op}
 use Rattle.smt_terms.specs.declared.op.Op.TheVariants.{Truth, Whole, Bits}
 use Rattle.smt_terms.specs.Connectives.{truth_term}
-use Rattle.smt_terms.specs.Equal.{name_eq}
-use Rattle.smt_terms.specs.Free.{is_among, name_among}
 use Rattle.smt_terms.specs.Fresh.{Supply, NeverGives}
 use Rattle.smt_terms.specs.Models.{Model, symbol_value}
-use Rattle.smt_terms.specs.Operators.{first_value}
-use Rattle.smt_terms.specs.Rank.{Fault, most_bits, rank, sort_of, sorts_of, sort_over}
-use Rattle.smt_terms.specs.Sorts.{Sort, Symbol, Variable}
-use Rattle.smt_terms.specs.SubstLaws.{names_within, names_within_each, GivesNone, Later}
-use Rattle.smt_terms.specs.Term.{op, symbol, const_array, Term, apply, terms, none as no_terms, over, constant}
-use Rattle.smt_terms.specs.Val.{Env, val, vals}
-use Rattle.smt_terms.specs.Values.{Value, table, no_pairs}
-use Rattle.smt_terms.specs.Written.{Written, Indexed, operator_named, at_indices, written_named, written_rank, build}
-use Rattle.script_read.specs.declared.causes.Cause.{Cause}
+use Rattle.smt_terms.specs.Rank.{most_bits, sort_of}
+use Rattle.smt_terms.specs.Sorts.{Sort, Symbol}
+use Rattle.smt_terms.specs.SubstLaws.{names_within, GivesNone}
+use Rattle.smt_terms.specs.Term.{op, Term, apply, none as no_terms, constant}
+use Rattle.smt_terms.specs.Val.{Env}
+use Rattle.smt_terms.specs.Written.{Written, Indexed, operator_named, at_indices, written_named, build}
 use Rattle.script_read.specs.declared.causes.Cause.TheVariants.{WrongArity, WidthLimit, BadForm, UnknownName, NumberLimit, RealSort}
-use Rattle.script_read.specs.Heads.{real_names, theory_symbol, constant_or_refused, live_symbol, symbol_term, token_constant, other_atom, name_or_other, atom_by, atom_term, Callee, written, array_of_sort, called, defined, operandless, indices_within, written_at, takes_no_index, constant_head, theory_head, live_head, named_head, indexed_head, filling_head, list_head, atom_head, callee_of, term_algebra, operand_sorts, where_ranked, expanded, rank_of_arguments, applied}
+use Rattle.script_read.specs.Heads.{real_names, theory_symbol, constant_or_refused, live_symbol, symbol_term, token_constant, other_atom, name_or_other, atom_by, atom_term, Callee, written, array_of_sort, called, defined, operandless, indices_within, written_at, takes_no_index, constant_head, theory_head, live_head, indexed_head, filling_head, list_head, atom_head, callee_of}
 use Rattle.script_read.specs.Laws.{denoted}
-use Rattle.script_read.specs.Mean.{Denoted, Meaning, values_of, sorts_denoted, over_op, over_symbol, over_array, value_algebra, over_written, denoted_or, truth_of, over_constant, live_or, symbol_means, symbol_or_nothing, token_means, array_of, named_means, list_head_means, symbol_head_means, head_means, mean}
+use Rattle.script_read.specs.Mean.{Denoted, Meaning, over_op, over_symbol, over_array, value_algebra, over_written, denoted_or, truth_of, over_constant, live_or, symbol_means, symbol_or_nothing, token_means, array_of, named_means, list_head_means, symbol_head_means, head_means, mean}
 use Rattle.script_read.specs.Parts.{place_of, symbol_in, word_in, is_name, numeral_in, numerals_in, constant_by, greatest_number}
-use Rattle.script_read.specs.Reading.{ReadLocal, ReadBinding, Sofar, live_sorts, Entry, symbol_entry, definition_entry, term_entry, entry_of, bound_as, beside}
-use Rattle.script_read.specs.Read.{local_constants}
-use Rattle.script_read.specs.Refusals.{Refused, at, unless, mapped}
+use Rattle.script_read.specs.Reading.{ReadLocal, ReadBinding, Sofar, live_sorts, Entry, symbol_entry, definition_entry, term_entry, entry_of, bound_as}
+use Rattle.script_read.specs.Refusals.{Refused, at, mapped}
 use Rattle.script_read.specs.SortForms.{sort_in}
-use Rattle.script_read.proofs.Builds.{sorts_of_denoted, values_of_denoted, written_meaning}
-use Rattle.script_read.proofs.Expanding.{Expanded, expansion}
-use Rattle.script_read.proofs.Fitting.{Unassigned, Given, EntryMeans, LiveFits, Agrees, EntrySound, LocalsSound, Sound, have_sorts}
+use Rattle.script_read.proofs.Fitting.{Unassigned, Given, EntryMeans, Agrees, EntrySound, LocalsSound, Sound}
 use Rattle.script_read.proofs.NameFacts.{name_same, operator_reserved, true_reserved, false_reserved, spared_first, spared_none}
 use Rattle.script_read.proofs.Outcomes.{mapped_ok, ok_same}
 use Rattle.script_read.proofs.SortFacts.{unless_passed}
@@ -75,8 +67,8 @@ module _ (ns : List Name) (fs : List Symbol) (ls : List ReadLocal) (s : Sofar) (
   live_alone : (n : Name) (x : Entry) (r : Term) → entry_of s.live n ≡ Some x → ((m : Model) (e : Env) → Unassigned fs e → (F : List Denoted → Denoted) → EntryMeans m fs x F → F [] ≡ denoted m e r) → GivesNone s.supply (names_within r) → Atom (alone n) r
   live_alone n x r entry means spared = record {
     means = λ m E e a.
-      let found = a.live.entries n x entry in
-      ap (λ o. live_or o [] (over_constant m (truth_of n))) found.1 ∙ means m e a.own found.0 found.2;
+        let found = a.live.entries n x entry in
+        ap (λ o. live_or o [] (over_constant m (truth_of n))) found.1 ∙ means m e a.own found.0 found.2;
     spared = spared;
   }
 
@@ -84,8 +76,8 @@ module _ (ns : List Name) (fs : List Symbol) (ls : List ReadLocal) (s : Sofar) (
   symbol_alone place n f [] r entry h =
       atom_same (alone n) (constant f) r (Ok (constant f)) refl h
       (live_alone n (symbol_entry f) (constant f) entry
-        (λ m e own F means. means.1 [] ∙ ap (λ o. (unwrap_or o (symbol_value m f []), sort_of (constant f))) (sym (own f means.0)))
-        (spared_first s.supply f.name [] (sound.entries n (symbol_entry f) entry).0 (spared_none s.supply)))
+      (λ m e own F means. means.1 [] ∙ ap (λ o. (unwrap_or o (symbol_value m f []), sort_of (constant f))) (sym (own f means.0)))
+      (spared_first s.supply f.name [] (sound.entries n (symbol_entry f) entry).0 (spared_none s.supply)))
   symbol_alone place n f (a ∷ args) r entry h = absurd cc
 
   theory_alone : (n : Name) (b : Bool) (r : Term) → is_theory_name n ≡ true → truth_of n ≡ Some (Truth b) → Atom (alone n) (truth_term b)
@@ -237,8 +229,8 @@ module _ (ns : List Name) (fs : List Symbol) (ls : List ReadLocal) (s : Sofar) (
   live_called : (n : Name) (x : Entry) (c : Callee) → entry_of s.live n ≡ Some x → EntryIs x c → CalleeSound s.supply c → Called (by_name n) c
   live_called n x c entry is fine = record {
     means = λ m E e a.
-      let found = a.live.entries n x entry in
-      callee_moved m fs c found.0 (by_name n E m) (λ ds. ap (λ o. live_or o ds (over_written m (written_named n []) ds)) found.1) (is m found.0 found.2);
+        let found = a.live.entries n x entry in
+        callee_moved m fs c found.0 (by_name n E m) (λ ds. ap (λ o. live_or o ds (over_written m (written_named n []) ds)) found.1) (is m found.0 found.2);
     sound = fine;
   }
 
@@ -246,9 +238,9 @@ module _ (ns : List Name) (fs : List Symbol) (ls : List ReadLocal) (s : Sofar) (
   theory_by_name : (place : ℕ) (n : Name) (gs : Forms) (o : Option Indexed) (c : Callee) → operator_named n ≡ o → theory_head place n gs [] o ≡ Ok c → Called (by_name n) c
   theory_by_name place n gs (Some x) c named h = record {
     means = λ m E e a.
-      callee_moved m fs c (over_written m (at_indices x [])) (by_name n E m)
-      (λ ds. ap (λ o. live_or o ds (over_written m (written_named n []) ds)) (a.live.theories n (operator_reserved n x named)) ∙ ap (λ o. over_written m (option_and_then (λ y. at_indices y []) o) ds) named)
-      (theory_means m fs place n gs [] (Some x) c h);
+        callee_moved m fs c (over_written m (at_indices x [])) (by_name n E m)
+        (λ ds. ap (λ o. live_or o ds (over_written m (written_named n []) ds)) (a.live.theories n (operator_reserved n x named)) ∙ ap (λ o. over_written m (option_and_then (λ y. at_indices y []) o) ds) named)
+        (theory_means m fs place n gs [] (Some x) c h);
     sound = theory_sound s.supply place n gs [] (Some x) c h;
   }
   theory_by_name place n gs None c named h = callee_same (by_name n) operandless c ((theory_called place n gs [] None c h).0 refl) (record { means = λ m E e a. tt; sound = tt })
@@ -300,9 +292,9 @@ module _ (ns : List Name) (fs : List Symbol) (ls : List ReadLocal) (s : Sofar) (
           let (to, sorted, made) = mapped_ok array_of_sort (sort_in (live_sorts s.live) g) c e in
           callee_same (λ E m ds. list_head_means E m w (f ⨾ g ⨾ none) ds) (array_of_sort to) c made (record {
             means = λ m E d a ds.
-              ap (λ b. cond b (array_of (sort_in E.sorts g) ds) (named_means E m (symbol_in f) (numerals_in (g ⨾ none)) ds)) here
-              ∙ ap (λ live. array_of (sort_in live g) ds) a.sorts
-              ∙ ap (λ r. array_of r ds) sorted;
+                ap (λ b. cond b (array_of (sort_in E.sorts g) ds) (named_means E m (symbol_in f) (numerals_in (g ⨾ none)) ds)) here
+                ∙ ap (λ live. array_of (sort_in live g) ds) a.sorts
+                ∙ ap (λ r. array_of r ds) sorted;
             sound = tt;
           })
       go false e = absurd cc

@@ -1,16 +1,16 @@
 -- Where the symbols of a term are seen: clear names below more or fewer quantified variables.
-use Rattle.std.proofs.Common.{◌≡◌, ◌≢◌, ◌∙◌, sym, ap, subst, refl, Bool, true, false, not, cond, ◌&&◌, ◌||◌, ◌⊎◌, inl, inr, List, [], ◌∷◌, ◌++◌, map, filter, append_assoc}
+use Rattle.std.proofs.Common.{◌≡◌, ◌≢◌, ◌∙◌, sym, ap, refl, Bool, true, false, not, cond, ◌&&◌, ◌||◌, ◌⊎◌, inl, inr, List, [], ◌∷◌, ◌++◌, map, filter, append_assoc}
 use Rattle.std.specs.Prelude.{⊤, reverse}
 use Rattle.std.proofs.lemmas.List.{reverse-append}
 use Rattle.smt_terms.specs.Equal.{name_eq, symbol_eq}
-use Rattle.smt_terms.specs.Free.{is_among, with_more, without, head_symbols, free, free_of, names_of}
+use Rattle.smt_terms.specs.Free.{is_among, with_more, head_symbols, free, free_of, names_of}
 use Rattle.smt_terms.specs.Rank.{has_name, are_distinct}
 use Rattle.smt_terms.specs.Shapes.{is_seen, is_head_seen, is_clear_below, are_clear_below}
 use Rattle.smt_terms.specs.Sorts.{Name, Symbol, Variable}
 use Rattle.smt_terms.specs.Term.{Head, op, symbol, const_array, Term, apply, quantified, Terms, none, ◌⨾◌, constant_of}
 use Rattle.smt_terms.proofs.Among.{is_among-append, is_among-with_more, is_among-without, is_among-filter}
 use Rattle.smt_terms.proofs.Equal.{Decides-symbol_eq}
-use Rattle.smt_terms.proofs.Tests.{and_true, both_true, both_false, or_false, either_true, left_true, right_true}
+use Rattle.smt_terms.proofs.Tests.{and_true, both_true, both_false, or_false, either_true, left_true, right_true, not_true}
 use Rattle.script_read.proofs.NameFacts.{name_same, name_itself, symbol_itself}
 use Rattle.script_read.proofs.SortFacts.{refuted, contrary}
 
@@ -151,10 +151,6 @@ mutual
   free_seen (quantified q xs body) ws g clear among =
       let parts = both_true (is_among (free body) g) (not (is_among (map constant_of xs) g)) (sym (is_among-without xs (free body) g) ∙ among) in
       seen_past (reverse xs) ws g (free_seen body (reverse xs ++ ws) g clear parts.0) (constants-reverse xs g ∙ not_true (is_among (map constant_of xs) g) parts.1)
-    where
-      not_true : (b : Bool) → not b ≡ true → b ≡ false
-      not_true false e = refl
-      not_true true e = absurd cc
 
   pub all_seen : (ts : Terms) (ws : List Variable) (g : Symbol) → are_clear_below ws ts ≡ true → is_among (free_of ts) g ≡ true → is_seen ws g ≡ true
   all_seen none ws g clear among = absurd cc
@@ -209,10 +205,6 @@ with_more_once fs gs a b = once_joined fs (filter (λ g. not (is_among fs g)) gs
   where
     clash : (g : Symbol) → is_among fs g ≡ true → not (is_among fs g) ≡ true → ⊥
     clash g h k = contrary (is_among fs g) h (not_true (is_among fs g) k)
-      where
-        not_true : (b : Bool) → not b ≡ true → b ≡ false
-        not_true false e = refl
-        not_true true e = absurd cc
 
 head_once : (h : Head) → Once (head_symbols h)
 head_once (op o) = tt

@@ -1,11 +1,9 @@
 -- Definitions: a body that is read over its parameters means what the form means over the arguments' values.
-use Rattle.std.proofs.Common.{◌≡◌, ◌∙◌, sym, ap, subst, refl, ℕ, suc, Bool, true, false, cond, ◌&&◌, ◌||◌, ◌⊎◌, inl, inr, List, [], ◌∷◌, map, Option, Some, None}
-use Rattle.std.specs.Prelude.{⊤, option_map, bytes_eq}
-use Rattle.std.specs.List.{list_all, list_any}
+use Rattle.std.proofs.Common.{◌≡◌, ◌∙◌, sym, ap, subst, refl, ℕ, suc, Bool, true, false, cond, ◌⊎◌, inl, inr, List, [], ◌∷◌, map, Some, None}
+use Rattle.std.specs.Prelude.{option_map, bytes_eq}
 use Rattle.smt_lex.specs.Names.{Name, is_among as is_among_names, is_reserved_for_declaring}
 use Rattle.smt_terms.specs.Equal.{name_eq, symbol_eq}
-use Rattle.smt_terms.specs.Free.{is_among, name_among}
-use Rattle.smt_terms.specs.Fresh.{Supply}
+use Rattle.smt_terms.specs.Free.{is_among}
 use Rattle.smt_terms.specs.Models.{Model}
 use Rattle.smt_terms.specs.Rank.{is_sort, has_name}
 use Rattle.smt_terms.specs.Sorts.{Symbol, Variable}
@@ -15,18 +13,18 @@ use Rattle.smt_terms.specs.Term.{Term}
 use Rattle.smt_terms.specs.Val.{Env}
 use Rattle.smt_terms.proofs.Agree.{SameAt}
 use Rattle.smt_terms.proofs.Equal.{Decides-symbol_eq}
-use Rattle.smt_terms.proofs.Tests.{and_true, both_false, either_true, left_true, right_true}
+use Rattle.smt_terms.proofs.Tests.{and_true, both_false, either_true, left_true, right_true, both_true}
 use Rattle.script_read.specs.Heads.{parameters_from}
 use Rattle.script_read.specs.Laws.{denoted}
 use Rattle.script_read.specs.Mean.{Denoted, Meaning, with_bound, with_all, denoted_as, with_arguments}
 use Rattle.script_read.specs.Read.{local_constants}
-use Rattle.script_read.specs.Reading.{ReadLocal, parameter_as, ReadBinding, Sofar, term_among, term_or, bound_as, constant_as, is_quantified}
+use Rattle.script_read.specs.Reading.{ReadLocal, parameter_as, ReadBinding, Sofar, term_among, term_or, bound_as, constant_as}
 use Rattle.script_read.specs.Scope.{or_later}
 use Rattle.script_read.specs.Script.{parameters_read}
-use Rattle.script_read.proofs.Agreeing.{variable_denotes, all_live, all_sorts, pairs_bound}
-use Rattle.script_read.proofs.Fitting.{Unassigned, Given, LiveFits, BoundFits, Agrees, pairs_denoted, LetsMean, Origin, drawn, quantified, internal, ConstantSound, LocalsSound, have_sorts, Sound, Ready}
+use Rattle.script_read.proofs.Agreeing.{variable_denotes, pairs_bound}
+use Rattle.script_read.proofs.Fitting.{Given, LiveFits, BoundFits, Agrees, pairs_denoted, LetsMean, Origin, drawn, quantified, internal, ConstantSound, LocalsSound, have_sorts, Sound, Ready}
 use Rattle.script_read.proofs.NameFacts.{name_same, name_itself, name_turned, symbol_itself, parameter_reserved, parameter_never, spared_first, spared_none}
-use Rattle.script_read.proofs.SortFacts.{VariableSound, VariablesSound, earlier_apart, refuted, contrary}
+use Rattle.script_read.proofs.SortFacts.{VariablesSound, earlier_apart, refuted, contrary}
 
 pub variables_fine : (ns earlier : List Name) (xs : List Variable) → VariablesSound ns earlier xs → have_sorts xs ≡ true
 variables_fine ns earlier [] sound = refl
@@ -67,12 +65,8 @@ module _ (ns : List Name) (fs : List Symbol) (s : Sofar) (sound : Sound ns fs s)
   parameters_ready : (i : ℕ) (xs : List Variable) (ls : List ReadLocal) → have_sorts xs ≡ true → LocalsSound ns fs s.supply ls → LetsMean fs s.live ls → Ready ns fs (parameters_read xs (parameters_from i xs) ls) s
   parameters_ready i [] ls fine locals lets = record { sound = sound; locals = locals; lets = lets }
   parameters_ready i (x ∷ xs) ls fine locals lets =
-      let parts = both_fine (is_sort x.sort) (have_sorts xs) fine in
+      let parts = both_true (is_sort x.sort) (have_sorts xs) fine in
       parameters_ready (suc i) xs (parameter_as x (parameter i x.sort).name ∷ ls) parts.1 (locals_parameter i x ls locals) (parts.0, lets)
-    where
-      both_fine : (a b : Bool) → (a && b) ≡ true → (a ≡ true) × (b ≡ true)
-      both_fine true b h = (refl, h)
-      both_fine false b h = absurd cc
 
   pub nothing_ready : Ready ns fs [] s
   nothing_ready = record {
@@ -100,15 +94,11 @@ arguments_denoted : (m : Model) (i : ℕ) (xs : List Variable) (ds : List Denote
 arguments_denoted m i [] ds d E fine given = refl
 arguments_denoted m i (x ∷ xs) [] d E fine given = absurd given
 arguments_denoted m i (x ∷ xs) (a ∷ ds) d E fine given =
-    let parts = both_fine (is_sort x.sort) (have_sorts xs) fine in
+    let parts = both_true (is_sort x.sort) (have_sorts xs) fine in
     let sorted : a ≡ denoted_as a.0 x.sort = λ j. (a.0, given.0 j) in
     let first : a ≡ denoted m d (constant_as x (parameter i x.sort).name) = sorted ∙ variable_denotes m x (parameter i x.sort).name a.0 d parts.0 given.1 in
     let rest : with_arguments xs ds E ≡ with_all (pairs_denoted m d (terms_from (suc i) xs)) E = arguments_denoted m (suc i) xs ds d E parts.1 given.2 in
     λ j. with_bound x.name (first j) (rest j)
-  where
-    both_fine : (b c : Bool) → (b && c) ≡ true → (b ≡ true) × (c ≡ true)
-    both_fine true c h = (refl, h)
-    both_fine false c h = absurd cc
 
 unnamed : (i : ℕ) (xs : List Variable) (n : Name) → has_name n (map (λ x. x.name) xs) ≡ false → term_among (terms_from i xs) n ≡ None
 unnamed i [] n apart = refl

@@ -1,17 +1,16 @@
 -- A definition over its arguments: substitution of the arguments for the parameters keeps what the definition means.
-use Rattle.std.proofs.Common.{◌≡◌, ◌≢◌, ◌∙◌, sym, ap, subst, refl, ℕ, suc, ◌<◌, Bool, true, false, cond, ◌||◌, ◌⊎◌, inl, inr, List, [], ◌∷◌, ◌++◌, map, zip, Option, Some, None, Result, Ok, Err, arith}
-use Rattle.std.specs.Prelude.{⊤, unwrap_or}
-use Rattle.std.specs.List.{list_all}
+use Rattle.std.proofs.Common.{◌≡◌, ◌≢◌, ◌∙◌, sym, ap, subst, refl, ℕ, suc, ◌<◌, Bool, true, false, cond, ◌||◌, ◌⊎◌, inl, inr, List, [], ◌∷◌, map, zip, Option, Some, None, Ok, arith}
+use Rattle.std.specs.Prelude.{unwrap_or}
 use Rattle.smt_lex.specs.Names.{is_reserved_for_declaring}
 use Rattle.smt_terms.specs.Equal.{name_eq, symbol_eq}
-use Rattle.smt_terms.specs.Free.{is_among, name_among, names_of, head_symbols, without, free, free_of}
+use Rattle.smt_terms.specs.Free.{is_among, name_among, names_of, head_symbols, free, free_of}
 use Rattle.smt_terms.specs.Fresh.{Supply, NeverGives}
 use Rattle.smt_terms.specs.Models.{Model}
-use Rattle.smt_terms.specs.Rank.{Fault, rank, is_sort, sort_of, sorts_of}
+use Rattle.smt_terms.specs.Rank.{is_sort, sort_of, sorts_of}
 use Rattle.smt_terms.specs.Sorts.{Name, Sort, bool, Symbol, Variable}
 use Rattle.smt_terms.specs.Subst.{Map, image, subst as substitute, parameter, expand}
-use Rattle.smt_terms.specs.SubstLaws.{value_or, under, HaveSorts, names_within, names_within_each, GivesNone, GivesNoImage, GivesNoNameIn, IsResult, Later}
-use Rattle.smt_terms.specs.Term.{Head, symbol, Term, apply, quantified, Terms, none, ◌⨾◌, terms, constant_of, constant}
+use Rattle.smt_terms.specs.SubstLaws.{value_or, under, HaveSorts, names_within, names_within_each, GivesNone, GivesNoImage, Later}
+use Rattle.smt_terms.specs.Term.{symbol, Term, apply, quantified, Terms, none, ◌⨾◌, terms, constant}
 use Rattle.smt_terms.specs.Val.{Env, val}
 use Rattle.smt_terms.proofs.Among.{is_among-with_more, is_among-without}
 use Rattle.smt_terms.proofs.Cuts.{name_among-append}
@@ -25,11 +24,10 @@ use Rattle.smt_terms.proofs.SubstNames.{subst-spares_names}
 use Rattle.smt_terms.proofs.Tests.{both_true, either_true, left_true, right_true}
 use Rattle.script_read.specs.Heads.{operand_sorts, parameters_from, rank_of_arguments}
 use Rattle.script_read.specs.Laws.{denoted}
-use Rattle.script_read.specs.Mean.{Denoted}
 use Rattle.script_read.proofs.Agreeing.{variable_sort}
 use Rattle.script_read.proofs.Fitting.{Unassigned, Given, have_sorts}
 use Rattle.script_read.proofs.NameFacts.{symbol_itself, parameter_reserved, parameters_apart, name_same}
-use Rattle.script_read.proofs.SortFacts.{refuted, contrary}
+use Rattle.script_read.proofs.SortFacts.{contrary}
 
 -- ---- a free name stands in the term
 
@@ -45,18 +43,18 @@ mutual
   free_named (apply h ts) g among =
       name_among-append (names_of (head_symbols h)) (names_within_each ts) g.name
       ∙ or_else (is_among (head_symbols h) g) (is_among (free_of ts) g) (name_among (names_of (head_symbols h)) g.name) (name_among (names_within_each ts) g.name)
-        (among-name (head_symbols h) g) (free_named_each ts g) (sym (is_among-with_more (head_symbols h) (free_of ts) g) ∙ among)
+      (among-name (head_symbols h) g) (free_named_each ts g) (sym (is_among-with_more (head_symbols h) (free_of ts) g) ∙ among)
   free_named (quantified q xs body) g among =
       name_among-append (map (λ x. x.name) xs) (names_within body) g.name
       ∙ right_true (name_among (map (λ x. x.name) xs) g.name) (name_among (names_within body) g.name)
-        (free_named body g (both_true (is_among (free body) g) _ (sym (is_among-without xs (free body) g) ∙ among)).0)
+      (free_named body g (both_true (is_among (free body) g) _ (sym (is_among-without xs (free body) g) ∙ among)).0)
 
   free_named_each : (ts : Terms) (g : Symbol) → is_among (free_of ts) g ≡ true → name_among (names_within_each ts) g.name ≡ true
   free_named_each none g among = absurd cc
   free_named_each (t ⨾ ts) g among =
       name_among-append (names_within t) (names_within_each ts) g.name
       ∙ or_else (is_among (free t) g) (is_among (free_of ts) g) (name_among (names_within t) g.name) (name_among (names_within_each ts) g.name)
-        (free_named t g) (free_named_each ts g) (sym (is_among-with_more (free t) (free_of ts) g) ∙ among)
+      (free_named t g) (free_named_each ts g) (sym (is_among-with_more (free t) (free_of ts) g) ∙ among)
 
 name_from : (fs : List Symbol) (n : Name) → name_among (names_of fs) n ≡ true → (g : Symbol) × (is_among fs g ≡ true) × (name_eq g.name n ≡ true)
 name_from [] n h = absurd cc
@@ -121,10 +119,11 @@ arguments_given : (m : Model) (e d : Env) (i : ℕ) (xs : List Variable) (ts : L
 arguments_given m e d i [] ts sorts have = tt
 arguments_given m e d i (x ∷ xs) [] sorts have = absurd cc
 arguments_given m e d i (x ∷ xs) (t ∷ ts) sorts have =
-    let parts = fewer_sorts t (terms ts) x.sort (sorts_of_variables xs) sorts in
-    (parts.0,
-    have (parameter i x.sort) t (ap (λ b. cond b (Some t) (image (arguments_from (suc i) xs ts) (parameter i x.sort))) (symbol_itself (parameter i x.sort))),
-    arguments_given m e d (suc i) xs ts parts.1 (λ g u found. have g u (ap (λ b. cond b (Some t) (image (arguments_from (suc i) xs ts) g)) (later_images i (suc i) x.sort xs ts g u (omega arith) found) ∙ found)))
+    let parts = fewer_sorts t (terms ts) x.sort (sorts_of_variables xs) sorts in (
+      parts.0,
+      have (parameter i x.sort) t (ap (λ b. cond b (Some t) (image (arguments_from (suc i) xs ts) (parameter i x.sort))) (symbol_itself (parameter i x.sort))),
+      arguments_given m e d (suc i) xs ts parts.1 (λ g u found. have g u (ap (λ b. cond b (Some t) (image (arguments_from (suc i) xs ts) g)) (later_images i (suc i) x.sort xs ts g u (omega arith) found) ∙ found)),
+    )
 
 -- ---- the ranks of the arguments
 

@@ -4,6 +4,9 @@ mod Applying
 mod Bindings
 mod Builds
 mod Calling
+mod ClearBuilt
+mod ClearReads
+mod ClearScript
 mod ClearTerms
 mod Defining
 mod Expanding

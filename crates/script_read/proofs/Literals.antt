@@ -1,29 +1,28 @@
 -- Literals of a check mean what they are read as.
-use Rattle.std.proofs.Common.{◌≡◌, ◌∙◌, sym, ap, subst, refl, ℕ, Bool, true, false, cond, List, [], ◌∷◌, map, Option, Some, None, Result, Ok, Err}
-use Rattle.std.specs.Prelude.{⊤, option_map, unwrap_or, codes, bytes_eq, if◌then◌else◌}
+use Rattle.std.proofs.Common.{◌≡◌, ◌∙◌, ap, subst, refl, ℕ, Bool, true, false, cond, List, [], ◌∷◌, Option, Some, None}
+use Rattle.std.specs.Prelude.{option_map, codes, if◌then◌else◌}
 use Rattle.smt_lex.specs.Names.{Name, is_reserved, is_theory_name}
-use Rattle.smt_lex.specs.Lex.{Token, name_by, symbol_by, symbol_of}
-use Rattle.smt_lex.specs.Forms.{Form, atom, node, Forms, none, ◌⨾◌}
+use Rattle.smt_lex.specs.Lex.{Token, symbol_by, symbol_of}
+use Rattle.smt_lex.specs.Forms.{Form, atom, node, none, ◌⨾◌}
 use Rattle.smt_lex.specs.declared.items.Item.{Item}
 use Rattle.smt_lex.specs.declared.items.Item.TheVariants.{Word, Quoted}
 use Rattle.smt_terms.specs.declared.op.Op.TheVariants.{Not}
 use Rattle.smt_terms.specs.Connectives.{negated}
 use Rattle.smt_terms.specs.Equal.{sort_eq}
-use Rattle.smt_terms.specs.Models.{Model, symbol_value}
+use Rattle.smt_terms.specs.Models.{Model}
 use Rattle.smt_terms.specs.Rank.{rank, sort_over, with_sort, sort_of}
 use Rattle.smt_terms.specs.Sorts.{Sort, bool, Symbol}
-use Rattle.smt_terms.specs.Term.{op, symbol, Term, apply, none as no_terms, constant}
-use Rattle.smt_terms.specs.Val.{Env, no_variables, val}
-use Rattle.smt_terms.specs.Written.{Written, plain, operator_named, written_named, build}
+use Rattle.smt_terms.specs.Term.{op, Term, constant}
+use Rattle.smt_terms.specs.Val.{no_variables}
+use Rattle.smt_terms.specs.Written.{plain, operator_named, written_named, build}
 use Rattle.smt_terms.proofs.Equal.{Decides-sort_eq}
 use Rattle.script_read.specs.Laws.{denoted}
-use Rattle.script_read.specs.Mean.{Denoted, Meaning, value_algebra, over_written, denoted_or, over_constant, truth_of, live_or, symbol_means, symbol_or_nothing, token_means, symbol_head_means, head_means, mean, mean_list, meaning}
-use Rattle.script_read.specs.Heads.{term_algebra}
-use Rattle.script_read.specs.Parts.{symbol_in, word_by, word_in, is_name, constant_by, Opening, head, opening, opening_word}
-use Rattle.script_read.specs.Reading.{ReadBinding, Sofar, as_bindings, Entry, symbol_entry, entry_of}
+use Rattle.script_read.specs.Mean.{Denoted, Meaning, over_written, denoted_or, over_constant, truth_of, live_or, symbol_means, symbol_or_nothing, token_means, symbol_head_means, head_means, mean, mean_list, meaning}
+use Rattle.script_read.specs.Parts.{symbol_in, word_by, word_in, is_name, constant_by, head, opening, opening_word}
+use Rattle.script_read.specs.Reading.{Sofar, as_bindings, Entry, symbol_entry, entry_of}
 use Rattle.script_read.specs.Script.{boolean_constant, constant_entry, declared_constant, literal}
 use Rattle.script_read.proofs.Builds.{written_meaning}
-use Rattle.script_read.proofs.Fitting.{LiveFits, Agrees, Sound}
+use Rattle.script_read.proofs.Fitting.{Sound}
 use Rattle.script_read.proofs.NameFacts.{name_same}
 use Rattle.script_read.proofs.Naming.{meaning_bound}
 
@@ -89,10 +88,10 @@ module _ (ns : List Name) (fs : List Symbol) (s : Sofar) (sound : Sound ns fs s)
           let same : constant f ≡ t = cc in
           subst (λ u. LiteralRead (λ m. symbol_means (all_live m) m n) u) same (record {
             means = λ m.
-              let found = (sound.meant m).entries n (symbol_entry f) entry in
-              ap (λ d. denoted_or d (live_or ((all_live m).live n) [] (over_constant m (truth_of n)))) (meaning_bound (as_bindings s.live) m n)
-              ∙ ap (λ o. live_or o [] (over_constant m (truth_of n))) found.1
-              ∙ found.2.1 [];
+                let found = (sound.meant m).entries n (symbol_entry f) entry in
+                ap (λ d. denoted_or d (live_or ((all_live m).live n) [] (over_constant m (truth_of n)))) (meaning_bound (as_bindings s.live) m n)
+                ∙ ap (λ o. live_or o [] (over_constant m (truth_of n))) found.1
+                ∙ found.2.1 [];
             sort = ap (λ g. sort_of (constant g)) (symbol_is ((Decides-sort_eq f.result bool).0 e)) ∙ constant_sorted f.name;
           })
       go false e k = absurd cc
@@ -115,9 +114,9 @@ module _ (ns : List Name) (fs : List Symbol) (s : Sofar) (sound : Sound ns fs s)
           let read : LiteralRead (λ m. symbol_or_nothing (all_live m) m (Some n)) t = declared_means (Some n) t g in
           record {
             means = λ m.
-              ap (λ o. token_means (all_live m) m k o) (no_constant k.item k.text n e)
-              ∙ ap (λ o. symbol_or_nothing (all_live m) m o) e
-              ∙ read.means m;
+                ap (λ o. token_means (all_live m) m k o) (no_constant k.item k.text n e)
+                ∙ ap (λ o. symbol_or_nothing (all_live m) m o) e
+                ∙ read.means m;
             sort = read.sort;
           }
 
@@ -150,9 +149,9 @@ module _ (ns : List Name) (fs : List Symbol) (s : Sofar) (sound : Sound ns fs s)
       let same : negated u ≡ t = cc in
       subst (λ v. LiteralRead (λ m. mean (node place (f ⨾ c ⨾ none)) (all_live m) m) v) same (record {
         means = λ m.
-          ap (λ o. mean_list o (c ⨾ none) (all_live m) m) (not_opens f is)
-          ∙ ap (λ d. head_means f (all_live m) m (d ∷ [])) (read.means m)
-          ∙ not_means m f u is;
+            ap (λ o. mean_list o (c ⨾ none) (all_live m) m) (not_opens f is)
+            ∙ ap (λ d. head_means f (all_live m) m (d ∷ [])) (read.means m)
+            ∙ not_means m f u is;
         sort = negated_sorted u read.sort;
       })
 

@@ -1,8 +1,7 @@
 -- At each point the terms of an accepted text mean what its forms mean.
-use Rattle.std.proofs.Common.{◌≡◌, ◌∙◌, sym, ap, subst, refl, ℕ, Bool, true, false, ◌&&◌, List, [], ◌∷◌, ◌++◌, map, Option, Some, None, Result, Ok}
-use Rattle.std.specs.Prelude.{option_map, is_some, IsTrue}
+use Rattle.std.proofs.Common.{◌≡◌, ◌∙◌, sym, ap, refl, ℕ, Bool, true, ◌&&◌, List, [], ◌∷◌, ◌++◌, map, Option, Some, None}
+use Rattle.std.specs.Prelude.{option_map, is_some}
 use Rattle.std.specs.List.{list_all}
-use Rattle.smt_terms.specs.Fresh.{Supply}
 use Rattle.smt_terms.specs.Models.{Model}
 use Rattle.smt_terms.specs.Rank.{sort_of, is_regular, is_well_sorted}
 use Rattle.smt_terms.specs.Sorts.{bool}
@@ -11,12 +10,11 @@ use Rattle.smt_terms.specs.Val.{no_variables}
 use Rattle.smt_terms.proofs.Tests.{and_true}
 use Rattle.script_read.specs.Commands.{Command, with_asserted, start, Point, points, nth_point, at_point, live_in, live, literals}
 use Rattle.script_read.specs.Laws.{denoted, form_denoted, SameMeaning, ReadingKeepsMeaning}
-use Rattle.script_read.specs.Mean.{Denoted, is_true_of}
+use Rattle.script_read.specs.Mean.{is_true_of}
 use Rattle.script_read.specs.Read.{is_of_sort, has_sort}
-use Rattle.script_read.specs.Satisfied.{is_true_in, sat}
-use Rattle.script_read.specs.Scenes.{Asserted, means_true, holds, forms_script}
-use Rattle.script_read.specs.Script.{script}
-use Rattle.script_read.proofs.Paired.{Meant, with_terms, with_forms, Pairs, script_pairs}
+use Rattle.script_read.specs.Satisfied.{is_true_in}
+use Rattle.script_read.specs.Scenes.{Asserted, means_true, forms_script}
+use Rattle.script_read.proofs.Paired.{Meant, Pairs, script_pairs}
 use Rattle.script_read.proofs.Points.{point_with, points_with, nth_kept, live_at}
 
 -- ---- what assertions hold, changed one by one

@@ -1,22 +1,20 @@
 -- Names: which are among those of a text, which are reserved, and which a supply never gives.
-use Rattle.std.proofs.Common.{◌≡◌, ◌≢◌, ◌∙◌, sym, ap, subst, refl, ℕ, zero, suc, ◌≤◌, ◌==◌, Bool, true, false, cond, ◌&&◌, ◌||◌, ◌⊎◌, inl, inr, List, [], ◌∷◌, ◌++◌, map, Option, Some, None, arith}
-use Rattle.std.specs.Prelude.{codes, bytes_eq, option_and_then}
+use Rattle.std.proofs.Common.{◌≡◌, ◌≢◌, ◌∙◌, sym, ap, subst, refl, ℕ, ◌==◌, Bool, true, false, cond, ◌&&◌, ◌||◌, ◌⊎◌, inl, inr, List, [], ◌∷◌, ◌++◌, Option, Some, None}
+use Rattle.std.specs.Prelude.{codes}
 use Rattle.std.specs.List.{list_all}
 use Rattle.smt_lex.specs.Names.{Name, is_among, is_theory_name, is_reserved_for_declaring}
 use Rattle.smt_lex.specs.Lex.{symbol_of}
 use Rattle.smt_lex.specs.Forms.{Form, atom, node, Forms, none, ◌⨾◌}
 use Rattle.smt_terms.specs.Equal.{name_eq, symbol_eq}
 use Rattle.smt_terms.specs.Sorts.{Sort, Symbol}
-use Rattle.smt_terms.specs.Free.{is_among as is_among_symbols, name_among, names_of}
-use Rattle.smt_terms.specs.Fresh.{Supply, numbered_name, next_name, after_draw, NeverGives}
-use Rattle.smt_terms.specs.Numeral.{numeral}
+use Rattle.smt_terms.specs.Free.{name_among}
+use Rattle.smt_terms.specs.Fresh.{Supply, next_name, NeverGives}
 use Rattle.smt_terms.specs.Subst.{parameter}
-use Rattle.smt_terms.specs.SubstLaws.{names_within, names_within_each, GivesNone, Later}
-use Rattle.smt_terms.specs.Term.{Term, Terms, terms}
-use Rattle.smt_terms.specs.Written.{Indexed, Written, core_operators, number_operators, vector_operators, array_operators, named_in, or_else, operator_named}
+use Rattle.smt_terms.specs.SubstLaws.{GivesNone, Later}
+use Rattle.smt_terms.specs.Written.{Indexed, core_operators, number_operators, vector_operators, array_operators, named_in, or_else, operator_named}
 use Rattle.smt_terms.proofs.Tests.{left_true, right_true, either_true, alike_from}
 use Rattle.smt_terms.proofs.Equal.{Decides-name_eq, Decides-symbol_eq}
-use Rattle.smt_terms.proofs.Fresh.{never-next, never-after, never-drawn}
+use Rattle.smt_terms.proofs.Fresh.{never-next}
 use Rattle.smt_terms.proofs.Cuts.{name_among-append}
 use Rattle.smt_terms.proofs.Numeral.{numeral-injective}
 use Rattle.script_read.specs.Script.{with_name, names_with, names_with_all}

@@ -1,20 +1,19 @@
 -- Names of terms: what is known when an annotation has given them.
-use Rattle.std.proofs.Common.{◌≡◌, ◌∙◌, sym, ap, subst, refl, ℕ, Bool, true, false, not, cond, ◌||◌, ◌⊎◌, inl, inr, List, [], ◌∷◌, map, Option, Some, None, Result, Ok, Err}
-use Rattle.std.specs.Prelude.{⊤, option_map, bytes_eq, is_some}
+use Rattle.std.proofs.Common.{◌≡◌, ◌∙◌, sym, ap, subst, refl, ℕ, Bool, true, false, cond, ◌⊎◌, inl, inr, List, [], ◌∷◌, map, Option, Some, None, Ok}
+use Rattle.std.specs.Prelude.{bytes_eq, is_some}
 use Rattle.std.specs.List.{list_any}
 use Rattle.smt_lex.specs.Names.{Name, is_among as is_among_names, is_theory_name, is_reserved_for_declaring}
 use Rattle.smt_lex.specs.Forms.{Form}
 use Rattle.smt_terms.specs.Equal.{name_eq, symbol_eq}
 use Rattle.smt_terms.specs.Free.{is_among, free}
-use Rattle.smt_terms.specs.Fresh.{Supply}
 use Rattle.smt_terms.specs.Models.{Model}
 use Rattle.smt_terms.specs.Rank.{sort_of}
 use Rattle.smt_terms.specs.Sorts.{Sort, Symbol}
 use Rattle.smt_terms.specs.SubstLaws.{names_within, GivesNone}
 use Rattle.smt_terms.specs.Term.{Term}
-use Rattle.smt_terms.specs.Val.{Env, val}
+use Rattle.smt_terms.specs.Val.{Env}
 use Rattle.smt_terms.specs.Values.{default_value}
-use Rattle.smt_terms.proofs.Agree.{SameAt, val_same}
+use Rattle.smt_terms.proofs.Agree.{val_same}
 use Rattle.smt_terms.proofs.Equal.{Decides-symbol_eq}
 use Rattle.smt_terms.proofs.Tests.{both_false, either_true}
 use Rattle.script_read.specs.declared.causes.Cause.TheVariants.{Redeclared, ReservedName}
@@ -22,11 +21,11 @@ use Rattle.script_read.specs.Laws.{denoted}
 use Rattle.script_read.specs.Mean.{Denoted, Meaning, mean, with_locals, meaning}
 use Rattle.script_read.specs.Parts.{place_of, symbol_in}
 use Rattle.script_read.specs.Read.{is_given, term_name, term_name_in, term_names, local_constants, mentions_local}
-use Rattle.script_read.specs.Reading.{ReadLocal, ReadBinding, named_as, as_local, as_bindings, live_sorts, Sofar, Entry, term_entry, entry_of}
-use Rattle.script_read.specs.Refusals.{Refused, unless, mapped}
+use Rattle.script_read.specs.Reading.{ReadLocal, ReadBinding, named_as, as_local, as_bindings, Sofar, Entry, term_entry, entry_of}
+use Rattle.script_read.specs.Refusals.{unless, mapped}
 use Rattle.script_read.specs.Scope.{Binding, sort_name, function, definition, named, level, or_later, live_sort}
 use Rattle.script_read.proofs.Agreeing.{agrees_default, HaveDefaults}
-use Rattle.script_read.proofs.Fitting.{Unassigned, EntryMeans, LiveFits, Agrees, EntrySound, LocalsSound, LetsMean, Sound, Moves, Ready}
+use Rattle.script_read.proofs.Fitting.{Unassigned, EntryMeans, LiveFits, Agrees, EntrySound, Sound, Moves, Ready}
 use Rattle.script_read.proofs.NameFacts.{name_same, theory_reserved}
 use Rattle.script_read.proofs.Outcomes.{and_then_ok, mapped_ok, ok_same}
 use Rattle.script_read.proofs.SortFacts.{unless_passed, refuted, contrary}

@@ -1,13 +1,13 @@
 -- The commands of an accepted text with terms and those with forms go in pairs: each form that is asserted or assumed means
 -- what its term means.
-use Rattle.std.proofs.Common.{◌≡◌, ◌∙◌, sym, ap, subst, refl, ℕ, zero, suc, ◌+◌, ◌==◌, Bool, true, false, not, ◌||◌, List, [], ◌∷◌, ◌++◌, map, Option, Some, None, Result, Ok, Err}
+use Rattle.std.proofs.Common.{◌≡◌, ◌∙◌, sym, ap, subst, refl, ℕ, suc, ◌+◌, ◌==◌, Bool, true, false, not, ◌||◌, List, [], ◌∷◌, ◌++◌, map, Option, Some, None, Result, Ok, Err}
 use Rattle.std.specs.Prelude.{⊤, cond, nat_lt, is_some, option_map, if◌then◌else◌}
 use Rattle.std.specs.List.{list_all}
 use Rattle.std.proofs.lemmas.List.{map-append}
 use Rattle.smt_lex.specs.Names.{Name, is_command_word, is_reserved_for_declaring, is_reserved_for_sorts}
 use Rattle.smt_lex.specs.Lex.{Fault, symbol_of}
 use Rattle.smt_lex.specs.Forms.{Form, atom, node, Forms, none, ◌⨾◌, forms_to_exit}
-use Rattle.smt_terms.specs.Free.{is_among, name_among}
+use Rattle.smt_terms.specs.Free.{name_among}
 use Rattle.smt_terms.specs.Fresh.{Supply}
 use Rattle.smt_terms.specs.Models.{Model}
 use Rattle.smt_terms.specs.Rank.{is_sort, sort_of, is_regular}
@@ -19,23 +19,22 @@ use Rattle.smt_terms.proofs.Tests.{and_true}
 use Rattle.script_read.specs.declared.causes.Cause.{Cause}
 use Rattle.script_read.specs.declared.causes.Cause.TheVariants.{WrongSort, BadForm, Redeclared, ReservedName, PopTooFar, NumberLimit, SortArity, UnsupportedOption, UnknownCommand}
 use Rattle.script_read.specs.Commands.{Command, passed, declare_sort, declare, assert, check, check_assuming, push, pop, reset, reset_assertions, globals, exit, with_asserted}
-use Rattle.script_read.specs.Heads.{parameters_from}
 use Rattle.script_read.specs.Laws.{denoted}
 use Rattle.script_read.specs.Mean.{Denoted, accepted_or, mean, meaning, with_arguments}
-use Rattle.script_read.specs.Outlines.{At, CommandWord, set_logic_word, set_info_word, set_option_word, get_info_word, get_option_word, echo_word, get_model_word, declare_sort_word, define_sort_word, declare_const_word, declare_fun_word, define_fun_word, assert_word, check_sat_word, check_sat_assuming_word, push_word, pop_word, reset_word, reset_assertions_word, exit_word, Outline, passing, global_option, sort_declaration, sort_definition, symbol_declaration, symbol_definition, assertion, checking, assuming, pushing, popping, resetting, resetting_assertions, ending, levels_written, where_so, of_both, option_shape, symbol_at, numeral_at, list_in, is_globals, shape, shaped, outline_by, outline, supported, placed}
-use Rattle.script_read.specs.Parts.{place_of, symbol_in, form_text, is_symbol, is_keyword, is_text, keyword_in, word_in}
+use Rattle.script_read.specs.Outlines.{At, CommandWord, set_logic_word, set_info_word, set_option_word, get_info_word, get_option_word, echo_word, get_model_word, declare_sort_word, define_sort_word, declare_const_word, declare_fun_word, define_fun_word, assert_word, check_sat_word, check_sat_assuming_word, push_word, pop_word, reset_word, reset_assertions_word, exit_word, Outline, passing, global_option, sort_declaration, sort_definition, symbol_declaration, symbol_definition, assertion, checking, assuming, pushing, popping, resetting, resetting_assertions, ending, levels_written, where_so, of_both, symbol_at, numeral_at, list_in, is_globals, shape, shaped, outline_by, outline, supported, placed}
+use Rattle.script_read.specs.Parts.{place_of, form_text, is_symbol, is_keyword, is_text, keyword_in, word_in}
 use Rattle.script_read.specs.Read.{has_sort, read}
-use Rattle.script_read.specs.Reading.{ReadBinding, sort_known, function_known, definition_as, level_known, Sofar, as_bindings, live_sorts, is_level_known, entry_of}
+use Rattle.script_read.specs.Reading.{ReadBinding, sort_known, function_known, level_known, Sofar, as_bindings, live_sorts, is_level_known, entry_of}
 use Rattle.script_read.specs.Refusals.{Refused, at, and_then, unless, mapped, given}
-use Rattle.script_read.specs.Scenes.{Asserted, Scene, is_true_symbol, naming, literals_meant, seen, seen_or_none, seen_command, commands_seen, symbol_meant, first_scene}
-use Rattle.script_read.specs.Scope.{opened, popped, emptied}
-use Rattle.script_read.specs.Script.{Standing, Step, live_of, begun_with, declarable, sort_declarable, declares_sort, without_parameters, defines_sort, declares, symbol_of_sorts, declares_symbol, body_context, defined_with, of_sort, read_body, defines_symbol, no_context, asserted_with, asserts, literal, literals_in, assumes, most_levels, open_levels, place_or, pushed_unless, pushes, pops, truth_in, sets_globals, after_reset, after_emptying, step, read_command, Numbered, numbered, behind, read_commands, first_standing, fresh, names_with_all, commands_or_refusal, read_forms, script}
+use Rattle.script_read.specs.Scenes.{Asserted, is_true_symbol, naming, literals_meant, seen, seen_or_none, seen_command, commands_seen, symbol_meant, first_scene}
+use Rattle.script_read.specs.Scope.{opened, popped}
+use Rattle.script_read.specs.Script.{Standing, Step, live_of, begun_with, declarable, sort_declarable, declares_sort, without_parameters, defines_sort, declares, symbol_of_sorts, declares_symbol, body_context, defined_with, of_sort, read_body, defines_symbol, no_context, asserted_with, asserts, literal, literals_in, assumes, most_levels, open_levels, place_or, pushed_unless, pops, truth_in, sets_globals, step, read_command, numbered, behind, read_commands, first_standing, names_with_all, read_forms, script}
 use Rattle.script_read.specs.SortForms.{sort_in, sorts_in}
 use Rattle.script_read.specs.Variables.{definition_binder, variables_in}
 use Rattle.script_read.proofs.Agreement.{command_shows, shown_at, numbered_ok, read_ok}
 use Rattle.script_read.proofs.Bindings.{read_leads}
 use Rattle.script_read.proofs.Defining.{variables_fine, nothing_ready, body_ready, agrees_arguments}
-use Rattle.script_read.proofs.Fitting.{Within, AllWithin, declared_of, Unassigned, Given, Agrees, Sound, Built, Moves, Reads}
+use Rattle.script_read.proofs.Fitting.{Within, AllWithin, declared_of, Unassigned, Given, Sound, Built, Moves, Reads}
 use Rattle.script_read.proofs.Literals.{LiteralRead, literal_means}
 use Rattle.script_read.proofs.NameFacts.{all_within_text}
 use Rattle.script_read.proofs.Naming.{agrees_alone}
@@ -207,6 +206,10 @@ of_sort_sorted to place (Err e) p h = absurd cc
 stands_behind : (ns : List Name) (s : Standing) (fs : List Symbol) (sofar : Sofar) (global begun : Bool) (asserted : ℕ) → Moves ns fs s.sofar sofar → AllRegular sofar.live → Stands ns (record { sofar = sofar; global = global; begun = begun; asserted = asserted })
 stands_behind ns s fs sofar global begun asserted moves rules = record { text = moves.sound.text; built = moves.sound.built; rules = rules }
 
+-- one more literal's term
+terms_more : (p : Meant) (ps : List Meant) (us ts : List Term) → map (λ (q : Meant). q.term) ps ≡ us → p.term ∷ us ≡ ts → map (λ (q : Meant). q.term) (p ∷ ps) ≡ ts
+terms_more p ps us ts h k = ap (λ vs. p.term ∷ vs) h ∙ k
+
 module _ (ns : List Name) (s : Standing) (stands : Stands ns s) where
   abbrev known_symbols : List Symbol
   known_symbols = declared_of s.sofar.live
@@ -237,13 +240,15 @@ module _ (ns : List Name) (s : Standing) (stands : Stands ns s) where
       let reads : Reads ns known_symbols (body_context n xs).locals (λ E m. mean body E m) s.sofar p = ok_on (read body (body_context n xs) s.sofar) (Reads ns known_symbols (body_context n xs).locals (λ E m. mean body E m) s.sofar) p (form_reads body ns known_symbols within (body_context n xs) s.sofar (body_ready ns known_symbols s.sofar sound xs (variables_fine ns [] xs variables.sound))) is in
       let fine : RegularRead p = ok_on (read body (body_context n xs) s.sofar) RegularRead p (form_regular body ns within (body_context n xs) s.sofar (parameters_regular 0 xs [] (variables_fine ns [] xs variables.sound) nothing_regular) stands.rules) is in
       let means : (m : Model) (ds : List Denoted) (d : Env) → Unassigned (declared_of p.1.live) d → Given 0 xs ds d → mean body (with_arguments xs ds (meaning (as_bindings p.1.live) m)) m ≡ denoted m d p.0 = λ m ds d own arguments.
-        let undeclared : Unassigned known_symbols d = subst (λ gs. Unassigned gs d) reads.moves.sound.declared own in
-        reads.means m (with_arguments xs ds (meaning (as_bindings p.1.live) m)) d (agrees_arguments m ns known_symbols p.1.live xs ds d (meaning (as_bindings p.1.live) m) variables.sound (agrees_alone ns known_symbols p.1 m d reads.moves.sound undeclared) arguments) in
-      (([], refl, refl), record {
-        text = reads.moves.sound.text;
-        built = ((allowed, (reads.spared, (to, of_sort_sorted to (place_of body) (read body (body_context n xs) s.sofar) p h), variables_fine ns [] xs variables.sound), means), reads.moves.sound.built);
-        rules = (fine.rules, fine.live);
-      }))
+      let undeclared : Unassigned known_symbols d = subst (λ gs. Unassigned gs d) reads.moves.sound.declared own in
+      reads.means m (with_arguments xs ds (meaning (as_bindings p.1.live) m)) d (agrees_arguments m ns known_symbols p.1.live xs ds d (meaning (as_bindings p.1.live) m) variables.sound (agrees_alone ns known_symbols p.1 m d reads.moves.sound undeclared) arguments) in (
+        ([], refl, refl),
+        record {
+          text = reads.moves.sound.text;
+          built = ((allowed, (reads.spared, (to, of_sort_sorted to (place_of body) (read body (body_context n xs) s.sofar) p h), variables_fine ns [] xs variables.sound), means), reads.moves.sound.built);
+          rules = (fine.rules, fine.live);
+        },
+      ))
 
   -- ---- declarations and definitions
 
@@ -268,10 +273,11 @@ module _ (ns : List Name) (s : Standing) (stands : Stands ns s) where
       let result : List Sort → Step = λ args. mapped (λ to. declares s (symbol_of_sorts n.it args to)) (sort_in (live_sorts (live_of s)) f) in
       declarable_goes ns (live_of s) n (and_then result (sorts_in (live_sorts (live_of s)) arguments)) ds (λ allowed.
       then_goes ns result (sorts_in (live_sorts (live_of s)) arguments) ds (λ args h.
-      mapped_goes ns (λ to. declares s (symbol_of_sorts n.it args to)) (sort_in (live_sorts (live_of s)) f) ds (λ to k.
-      ((declare (symbol_of_sorts n.it args to) ∷ [], refl, ap (λ g. declare g ∷ []) (same_symbol s n.it arguments f args to h k)),
-      stands_with ns s (function_known (symbol_of_sorts n.it args to) ∷ live_of s) stands ((text, allowed), stands.built)
-      (and_true (list_all is_sort args) (is_sort to) (sorts_fine arguments (live_sorts (live_of s)) args sound.sorts h) (sort_fine f (live_sorts (live_of s)) to sound.sorts k), stands.rules)))))
+      mapped_goes ns (λ to. declares s (symbol_of_sorts n.it args to)) (sort_in (live_sorts (live_of s)) f) ds (λ to k. (
+        (declare (symbol_of_sorts n.it args to) ∷ [], refl, ap (λ g. declare g ∷ []) (same_symbol s n.it arguments f args to h k)),
+        stands_with ns s (function_known (symbol_of_sorts n.it args to) ∷ live_of s) stands ((text, allowed), stands.built)
+            (and_true (list_all is_sort args) (is_sort to) (sorts_fine arguments (live_sorts (live_of s)) args sound.sorts h) (sort_fine f (live_sorts (live_of s)) to sound.sorts k), stands.rules),
+      ))))
 
   defines_symbol_goes : (n : At Name) (parameters : Forms) (f body : Form) → AllWithin ns parameters → Within ns body → Goes ns (defines_symbol n parameters f body s) []
   defines_symbol_goes n parameters f body within_parameters within_body =
@@ -291,7 +297,7 @@ module _ (ns : List Name) (s : Standing) (stands : Stands ns s) where
       let read_it : LiteralRead (λ m. mean f (meaning (bindings_of s) m) m) t = literal_means ns known_symbols s.sofar sound f t (given_ok BadForm (place_of f) (literal (live_of s) f) t here) in
       let others = literals_go gs us behind_it in
       let first : Meant = record { term = t; form = record { form = f; bindings = bindings_of s }; same = read_it.means; sort = read_it.sort; rules = literal_regular (live_of s) stands.rules f t (given_ok BadForm (place_of f) (literal (live_of s) f) t here) } in
-      (first ∷ others.0, ap (λ vs. t ∷ vs) others.1 ∙ all, ap (λ vs. first.form ∷ vs) others.2)
+      (first ∷ others.0, terms_more first others.0 us ts others.1 all, ap (λ vs. first.form ∷ vs) others.2)
 
   assumes_goes : (gs : Forms) → Goes ns (assumes gs s) (check_assuming (literals_meant (bindings_of s) gs) ∷ [])
   assumes_goes gs =
@@ -351,10 +357,11 @@ gone_ok ns r p ds h k = subst (λ x. Goes ns x ds) h k
 pairs_joined : (cs rest : List (Command Term)) (ds more : List (Command Asserted)) → Pairs cs ds → Pairs rest more → Pairs (cs ++ rest) (ds ++ more)
 pairs_joined cs rest ds more a b =
     let terms_joined : with_terms a.0 ++ with_terms b.0 ≡ cs ++ rest = λ i. a.1 i ++ b.1 i in
-    let forms_joined : with_forms a.0 ++ with_forms b.0 ≡ ds ++ more = λ i. a.2 i ++ b.2 i in
-    (a.0 ++ b.0,
-    map-append (with_asserted (λ (p : Meant). p.term)) a.0 b.0 ∙ terms_joined,
-    map-append (with_asserted (λ (p : Meant). p.form)) a.0 b.0 ∙ forms_joined)
+    let forms_joined : with_forms a.0 ++ with_forms b.0 ≡ ds ++ more = λ i. a.2 i ++ b.2 i in (
+      a.0 ++ b.0,
+      map-append (with_asserted (λ (p : Meant). p.term)) a.0 b.0 ∙ terms_joined,
+      map-append (with_asserted (λ (p : Meant). p.form)) a.0 b.0 ∙ forms_joined,
+    )
 
 commands_pair : (ns : List Name) (i : ℕ) (fs : Forms) (s : Standing) (r : List (Command Term) × Supply) → Stands ns s → AllWithin ns fs → read_commands i fs s ≡ Ok r → Pairs r.0 (commands_seen fs (scene_of s))
 commands_pair ns i none s r stands within h = ([], ap (λ (x : List (Command Term) × Supply). x.0) (ok_same ([], s.sofar.supply) r (read_commands i none s) refl h), refl)

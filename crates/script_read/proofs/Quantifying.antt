@@ -1,8 +1,8 @@
 -- The names that a quantifier's variables are read as: apart from all that is known, and the quantifier over them runs as the
 -- one that is written.
-use Rattle.std.proofs.Common.{◌≡◌, ◌≢◌, ◌∙◌, sym, ap, subst, refl, ℕ, Bool, true, false, not, cond, ◌&&◌, ◌||◌, ◌⊎◌, inl, inr, List, [], ◌∷◌, ◌++◌, map, Option, Some, None}
-use Rattle.std.specs.Prelude.{⊤, bytes_eq}
-use Rattle.std.specs.List.{list_all, list_any}
+use Rattle.std.proofs.Common.{◌≡◌, ◌≢◌, ◌∙◌, sym, ap, subst, refl, Bool, true, false, not, cond, ◌&&◌, ◌⊎◌, inl, inr, List, [], ◌∷◌, ◌++◌, map, Some}
+use Rattle.std.specs.Prelude.{bytes_eq}
+use Rattle.std.specs.List.{list_all}
 use Rattle.smt_lex.specs.Names.{Name, is_among as is_among_names, is_reserved_for_declaring}
 use Rattle.smt_terms.specs.Equal.{name_eq, symbol_eq}
 use Rattle.smt_terms.specs.Free.{is_among, name_among, names_of}
@@ -13,7 +13,7 @@ use Rattle.smt_terms.specs.Sorts.{Symbol, Variable}
 use Rattle.smt_terms.specs.SubstLaws.{names_within, GivesNone, Later}
 use Rattle.smt_terms.specs.Term.{Quantifier, Term, constant_of}
 use Rattle.smt_terms.specs.Val.{Env, assign, runs}
-use Rattle.smt_terms.specs.Values.{Value, Sizes, over_values}
+use Rattle.smt_terms.specs.Values.{Sizes, over_values}
 use Rattle.smt_terms.proofs.Among.{is_among-append}
 use Rattle.smt_terms.proofs.Equal.{Decides-symbol_eq}
 use Rattle.smt_terms.proofs.Fresh.{never-next, never-after, never-drawn}
@@ -26,7 +26,7 @@ use Rattle.script_read.specs.Variables.{quantifier_binder, may_have}
 use Rattle.script_read.proofs.Agreeing.{variable_as, agrees_variable, locals_later}
 use Rattle.script_read.proofs.ClearTerms.{Apart, apart_front}
 use Rattle.script_read.proofs.Fitting.{Agrees, LetsMean, Origin, drawn, quantified, internal, ConstantSound, LocalsSound}
-use Rattle.script_read.proofs.NameFacts.{name_same, name_itself, names_differ, among_alike, spared_first, spared_none, drawn_outside}
+use Rattle.script_read.proofs.NameFacts.{name_same, name_itself, names_differ, spared_first, spared_none, drawn_outside}
 use Rattle.script_read.proofs.SortFacts.{VariableSound, VariablesSound, earlier_apart, refuted, contrary}
 
 -- ---- one local variable more
@@ -81,7 +81,7 @@ renames_first ns fs x n xs s t ls r fine later never outside undeclared unshared
   lets = λ bs h. below.lets bs (fine, h);
   apart = λ h. below.apart (apart_front (constant_of (variable_as x n)) (local_constants ls ++ fs) h unshared);
   runs = λ q m bs sizes means test same E e a.
-    ap (over_values q x.sort sizes) (λ i v. below.runs q m bs sizes means test same (with_bound x.name (denoted_as v x.sort) E) (assign (variable_as x n) v e) (agrees_variable m fs bs ls e E x n v fine outside undeclared a) i);
+      ap (over_values q x.sort sizes) (λ i v. below.runs q m bs sizes means test same (with_bound x.name (denoted_as v x.sort) E) (assign (variable_as x n) v e) (agrees_variable m fs bs ls e E x n v fine outside undeclared a) i);
 }
 
 -- a name that isn't taken is that of no declared symbol, and no quantifier around binds it, where no earlier name of the list is it
@@ -100,8 +100,8 @@ untaken_more : (fs : List Symbol) (earlier : List Name) (ls : List ReadLocal) (t
 untaken_more fs earlier ls taken x n u = record {
   undeclared = u.undeclared;
   unquantified = λ k free apart.
-    let parts = both_false (bytes_eq k x.name) (is_among_names earlier k) apart in
-    or_false (name_eq x.name k) (is_quantified ls k) (refuted (name_eq x.name k) (λ e. absurd (contrary {A = ⊥} (bytes_eq k x.name) (turned k (name_same x.name k e)) parts.0))) (u.unquantified k free parts.1);
+      let parts = both_false (bytes_eq k x.name) (is_among_names earlier k) apart in
+      or_false (name_eq x.name k) (is_quantified ls k) (refuted (name_eq x.name k) (λ e. absurd (contrary {A = ⊥} (bytes_eq k x.name) (turned k (name_same x.name k e)) parts.0))) (u.unquantified k free parts.1);
 }
   where
     turned : (k : Name) → x.name ≡ k → bytes_eq k x.name ≡ true

@@ -1,5 +1,5 @@
 -- The terms that reading gives are regular: each sort is well formed, and no unary minus stands over a constant.
-use Rattle.std.proofs.Common.{◌≡◌, ◌∙◌, sym, ap, subst, refl, ℕ, suc, Bool, true, false, not, cond, ◌&&◌, ◌||◌, List, [], ◌∷◌, map, Option, Some, None, Result, Ok, Err}
+use Rattle.std.proofs.Common.{◌≡◌, ◌∙◌, sym, ap, subst, refl, ℕ, suc, Bool, true, false, not, cond, List, [], ◌∷◌, Option, Some, None, Result, Ok, Err}
 use Rattle.std.specs.Prelude.{⊤}
 use Rattle.smt_lex.specs.Names.{Name, is_among as is_among_names}
 use Rattle.smt_lex.specs.Lex.{Token}
@@ -8,17 +8,17 @@ use Rattle.smt_terms.specs.declared.op.Op.{Op}
 use Rattle.smt_terms.specs.Equal.{name_eq}
 use Rattle.smt_terms.specs.Fresh.{Supply}
 use Rattle.smt_terms.specs.Rank.{Fault, rank, is_sort, has_sorts, is_minus_of, is_regular, are_regular}
-use Rattle.smt_terms.specs.Sorts.{Sort, bool, Symbol, Variable}
+use Rattle.smt_terms.specs.Sorts.{Sort, bool, Variable}
 use Rattle.smt_terms.specs.Subst.{parameter, expand}
 use Rattle.smt_terms.specs.Term.{Quantifier, op, symbol, const_array, Term, apply, quantified, none as no_terms, terms, over, constant}
 use Rattle.smt_terms.specs.Written.{written_rank, build}
 use Rattle.smt_terms.proofs.SortsOfTerms.{regular_over}
-use Rattle.smt_terms.proofs.Tests.{and_true}
+use Rattle.smt_terms.proofs.Tests.{and_true, both_true}
 use Rattle.script_read.specs.declared.causes.Cause.TheVariants.{WrongSort, BadForm}
 use Rattle.script_read.specs.Heads.{atom_term, vector_constant, Callee, written, array_of_sort, called, defined, operandless, callee_of, term_algebra, operand_sorts, where_ranked, parameters_from, expanded, rank_of_arguments, applied}
 use Rattle.script_read.specs.Parts.{Opening, let_word, quantifier_word, annotation_word, index_word, head, opening, place_of, symbol_in, are_attributes, named_parts}
 use Rattle.script_read.specs.Read.{Context, with_local, is_empty, let_name, constant_names, is_taken, draws_names, with_quantified, below_quantifier, renamed, has_sort, quantified_over, term_names, mentions_local, annotated, read, read_list, read_bindings, read_all}
-use Rattle.script_read.specs.Reading.{ReadLocal, lets_as, quantified_as, parameter_as, ReadBinding, sort_known, function_known, definition_as, named_as, level_known, Sofar, Entry, symbol_entry, definition_entry, term_entry, entry_of, live_sorts, term_among, term_or, bound_as, constant_as, Reading, continued, ◌>>=◌, gives, refused_if, beside, by_live, by_rule, binds}
+use Rattle.script_read.specs.Reading.{ReadLocal, lets_as, quantified_as, parameter_as, ReadBinding, sort_known, function_known, definition_as, named_as, level_known, Sofar, Entry, symbol_entry, definition_entry, term_entry, entry_of, live_sorts, term_among, term_or, bound_as, constant_as, Reading, ◌>>=◌, gives, by_live, binds}
 use Rattle.script_read.specs.Refusals.{Refused, unless}
 use Rattle.script_read.specs.Scope.{or_later}
 use Rattle.script_read.specs.Script.{parameters_read}
@@ -27,9 +27,9 @@ use Rattle.script_read.proofs.Fitting.{Within, AllWithin, have_sorts}
 use Rattle.script_read.proofs.Outcomes.{ok_same}
 use Rattle.script_read.proofs.RegularTerms.{symbol_regular, build_regular, variable_regular, expand_regular}
 use Rattle.script_read.proofs.Sources.{entry_alone, AtomSource, of_constant, of_local, of_entry, atom_source, entry_called, CalleeSource, of_operator, of_sort_form, of_nothing, of_live, callee_source}
-use Rattle.script_read.proofs.SortFacts.{SortsFine, sort_fine, unless_passed, VariablesSound, VariablesRead, variables_read}
+use Rattle.script_read.proofs.SortFacts.{SortsFine, sort_fine, unless_passed, VariablesRead, variables_read}
 use Rattle.script_read.proofs.Defining.{variables_fine}
-use Rattle.script_read.proofs.TermsMean.{OnOk, then_on, on_rule, on_last, on_unless, on_map, on_given, on_refused, on_ok, vector_source}
+use Rattle.script_read.proofs.TermsMean.{OnOk, then_on, on_rule, on_last, on_unless, on_given, on_refused, vector_source}
 
 -- ---- what is known
 
@@ -165,12 +165,8 @@ names_regular : (xs : List Variable) (ns : List Name) → have_sorts xs ≡ true
 names_regular [] ns h = refl
 names_regular (x ∷ xs) [] h = refl
 names_regular (x ∷ xs) (n ∷ ns) h =
-    let parts = both_fine (is_sort x.sort) (have_sorts xs) h in
+    let parts = both_true (is_sort x.sort) (have_sorts xs) h in
     and_true (is_sort x.sort) (have_sorts (renamed xs ns)) parts.0 (names_regular xs ns parts.1)
-  where
-    both_fine : (a b : Bool) → (a && b) ≡ true → (a ≡ true) × (b ≡ true)
-    both_fine true b k = (refl, k)
-    both_fine false b k = absurd cc
 
 constant_front : (x : Variable) (m k : Name) (t : Term) (b : Bool) (o : Option Term) → is_sort x.sort ≡ true → or_later b (constant_as x m) o ≡ Some t → (o ≡ Some t → is_regular t ≡ true) → is_regular t ≡ true
 constant_front x m k t true o fine h below = let same : constant_as x m ≡ t = cc in subst (λ u. is_regular u ≡ true) same (variable_regular (record { name = m; sort = x.sort }) fine)
@@ -180,22 +176,14 @@ pub quantified_regular : (xs : List Variable) (ns : List Name) (ls : List ReadLo
 quantified_regular [] ns ls fine locals = locals
 quantified_regular (x ∷ xs) [] ls fine locals = locals
 quantified_regular (x ∷ xs) (n ∷ ns) ls fine locals =
-    let parts = both_fine (is_sort x.sort) (have_sorts xs) fine in
+    let parts = both_true (is_sort x.sort) (have_sorts xs) fine in
     quantified_regular xs ns (quantified_as x n ∷ ls) parts.1 (λ k t h. constant_front x n k t (name_eq x.name k) (bound_as ls k) parts.0 h (λ e. locals k t e))
-  where
-    both_fine : (a b : Bool) → (a && b) ≡ true → (a ≡ true) × (b ≡ true)
-    both_fine true b k = (refl, k)
-    both_fine false b k = absurd cc
 
 pub parameters_regular : (i : ℕ) (xs : List Variable) (ls : List ReadLocal) → have_sorts xs ≡ true → LocalsRegular ls → LocalsRegular (parameters_read xs (parameters_from i xs) ls)
 parameters_regular i [] ls fine locals = locals
 parameters_regular i (x ∷ xs) ls fine locals =
-    let parts = both_fine (is_sort x.sort) (have_sorts xs) fine in
+    let parts = both_true (is_sort x.sort) (have_sorts xs) fine in
     parameters_regular (suc i) xs (parameter_as x (parameter i x.sort).name ∷ ls) parts.1 (λ k t h. constant_front x (parameter i x.sort).name k t (name_eq x.name k) (bound_as ls k) parts.0 h (λ e. locals k t e))
-  where
-    both_fine : (a b : Bool) → (a && b) ≡ true → (a ≡ true) × (b ≡ true)
-    both_fine true b k = (refl, k)
-    both_fine false b k = absurd cc
 
 pub nothing_regular : LocalsRegular []
 nothing_regular n t h = absurd cc
@@ -241,11 +229,11 @@ quantifier_reads ns q part place bs body within inner c s locals live =
         then_on (read body (below_quantifier xs r.0 c) (record s { supply = r.1 })) (λ t. quantified_over place q (renamed xs r.0) t) RegularRead RegularRead
         (inner (below_quantifier xs r.0 c) (record s { supply = r.1 }) (quantified_regular xs r.0 c.locals fine locals) live)
         (λ p b. on_last (unless (not (has_sort bool p.0)) WrongSort place (Ok (quantified q (renamed xs r.0) p.0))) p.1 RegularRead (λ u k.
-          let (sorted, last) = unless_passed (not (has_sort bool p.0)) WrongSort place (Ok (quantified q (renamed xs r.0) p.0)) u k in
-          record {
-            rules = rules_moved (quantified q (renamed xs r.0) p.0) u (Ok (quantified q (renamed xs r.0) p.0)) refl last (and_true (have_sorts (renamed xs r.0)) (is_regular p.0) (names_regular xs r.0 fine) b.rules);
-            live = b.live;
-          }))
+        let (sorted, last) = unless_passed (not (has_sort bool p.0)) WrongSort place (Ok (quantified q (renamed xs r.0) p.0)) u k in
+        record {
+          rules = rules_moved (quantified q (renamed xs r.0) p.0) u (Ok (quantified q (renamed xs r.0) p.0)) refl last (and_true (have_sorts (renamed xs r.0)) (is_regular p.0) (names_regular xs r.0 fine) b.rules);
+          live = b.live;
+        }))
 
 annotated_reads : (place : ℕ) (c : Context) (f : Form) (t : Term) (names : List Name) (s : Sofar) → is_regular t ≡ true → AllRegular s.live → OnOk RegularRead (annotated place c f t names s)
 annotated_reads place c f t [] s fine live = on_given RegularRead (t, s) (record { rules = fine; live = live })

@@ -1,9 +1,9 @@
 -- What is known between two commands stays regular when levels are opened and closed; and literals are regular.
-use Rattle.std.proofs.Common.{◌≡◌, ◌∙◌, sym, ap, subst, refl, ℕ, zero, suc, Bool, true, false, cond, List, [], ◌∷◌, Option, Some, None, Result, Ok, Err}
-use Rattle.std.specs.Prelude.{⊤, option_map, codes}
+use Rattle.std.proofs.Common.{◌≡◌, subst, refl, ℕ, zero, suc, Bool, true, false, cond, List, [], ◌∷◌, Option, Some, None, Ok}
+use Rattle.std.specs.Prelude.{option_map, codes}
 use Rattle.std.specs.List.{list_all}
 use Rattle.smt_lex.specs.Names.{Name}
-use Rattle.smt_lex.specs.Lex.{Token, symbol_of}
+use Rattle.smt_lex.specs.Lex.{symbol_of}
 use Rattle.smt_lex.specs.Forms.{Form, atom, node, Forms, none, ◌⨾◌}
 use Rattle.smt_terms.specs.declared.op.Op.TheVariants.{Not}
 use Rattle.smt_terms.specs.Connectives.{negated}
@@ -14,7 +14,7 @@ use Rattle.smt_terms.specs.Term.{op, symbol, Term, terms, none as no_terms, cons
 use Rattle.smt_terms.proofs.Tests.{and_true}
 use Rattle.script_read.specs.Parts.{symbol_in, is_name}
 use Rattle.script_read.specs.Reading.{ReadBinding, level_known, is_level_known, Entry, symbol_entry, definition_entry, term_entry, entry_of}
-use Rattle.script_read.specs.Refusals.{Refused, and_then, mapped}
+use Rattle.script_read.specs.Refusals.{mapped}
 use Rattle.script_read.specs.Scope.{opened, closed, merged, flattened, popped, emptied}
 use Rattle.script_read.specs.Script.{boolean_constant, constant_entry, declared_constant, literal}
 use Rattle.script_read.specs.SortForms.{Sorts, sort_in, parts_in, all_sorts, sorts_in}

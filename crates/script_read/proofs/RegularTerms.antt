@@ -1,8 +1,7 @@
 -- Terms that are made of regular ones, or in which regular ones take the places of constants, are regular: each sort is well
 -- formed, and no unary minus stands over a constant.
-use Rattle.std.proofs.Common.{◌≡◌, ◌∙◌, sym, ap, subst as carry, refl, ℕ, suc, Bool, true, false, not, cond, ◌&&◌, ℤ, neg_ℤ, List, [], ◌∷◌, map, zip, Option, Some, None}
+use Rattle.std.proofs.Common.{◌≡◌, sym, ap, subst as carry, refl, ℕ, suc, Bool, true, false, not, cond, ◌&&◌, List, [], ◌∷◌, map, zip, Option, Some, None}
 use Rattle.std.specs.Prelude.{⊤}
-use Rattle.smt_terms.specs.declared.op.Op.{Op}
 use Rattle.smt_terms.specs.declared.op.Op.TheVariants.{Whole, Neg}
 use Rattle.smt_terms.specs.Equal.{symbol_eq, term_eq}
 use Rattle.smt_terms.specs.Free.{name_among, without, free}
@@ -11,7 +10,7 @@ use Rattle.smt_terms.specs.Made.{made}
 use Rattle.smt_terms.specs.Rank.{is_sort, has_sorts, is_minus, is_whole, is_minus_of, is_regular, are_regular}
 use Rattle.smt_terms.specs.Sorts.{Name, Symbol, Variable}
 use Rattle.smt_terms.specs.Subst.{Map, image, cut_to, names_in, Renamed, bind, renaming, Chosen, Choices, map_eq, chosen_for, keep, kept_or, quantify, image_or_itself, rebuilt, subst_from, substs_from, subst, parameter, expand}
-use Rattle.smt_terms.specs.Term.{Quantifier, Head, op, symbol, const_array, Term, apply, quantified, Terms, none, ◌⨾◌, terms, constant_of, constant, variable}
+use Rattle.smt_terms.specs.Term.{Quantifier, Head, op, symbol, const_array, Term, apply, quantified, Terms, none, ◌⨾◌, terms, constant_of, variable}
 use Rattle.smt_terms.specs.Written.{Algebra, Written, build}
 use Rattle.smt_terms.proofs.Cuts.{cut-image}
 use Rattle.smt_terms.proofs.Keeping.{two_or_more, not_minus}

@@ -1,25 +1,25 @@
 -- The sorts that forms are, and the variables that lists of them are: well formed, and of names that may be bound.
-use Rattle.std.proofs.Common.{◌≡◌, ◌≢◌, ◌∙◌, sym, ap, subst, refl, ℕ, zero, suc, Bool, true, false, not, cond, ◌&&◌, ◌||◌, ◌==◌, List, [], ◌∷◌, map, Option, Some, None, Result, Ok, Err, arith}
+use Rattle.std.proofs.Common.{◌≡◌, ◌∙◌, sym, ap, subst, refl, ℕ, zero, suc, Bool, true, false, not, ◌&&◌, ◌||◌, ◌==◌, List, [], ◌∷◌, map, Option, Some, None, Result, Ok, arith}
 use Rattle.std.specs.Prelude.{⊤, nat_lt, nat_le, codes, bytes_eq, if◌then◌else◌}
-use Rattle.std.specs.List.{list_all, list_any}
-use Rattle.std.proofs.lemmas.Bool.{ltb-true, ltb-false}
+use Rattle.std.specs.List.{list_all}
+use Rattle.std.proofs.lemmas.Bool.{ltb-false}
 use Rattle.smt_lex.specs.Names.{Name, is_among, is_theory_sort, is_reserved_for_declaring}
 use Rattle.smt_lex.specs.Forms.{Form, atom, node, Forms, none, ◌⨾◌}
 use Rattle.smt_terms.specs.Equal.{name_eq, sort_eq}
 use Rattle.smt_terms.specs.Free.{name_among}
-use Rattle.smt_terms.specs.Rank.{most_bits, is_array, is_sort, has_name, is_quantifiable}
+use Rattle.smt_terms.specs.Rank.{most_bits, is_array, is_sort, has_name}
 use Rattle.smt_terms.specs.Sorts.{Sort, bool, int, bit_vector, array, free_sort, Variable}
 use Rattle.smt_terms.proofs.Ranked.{le_true}
-use Rattle.smt_terms.proofs.Tests.{and_true, both_true, both_false, not_true, right_true, left_true}
+use Rattle.smt_terms.proofs.Tests.{and_true, right_true}
 use Rattle.script_read.specs.declared.causes.Cause.{Cause}
 use Rattle.script_read.specs.declared.causes.Cause.TheVariants.{QuantifiedSort, ReservedName, Redeclared, WidthLimit, BadIndex, IndexSort, BadForm, RealSort, SortArity}
 use Rattle.script_read.specs.Parts.{place_of, symbol_in, word_in, is_name, numeral_in}
 use Rattle.script_read.specs.Refusals.{Refused, at, and_then, unless, mapped}
 use Rattle.script_read.specs.SortForms.{Sorts, live_or_unknown, sort_of_name, sort_of_symbol, vectors_of, indexed_sort, Part, array_sort, applied_name, applied_sort, sort_of_list, sort_in, parts_in}
-use Rattle.script_read.specs.Variables.{Binder, quantifier_binder, definition_binder, may_have, fresh_name, variable_of, variable_in, variables_in}
+use Rattle.script_read.specs.Variables.{Binder, may_have, variable_of, variable_in, variables_in}
 use Rattle.script_read.specs.Read.{is_empty}
 use Rattle.script_read.proofs.Fitting.{Within, AllWithin}
-use Rattle.script_read.proofs.NameFacts.{name_same, name_itself}
+use Rattle.script_read.proofs.NameFacts.{name_same}
 use Rattle.script_read.proofs.Outcomes.{and_then_ok, mapped_ok, ok_same}
 
 -- ---- tests that were passed

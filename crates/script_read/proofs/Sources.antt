@@ -1,6 +1,6 @@
 -- Where the terms of atoms come from, and what heads call.
-use Rattle.std.proofs.Common.{◌≡◌, ◌∙◌, sym, ap, subst, refl, ℕ, Bool, true, false, List, [], ◌∷◌, Option, Some, None, Result, Ok, Err}
-use Rattle.std.specs.Prelude.{⊤, nat_lt, nat_abs, codes, bytes_eq, is_some, if◌then◌else◌}
+use Rattle.std.proofs.Common.{◌≡◌, ◌∙◌, ap, refl, ℕ, Bool, true, false, List, [], ◌∷◌, Option, Some, None, Ok}
+use Rattle.std.specs.Prelude.{nat_lt, nat_abs, codes, bytes_eq, is_some, if◌then◌else◌}
 use Rattle.smt_lex.specs.Names.{Name, is_among as is_among_names, is_theory_name}
 use Rattle.smt_lex.specs.Lex.{Token, symbol_of}
 use Rattle.smt_lex.specs.Forms.{Form, atom, node, Forms, none, ◌⨾◌}
@@ -10,14 +10,14 @@ use Rattle.smt_terms.specs.declared.op.Op.{Op}
 use Rattle.smt_terms.specs.declared.op.Op.TheVariants.{Truth, Whole, Bits}
 use Rattle.smt_terms.specs.Connectives.{truth_term}
 use Rattle.smt_terms.specs.Rank.{most_bits}
-use Rattle.smt_terms.specs.Sorts.{Sort, Symbol, Variable}
+use Rattle.smt_terms.specs.Sorts.{Sort, Symbol}
 use Rattle.smt_terms.specs.Term.{op, Term, apply, none as no_terms, constant}
 use Rattle.smt_terms.specs.Written.{Written, Indexed, operator_named}
 use Rattle.script_read.specs.declared.causes.Cause.TheVariants.{WrongArity, WidthLimit, BadForm, UnknownName, NumberLimit, RealSort}
 use Rattle.script_read.specs.Heads.{real_names, theory_symbol, constant_or_refused, live_symbol, symbol_term, token_constant, other_atom, name_or_other, atom_by, atom_term, Callee, written, array_of_sort, called, defined, operandless, theory_head, live_head, named_head, indexed_head, filling_head, list_head, atom_head, callee_of}
 use Rattle.script_read.specs.Parts.{symbol_in, word_in, is_name, numerals_in, constant_by, greatest_number}
 use Rattle.script_read.specs.Reading.{ReadLocal, ReadBinding, Entry, symbol_entry, definition_entry, term_entry, entry_of, bound_as, live_sorts}
-use Rattle.script_read.specs.Refusals.{Refused, at, unless, mapped}
+use Rattle.script_read.specs.Refusals.{at, mapped}
 use Rattle.script_read.specs.SortForms.{sort_in}
 use Rattle.script_read.proofs.Calling.{theory_called}
 use Rattle.script_read.proofs.Outcomes.{mapped_ok, ok_same}

@@ -1,7 +1,6 @@
 -- What is known between two commands: each binding means what its terms mean under the bindings behind it, and so do all
 -- together, also when levels are opened and closed.
-use Rattle.std.proofs.Common.{◌≡◌, ◌∙◌, sym, ap, subst, refl, ℕ, zero, suc, Bool, true, false, cond, ◌||◌, ◌⊎◌, inl, inr, List, [], ◌∷◌, ◌++◌, map, replicate, Option, Some, None}
-use Rattle.std.specs.Prelude.{⊤}
+use Rattle.std.proofs.Common.{◌≡◌, ◌∙◌, sym, ap, subst, refl, ℕ, zero, suc, Bool, true, false, cond, ◌⊎◌, inl, inr, List, [], ◌∷◌, map, Option, Some, None}
 use Rattle.smt_lex.specs.Names.{Name, is_among as is_among_names, is_theory_name, is_reserved_for_declaring}
 use Rattle.smt_terms.specs.Equal.{name_eq, symbol_eq}
 use Rattle.smt_terms.specs.Free.{is_among, name_among}
@@ -10,14 +9,12 @@ use Rattle.smt_terms.specs.Models.{Model}
 use Rattle.smt_terms.specs.Rank.{is_sort}
 use Rattle.smt_terms.specs.Sorts.{Sort, Symbol}
 use Rattle.smt_terms.specs.SubstLaws.{GivesNone}
-use Rattle.smt_terms.specs.Val.{Env}
 use Rattle.smt_terms.proofs.Equal.{Decides-symbol_eq}
 use Rattle.smt_terms.proofs.Tests.{either_true, left_true, right_true}
-use Rattle.script_read.specs.Laws.{denoted}
-use Rattle.script_read.specs.Mean.{Denoted, Meaning, over_symbol, mean, with_locals, with_arguments, with_binding, meaning}
-use Rattle.script_read.specs.Reading.{ReadBinding, sort_known, function_known, definition_as, named_as, level_known, Sofar, as_local, as_binding, as_bindings, live_sorts, is_level_known, Entry, symbol_entry, definition_entry, term_entry, entry_of}
+use Rattle.script_read.specs.Mean.{Denoted, over_symbol, mean, with_locals, with_arguments, with_binding, meaning}
+use Rattle.script_read.specs.Reading.{ReadBinding, sort_known, function_known, definition_as, named_as, level_known, as_local, as_binding, as_bindings, live_sorts, is_level_known, Entry, symbol_entry, definition_entry, term_entry, entry_of}
 use Rattle.script_read.specs.Scope.{or_later, opened, closed, merged, flattened, popped, emptied}
-use Rattle.script_read.proofs.Fitting.{declared_of, Unassigned, Given, EntryMeans, LiveFits, EntrySound, BindingSound, Built, Sound}
+use Rattle.script_read.proofs.Fitting.{declared_of, Unassigned, EntryMeans, LiveFits, EntrySound, BindingSound, Built, Sound}
 use Rattle.script_read.proofs.NameFacts.{name_same, symbol_itself, theory_reserved}
 use Rattle.script_read.proofs.SortFacts.{contrary}
 

@@ -1,16 +1,16 @@
 -- Substitution keeps names clear: a bound name that an image mentions is renamed, and so nothing is captured.
-use Rattle.std.proofs.Common.{◌≡◌, ◌≢◌, ◌∙◌, sym, ap, subst as carry, refl, Bool, true, false, not, cond, ◌&&◌, ◌||◌, ◌⊎◌, inl, inr, List, [], ◌∷◌, ◌++◌, map, append_assoc, Option, Some, None}
+use Rattle.std.proofs.Common.{◌≡◌, ◌≢◌, ◌∙◌, sym, ap, subst as carry, refl, Bool, true, false, not, cond, ◌&&◌, ◌||◌, List, [], ◌∷◌, ◌++◌, map, append_assoc, Option, Some, None}
 use Rattle.std.specs.Prelude.{⊤, reverse}
 use Rattle.smt_terms.specs.declared.op.Op.TheVariants.{Whole, Neg}
 use Rattle.smt_terms.specs.Equal.{name_eq, symbol_eq, term_eq}
 use Rattle.smt_terms.specs.Free.{is_among, name_among, names_of, with_more, without, head_symbols, free, free_of}
-use Rattle.smt_terms.specs.Fresh.{Supply, next_name, after_draw, fresh_for, NeverGives}
+use Rattle.smt_terms.specs.Fresh.{Supply, next_name, after_draw, fresh_for}
 use Rattle.smt_terms.specs.Made.{minus, made}
 use Rattle.smt_terms.specs.Rank.{has_name, are_distinct, are_bindable, sort_of, sorts_of}
 use Rattle.smt_terms.specs.Shapes.{is_seen, is_head_seen, is_clear_below, are_clear_below}
 use Rattle.smt_terms.specs.Sorts.{Name, Sort, bool, Symbol, Variable}
-use Rattle.smt_terms.specs.Subst.{Map, image, cut_to, names_in, Renamed, bind, renaming, Chosen, Choices, map_eq, chosen_for, keep, kept_or, quantify, image_or_itself, rebuilt, subst_from, substs_from, subst}
-use Rattle.smt_terms.specs.SubstLaws.{HaveSorts, names_within, names_within_each, GivesNone, GivesNoImage, Later, ReplacesConstants}
+use Rattle.smt_terms.specs.Subst.{Map, image, cut_to, names_in, Renamed, bind, renaming, Chosen, Choices, map_eq, chosen_for, keep, kept_or, quantify, image_or_itself, subst_from, substs_from, subst}
+use Rattle.smt_terms.specs.SubstLaws.{names_within, names_within_each, GivesNone, GivesNoImage, Later, ReplacesConstants}
 use Rattle.smt_terms.specs.Term.{Quantifier, Head, op, symbol, const_array, Term, apply, quantified, Terms, none, ◌⨾◌, constant_of, variable}
 use Rattle.smt_terms.proofs.Among.{is_among-with_more, is_among-without}
 use Rattle.smt_terms.proofs.Cuts.{name_among-append, cut-image, image-cut, cut-spared, names-apart, keys-free, map-same}
@@ -20,11 +20,11 @@ use Rattle.smt_terms.proofs.Ranked.{rank-takes}
 use Rattle.smt_terms.proofs.Renaming.{VariablesSpared, renaming-later, renaming-spared, spared-later, after-later, images-later, front-spared, only_name}
 use Rattle.smt_terms.proofs.Runs.{NoneNamed, ImagesApart, KeysFree, SymbolsSpared, among-name}
 use Rattle.smt_terms.proofs.Sorted.{applied, sorted, quantified_sort}
-use Rattle.smt_terms.proofs.Tests.{and_true, both_true, both_false, or_false, left_true, right_true}
+use Rattle.smt_terms.proofs.Tests.{and_true, both_true, both_false, or_false, left_true, right_true, not_true}
 use Rattle.script_read.proofs.ClearTerms.{binds_name, constants-reverse, unbound, clear_wider, free_seen, seen_past, reverse_front}
 use Rattle.script_read.proofs.Expanding.{free_named}
-use Rattle.script_read.proofs.NameFacts.{name_same, name_itself, names_differ, symbol_itself, among_alike}
-use Rattle.script_read.proofs.SortFacts.{refuted, contrary}
+use Rattle.script_read.proofs.NameFacts.{name_itself, names_differ, symbol_itself}
+use Rattle.script_read.proofs.SortFacts.{contrary}
 
 -- ---- what takes a symbol's place is clear where it comes to stand
 
@@ -65,13 +65,10 @@ own_names : (fs : List Symbol) (xs zs : List Variable) → are_distinct (map (λ
 own_names fs [] zs distinct seen = tt
 own_names fs (x ∷ xs) zs distinct seen =
     let parts = both_true (not (has_name x.name (map (λ y. y.name) xs))) (are_distinct (map (λ y. y.name) xs)) distinct in
-    let moved : (g : Symbol) → is_among fs g ≡ true → is_seen (reverse xs ++ x ∷ zs) g ≡ true = λ g among. ap (λ ws. is_seen ws g) (sym (reversed x xs zs)) ∙ seen g among in
-    (λ g among same. seen_front x zs g (seen_past (reverse xs) (x ∷ zs) g (moved g among) (constants-reversed xs g (unbound xs g (ap (binds_name xs) (sym same) ∙ unnamed_variables xs x.name (not_true (has_name x.name (map (λ y. y.name) xs)) parts.0))))) same,
-    own_names fs xs (x ∷ zs) parts.1 moved)
-  where
-    not_true : (b : Bool) → not b ≡ true → b ≡ false
-    not_true false e = refl
-    not_true true e = absurd cc
+    let moved : (g : Symbol) → is_among fs g ≡ true → is_seen (reverse xs ++ x ∷ zs) g ≡ true = λ g among. ap (λ ws. is_seen ws g) (sym (reversed x xs zs)) ∙ seen g among in (
+      λ g among same. seen_front x zs g (seen_past (reverse xs) (x ∷ zs) g (moved g among) (constants-reversed xs g (unbound xs g (ap (binds_name xs) (sym same) ∙ unnamed_variables xs x.name (not_true (has_name x.name (map (λ y. y.name) xs)) parts.0))))) same,
+      own_names fs xs (x ∷ zs) parts.1 moved,
+    )
 
 -- ---- one variable more
 
@@ -246,7 +243,7 @@ minus_clear : (ws : List Variable) (t : Term) → is_clear_below ws t ≡ true �
 minus_clear ws (apply (op (Whole n)) none) clear = refl
 minus_clear ws t clear = and_true (is_clear_below ws t) true clear refl
 
-made_clear : (ws : List Variable) (h : Head) (us : Terms) → is_head_seen ws h ≡ true → are_clear_below ws us ≡ true → is_clear_below ws (made h us) ≡ true
+pub made_clear : (ws : List Variable) (h : Head) (us : Terms) → is_head_seen ws h ≡ true → are_clear_below ws us ≡ true → is_clear_below ws (made h us) ≡ true
 made_clear ws (op Neg) (t ⨾ none) seen clear = minus_clear ws t (both_true (is_clear_below ws t) true clear).0
 made_clear ws h us seen clear = and_true (is_head_seen ws h) (are_clear_below ws us) seen clear
 
@@ -315,15 +312,15 @@ kept_end f q xs body s start bindable clear below None found =
       kept = start.kept;
     }) in
     let at_cut : (ws : List Variable) → Placed cut ws (without xs (free body)) → is_clear_below ws (quantified q (renaming c xs cut s.names).variables (subst_from (renaming c xs cut s.names).map body t).0) ≡ true = λ ws places.
-      out.clear (reverse (renaming c xs cut s.names).variables ++ ws) (renamed_placed c (free body) xs cut s.names ws (record {
-        places = λ g among outside. places g (is_among-without xs (free body) g ∙ and_true (is_among (free body) g) (not (is_among (map constant_of xs) g)) among (ap not outside));
-        own = own_names (free body) xs [] (distinct_of xs bindable) (λ g among. free_seen body (reverse xs ++ []) g clear among);
-        apart = names-apart xs cut;
-        keys = keys-free c xs (free body) f;
-        variables = variables_spared s.names xs (gives_left s.names (map (λ x. x.name) xs) (names_within body) start.names);
-        images = images;
-        symbols = λ g among. gives_right s.names (map (λ x. x.name) xs) (names_within body) start.names g.name (free_named body g among);
-      })) in
+    out.clear (reverse (renaming c xs cut s.names).variables ++ ws) (renamed_placed c (free body) xs cut s.names ws (record {
+      places = λ g among outside. places g (is_among-without xs (free body) g ∙ and_true (is_among (free body) g) (not (is_among (map constant_of xs) g)) among (ap not outside));
+      own = own_names (free body) xs [] (distinct_of xs bindable) (λ g among. free_seen body (reverse xs ++ []) g clear among);
+      apart = names-apart xs cut;
+      keys = keys-free c xs (free body) f;
+      variables = variables_spared s.names xs (gives_left s.names (map (λ x. x.name) xs) (names_within body) start.names);
+      images = images;
+      symbols = λ g among. gives_right s.names (map (λ x. x.name) xs) (names_within body) start.names g.name (free_named body g among);
+    })) in
     record {
       clear = λ ws places. at_cut ws (cut_placed f ws (without xs (free body)) places);
       kept = (at_cut, out.kept);
@@ -349,8 +346,8 @@ mutual
       let out : AllEnd f (free_of (t ⨾ ts)) s (substs_from f (t ⨾ ts) s) = substs_end (t ⨾ ts) parts.sorts f s (operands_start f (symbol g) (t ⨾ ts) s start) parts.operands (both_true (is_seen [] g) (are_clear_below [] (t ⨾ ts)) clear).1 in
       record {
         clear = λ ws places. and_true (is_seen ws g) (are_clear_below ws (substs_from f (t ⨾ ts) s).0)
-          (seen_call f ws g first.sort first.sorts start.constants args (image f g) refl (places g (is_among-with_more (g ∷ []) (free_of (t ⨾ ts)) g ∙ left_true (symbol_eq g g || false) (is_among (free_of (t ⨾ ts)) g) (left_true (symbol_eq g g) false (symbol_itself g)))))
-          (out.clear ws (placed_right f ws (g ∷ []) (free_of (t ⨾ ts)) places));
+            (seen_call f ws g first.sort first.sorts start.constants args (image f g) refl (places g (is_among-with_more (g ∷ []) (free_of (t ⨾ ts)) g ∙ left_true (symbol_eq g g || false) (is_among (free_of (t ⨾ ts)) g) (left_true (symbol_eq g g) false (symbol_itself g)))))
+            (out.clear ws (placed_right f ws (g ∷ []) (free_of (t ⨾ ts)) places));
         kept = out.kept;
         later = out.later;
       }
@@ -380,7 +377,7 @@ mutual
       }) parts.others clears.1 in
       record {
         clear = λ ws places. and_true (is_clear_below ws (subst_from f t s).0) (are_clear_below ws (substs_from f ts (subst_from f t s).1).0)
-          (first.clear ws (placed_left f ws (free t) (free_of ts) places)) (rest.clear ws (placed_right f ws (free t) (free_of ts) places));
+            (first.clear ws (placed_left f ws (free t) (free_of ts) places)) (rest.clear ws (placed_right f ws (free t) (free_of ts) places));
         kept = rest.kept;
         later = λ n never. rest.later n (first.later n never);
       }

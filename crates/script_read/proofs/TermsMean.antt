@@ -1,17 +1,17 @@
 -- Reading a term keeps its meaning, in every state that comes later.
-use Rattle.std.proofs.Common.{◌≡◌, ◌∙◌, sym, ap, subst, refl, ℕ, Bool, true, false, not, cond, ◌||◌, List, [], ◌∷◌, ◌++◌, map, Option, Some, None, Result, Ok, Err}
-use Rattle.std.specs.Prelude.{⊤, nat_le, nat_lt, ◌==◌, ◌^◌, if◌then◌else◌, option_map}
+use Rattle.std.proofs.Common.{◌≡◌, ◌∙◌, sym, ap, subst, refl, ℕ, Bool, true, false, not, cond, ◌||◌, List, [], ◌∷◌, map, Option, Some, None, Result, Ok, Err}
+use Rattle.std.specs.Prelude.{⊤, nat_le, nat_lt, ◌==◌, ◌^◌, if◌then◌else◌}
 use Rattle.std.specs.List.{list_all}
 use Rattle.smt_lex.specs.Names.{Name, is_among as is_among_names, is_reserved_for_let}
 use Rattle.smt_lex.specs.Lex.{Token}
 use Rattle.smt_lex.specs.Forms.{Form, atom, node, Forms, none, ◌⨾◌}
 use Rattle.smt_terms.specs.declared.op.Op.{Op}
 use Rattle.smt_terms.specs.declared.op.Op.TheVariants.{Bits}
-use Rattle.smt_terms.specs.Equal.{name_eq, sort_eq}
-use Rattle.smt_terms.specs.Free.{is_among, name_among, names_of}
+use Rattle.smt_terms.specs.Equal.{name_eq}
+use Rattle.smt_terms.specs.Free.{name_among, names_of}
 use Rattle.smt_terms.specs.Fresh.{Supply}
 use Rattle.smt_terms.specs.Models.{Model}
-use Rattle.smt_terms.specs.Rank.{Fault, most_bits, sort_of, are_bindable}
+use Rattle.smt_terms.specs.Rank.{most_bits, sort_of, are_bindable}
 use Rattle.smt_terms.specs.Sorts.{Sort, bool, Symbol, Variable}
 use Rattle.smt_terms.specs.SubstLaws.{names_within, names_within_each, GivesNone, Later}
 use Rattle.smt_terms.specs.Term.{Quantifier, op, Term, apply, quantified, none as no_terms, terms}
@@ -26,14 +26,14 @@ use Rattle.script_read.specs.Heads.{Callee, called, defined, is_vector_name, vec
 use Rattle.script_read.specs.Laws.{denoted}
 use Rattle.script_read.specs.Mean.{Denoted, Meaning, over_op, is_true_of, accepted_or, with_all, over_variables, quantified_variables, vector_means, index_means, head_means, quantifier_means, let_pair, mean, mean_list, mean_bindings, mean_all}
 use Rattle.script_read.specs.Parts.{Opening, let_word, quantifier_word, annotation_word, index_word, head, opening, place_of, symbol_in, numeral_in, vector_number, are_attributes, named_parts}
-use Rattle.script_read.specs.Read.{Context, with_local, is_empty, let_name, constant_names, is_taken, draws_names, with_quantified, below_quantifier, renamed, is_of_sort, has_sort, quantified_over, term_names, local_constants, mentions_local, annotated, read, read_list, read_bindings, read_all}
-use Rattle.script_read.specs.Reading.{ReadLocal, lets_as, ReadBinding, sort_known, function_known, definition_as, named_as, level_known, Sofar, Entry, symbol_entry, definition_entry, term_entry, Reading, continued, ◌>>=◌, gives, refused_if, beside, by_live, by_rule, binds, live_sorts, term_among, term_or, bound_as, is_declared, is_quantified}
+use Rattle.script_read.specs.Read.{Context, with_local, is_empty, let_name, constant_names, is_taken, draws_names, with_quantified, below_quantifier, renamed, is_of_sort, has_sort, quantified_over, term_names, mentions_local, annotated, read, read_list, read_bindings, read_all}
+use Rattle.script_read.specs.Reading.{ReadLocal, lets_as, ReadBinding, sort_known, function_known, definition_as, named_as, level_known, Sofar, Entry, symbol_entry, definition_entry, term_entry, Reading, continued, ◌>>=◌, gives, refused_if, beside, by_live, binds, live_sorts, term_among, term_or, bound_as, is_declared, is_quantified}
 use Rattle.script_read.specs.Refusals.{Refused, at, unless}
 use Rattle.script_read.specs.Variables.{quantifier_binder, may_have, variables_in}
 use Rattle.script_read.proofs.Agreeing.{moves_none, moves_both, agrees_before, lets_later, locals_later, agrees_let}
 use Rattle.script_read.proofs.Applying.{AppliedRead, applied_read}
-use Rattle.script_read.proofs.Calling.{AtomRead, atom_read, CalleeMeans, CalleeSound, CalleeRead, callee_read}
-use Rattle.script_read.proofs.Fitting.{Within, AllWithin, declared_of, Unassigned, LiveFits, Agrees, pairs_denoted, LetsMean, Origin, drawn, quantified as from_quantifier, internal, ConstantSound, LocalsSound, EntrySound, BindingSound, Built, Sound, Moves, Reads, ReadsAll, ReadsBindings, Ready}
+use Rattle.script_read.proofs.Calling.{atom_read, CalleeSound, CalleeRead, callee_read}
+use Rattle.script_read.proofs.Fitting.{Within, AllWithin, declared_of, Agrees, pairs_denoted, Origin, drawn, quantified as from_quantifier, internal, ConstantSound, LocalsSound, EntrySound, BindingSound, Built, Sound, Moves, Reads, ReadsAll, ReadsBindings, Ready}
 use Rattle.script_read.proofs.NameFacts.{spared_later, spared_both, spared_none}
 use Rattle.script_read.proofs.Naming.{AreNew, names_new, named_moves}
 use Rattle.script_read.proofs.Outcomes.{ok_same}
@@ -224,8 +224,8 @@ module _ (ns : List Name) (fs : List Symbol) where
 
   atom_reads : (t : Token) → FormReads (atom t)
   atom_reads t c s ready = on_last (atom_term c.locals t s.live) s (Reads ns fs c.locals (λ E m. mean (atom t) E m) s) (λ r h.
-    let read = atom_read ns fs c.locals s ready.sound ready.locals t r h in
-    record { moves = moves_none ns fs s ready.sound; spared = read.spared; means = λ m E e a. read.means m E e a })
+      let read = atom_read ns fs c.locals s ready.sound ready.locals t r h in
+      record { moves = moves_none ns fs s ready.sound; spared = read.spared; means = λ m E e a. read.means m E e a })
 
   -- ---- `let`
 
@@ -261,8 +261,8 @@ module _ (ns : List Name) (fs : List Symbol) where
         moves = moves_both ns fs s p.1 q.1 b.moves r.moves;
         spared = r.spared;
         means = λ m E e a.
-          r.means m (with_all (mean_bindings bs E m) E) e
-          (agrees_let m fs q.1.live c.locals e E bs p.0 (mean_bindings bs E m) (λ d a'. b.means m E d (agrees_before ns fs p.1 q.1 m c.locals d E r.moves a')) a);
+            r.means m (with_all (mean_bindings bs E m) E) e
+            (agrees_let m fs q.1.live c.locals e E bs p.0 (mean_bindings bs E m) (λ d a'. b.means m E d (agrees_before ns fs p.1 q.1 m c.locals d E r.moves a')) a);
       })
       (inner (with_local (lets_as bs p.0) c) p.1 (ready_let c.locals bs s p ready b))))
 
@@ -306,19 +306,19 @@ module _ (ns : List Name) (fs : List Symbol) where
           (Reads ns fs (with_quantified xs r.0 c.locals) (λ E m. mean body E m) (record s { supply = r.1 })) Q
           (inner (below_quantifier xs r.0 c) (record s { supply = r.1 }) (record { sound = drawn_moves.sound; locals = R.locals; lets = R.lets s.live ready.lets }))
           (λ p b. on_last (unless (not (has_sort bool p.0)) WrongSort place (Ok (quantified q (renamed xs r.0) p.0))) p.1 Q (λ u k.
-            let (sorted, last) = unless_passed (not (has_sort bool p.0)) WrongSort place (Ok (quantified q (renamed xs r.0) p.0)) u k in
-            subst (λ v. Q (v, p.1)) (ok_same (quantified q (renamed xs r.0) p.0) u (Ok (quantified q (renamed xs r.0) p.0)) refl last) (record {
-              moves = moves_both ns fs s (record s { supply = r.1 }) p.1 drawn_moves b.moves;
-              spared = spared_both p.1.supply (map (λ x. x.name) (renamed xs r.0)) (names_within p.0) (spared_later r.1 p.1.supply (map (λ x. x.name) (renamed xs r.0)) b.moves.later R.spared) b.spared;
-              means = λ m E e a.
+          let (sorted, last) = unless_passed (not (has_sort bool p.0)) WrongSort place (Ok (quantified q (renamed xs r.0) p.0)) u k in
+          subst (λ v. Q (v, p.1)) (ok_same (quantified q (renamed xs r.0) p.0) u (Ok (quantified q (renamed xs r.0) p.0)) refl last) (record {
+            moves = moves_both ns fs s (record s { supply = r.1 }) p.1 drawn_moves b.moves;
+            spared = spared_both p.1.supply (map (λ x. x.name) (renamed xs r.0)) (names_within p.0) (spared_later r.1 p.1.supply (map (λ x. x.name) (renamed xs r.0)) b.moves.later R.spared) b.spared;
+            means = λ m E e a.
                 let same : quantified_variables E.sorts bs ≡ xs = ap (λ live. accepted_or [] (variables_in quantifier_binder live [] bs)) (a.sorts ∙ b.moves.sorts) ∙ ap (accepted_or []) h in
                 let value : over_variables q xs m.sizes (λ E'. is_true_of (mean body E' m)) E ≡ runs q (renamed xs r.0) m.sizes (λ f. is_true (val m p.0 f)) e =
-                  R.runs q m p.1.live m.sizes (λ E'. is_true_of (mean body E' m)) (λ f. is_true (val m p.0 f)) (λ E' e' a'. ap is_true_of (b.means m E' e' a')) E e a in
+                R.runs q m p.1.live m.sizes (λ E'. is_true_of (mean body E' m)) (λ f. is_true (val m p.0 f)) (λ E' e' a'. ap is_true_of (b.means m E' e' a')) E e a in
                 let sort : Some bool ≡ sort_of (quantified q (renamed xs r.0) p.0) =
-                  sym (sort_of-quantified q (renamed xs r.0) p.0 (bindable s.live bs xs (is_taken c.locals s.live) s.supply some h ready.sound.text variables.sound variables.kinds) (the_sort bool p.0 sorted)) in
+                sym (sort_of-quantified q (renamed xs r.0) p.0 (bindable s.live bs xs (is_taken c.locals s.live) s.supply some h ready.sound.text variables.sound variables.kinds) (the_sort bool p.0 sorted)) in
                 let both : quantifier_means q xs m.sizes (λ E'. mean body E' m) E ≡ denoted m e (quantified q (renamed xs r.0) p.0) = λ i. (truth (value i), sort i) in
                 ap (λ ys. quantifier_means q ys m.sizes (λ E'. mean body E' m) E) same ∙ both;
-            })))
+          })))
 
   -- ---- annotations
 
@@ -348,8 +348,8 @@ module _ (ns : List Name) (fs : List Symbol) where
 
   index_reads : (place : ℕ) (gs : Forms) (c : Context) (s : Sofar) → Ready ns fs c.locals s → MeansAs (λ E m. mean_list index_word gs E m) c s (read_list index_word gs place c s)
   index_reads place gs c s ready = on_last (vector_constant place gs) s (Reads ns fs c.locals (λ E m. mean_list index_word gs E m) s) (λ r h.
-    let read : VectorRead gs r = vector_read place gs r h in
-    record { moves = moves_none ns fs s ready.sound; spared = read.spared s.supply; means = λ m E e a. read.means m e })
+      let read : VectorRead gs r = vector_read place gs r h in
+      record { moves = moves_none ns fs s ready.sound; spared = read.spared s.supply; means = λ m E e a. read.means m e })
 
   -- ---- applications
 
@@ -380,11 +380,11 @@ module _ (ns : List Name) (fs : List Symbol) where
             moves = moves_both ns fs s q.1 r.1 all_moves last_moves;
             spared = a.spared;
             means = λ m E e agrees.
-              let at_all : Agrees m fs q.1.live c.locals e E = agrees_before ns fs q.1 r.1 m c.locals e E last_moves agrees in
-              let at_first : Agrees m fs p.1.live c.locals e E = agrees_before ns fs p.1 q.1 m c.locals e E b'.moves at_all in
-              let at_head : Agrees m fs s.live c.locals e E = agrees_before ns fs s p.1 m c.locals e E b.moves at_first in
-              let values : (mean g E m ∷ mean_all gs E m) ≡ map (denoted m e) (p.0 ∷ q.0) = λ i. b.means m E e at_first i ∷ b'.means m E e at_all i in
-              ap (λ ds. head_means f E m ds) values ∙ a.means m (head_means f E m) e (called_read.means m E e at_head) agrees.own;
+                let at_all : Agrees m fs q.1.live c.locals e E = agrees_before ns fs q.1 r.1 m c.locals e E last_moves agrees in
+                let at_first : Agrees m fs p.1.live c.locals e E = agrees_before ns fs p.1 q.1 m c.locals e E b'.moves at_all in
+                let at_head : Agrees m fs s.live c.locals e E = agrees_before ns fs s p.1 m c.locals e E b.moves at_first in
+                let values : (mean g E m ∷ mean_all gs E m) ≡ map (denoted m e) (p.0 ∷ q.0) = λ i. b.means m E e at_first i ∷ b'.means m E e at_all i in
+                ap (λ ds. head_means f E m ds) values ∙ a.means m (head_means f E m) e (called_read.means m E e at_head) agrees.own;
           }
 
   -- ---- names of a `let`
@@ -408,10 +408,10 @@ module _ (ns : List Name) (fs : List Symbol) where
         moves = moves_both ns fs s p.1 q.1 b.moves b'.moves;
         spared = λ k u e. names_of_pair n p q b b' k u (name_eq n k) e;
         means = λ m E e a.
-          let first : mean f E m ≡ denoted m e p.0 = b.means m E e (agrees_before ns fs p.1 q.1 m c.locals e E b'.moves a) in
-          let rest : mean_bindings bs E m ≡ pairs_denoted m e q.0 = b'.means m E e a in
-          let both : ((n, mean f E m) ∷ mean_bindings bs E m) ≡ pairs_denoted m e ((n, p.0) ∷ q.0) = λ i. (n, first i) ∷ rest i in
-          ap (λ o. let_pair o (mean f E m) (mean_bindings bs E m)) (let_name_in earlier part (place_of x) (symbol_in x) n h) ∙ both;
+            let first : mean f E m ≡ denoted m e p.0 = b.means m E e (agrees_before ns fs p.1 q.1 m c.locals e E b'.moves a) in
+            let rest : mean_bindings bs E m ≡ pairs_denoted m e q.0 = b'.means m E e a in
+            let both : ((n, mean f E m) ∷ mean_bindings bs E m) ≡ pairs_denoted m e ((n, p.0) ∷ q.0) = λ i. (n, first i) ∷ rest i in
+            ap (λ o. let_pair o (mean f E m) (mean_bindings bs E m)) (let_name_in earlier part (place_of x) (symbol_in x) n h) ∙ both;
       }))))
     where
       names_of_pair : (n : Name) (p : Term × Sofar) (q : List (Name × Term) × Sofar) → Reads ns fs c.locals (λ E m. mean f E m) s p → ReadsBindings ns fs c.locals bs p.1 q → (k : Name) (u : Term) (b : Bool) → cond b (Some p.0) (term_among q.0 k) ≡ Some u → GivesNone q.1.supply (names_within u)

@@ -3,7 +3,7 @@ use Rattle.std.specs.Prelude.{◌≡◌, ◌↔◌, ℕ, List, ◌++◌, map, le
 use Rattle.std.specs.List.{list_all}
 use Rattle.smt_lex.specs.declared.items.Until.{Until}
 use Rattle.smt_lex.specs.Forms.{Form, tokens_of}
-use Rattle.smt_lex.specs.Lex.{Token, Lexed, IsOneSymbol, lex}
+use Rattle.smt_lex.specs.Lex.{Token, IsOneSymbol, lex}
 use Rattle.smt_lex.specs.Names.{Name, IsName, printed_symbol}
 use Rattle.smt_lex.proofs.Joining.{spaced, placed}
 use Rattle.smt_terms.specs.Fresh.{Supply}
@@ -13,6 +13,7 @@ use Rattle.smt_terms.specs.Sorts.{bool}
 use Rattle.smt_terms.specs.Term.{Term}
 use Rattle.smt_terms.specs.Val.{Env, no_variables, val}
 use Rattle.smt_terms.specs.Written.{Written, build}
+use Rattle.smt_terms.specs.Shapes.{is_clear}
 use Rattle.script_read.specs.Commands.{Command, with_asserted, kinds, live, literals, signature}
 use Rattle.script_read.specs.Heads.{term_algebra}
 use Rattle.script_read.specs.Mean.{Denoted, value_algebra, mean, meaning}
@@ -92,3 +93,7 @@ pub record SameMeaning (b : List ℕ) (cs : List (Command Term)) (m : Model) (k 
 
 abbrev pub ReadingKeepsMeaning : Type 0
 ReadingKeepsMeaning = (b : List ℕ) (r : List (Command Term) × Supply) → script b ≡ Ok r → (m : Model) (k : ℕ) → SameMeaning b r.0 m k
+
+-- the terms of every point have clear names
+abbrev pub ReadTermsAreClear : Type 0
+ReadTermsAreClear = (b : List ℕ) (r : List (Command Term) × Supply) → script b ≡ Ok r → (k : ℕ) → IsTrue (list_all is_clear (live r.0 k ++ literals r.0 k))
