@@ -21,13 +21,13 @@ outlined_shows : (f : Form) (s : Standing) (o : Result Outline Refused) → Show
 outlined_shows f s (Ok o) = step_shows (place_of f) (form_text f) s o
 outlined_shows f s (Err e) = tt
 
-command_shows : (f : Form) (s : Standing) → Shows (read_command f s) (seen_command f (scene_of s))
+pub command_shows : (f : Form) (s : Standing) → Shows (read_command f s) (seen_command f (scene_of s))
 command_shows f s = outlined_shows f s (outline f)
 
-shown_at : (r : Step) (p : List (Command Term) × Standing) (q : List (Command Asserted) × Scene) → r ≡ Ok p → Shows r q → (bare p.0 ≡ bare q.0) × (scene_of p.1 ≡ q.1)
+pub shown_at : (r : Step) (p : List (Command Term) × Standing) (q : List (Command Asserted) × Scene) → r ≡ Ok p → Shows r q → (bare p.0 ≡ bare q.0) × (scene_of p.1 ≡ q.1)
 shown_at r p q h k = subst (λ x. Shows x q) h k
 
-numbered_ok : {A : Type 0} (i : ℕ) (r : Result A Refused) (a : A) → numbered i r ≡ Ok a → r ≡ Ok a
+pub numbered_ok : {A : Type 0} (i : ℕ) (r : Result A Refused) (a : A) → numbered i r ≡ Ok a → r ≡ Ok a
 numbered_ok i (Ok b) a h = ap Ok (ok_same b a (numbered i (Ok b)) refl h)
 numbered_ok i (Err e) a h = absurd (cc)
 
@@ -45,7 +45,7 @@ commands_show i (f ⨾ fs) s r h =
     ∙ joined_bare p.0 q.0 (seen_command f (scene_of s)).0 (commands_seen fs (seen_command f (scene_of s)).1) now
     (commands_show (suc i) fs p.1 q more ∙ ap (λ sc. bare (commands_seen fs sc)) later)
 
-read_ok : (b : List ℕ) (o : Result (List (Command Term) × Supply) Numbered) (r : List (Command Term) × Supply) → commands_or_refusal b o ≡ Ok r → o ≡ Ok r
+pub read_ok : (b : List ℕ) (o : Result (List (Command Term) × Supply) Numbered) (r : List (Command Term) × Supply) → commands_or_refusal b o ≡ Ok r → o ≡ Ok r
 read_ok b (Ok x) r h = ap Ok (ok_same x r (commands_or_refusal b (Ok x)) refl h)
 read_ok b (Err e) r h = absurd (cc)
 

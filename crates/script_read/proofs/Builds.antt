@@ -109,11 +109,11 @@ module _ {A B : Type 0} (a : Algebra A) (b : Algebra B) (h : A → B) (k : Keeps
 
 -- ---- from terms to values
 
-sorts_of_denoted : (m : Model) (e : Env) (ts : List Term) → sorts_denoted (map (denoted m e) ts) ≡ sorts_of (terms ts)
+pub sorts_of_denoted : (m : Model) (e : Env) (ts : List Term) → sorts_denoted (map (denoted m e) ts) ≡ sorts_of (terms ts)
 sorts_of_denoted m e [] = refl
 sorts_of_denoted m e (t ∷ ts) = ap (λ o. with_sort (sort_of t) o) (sorts_of_denoted m e ts)
 
-values_of_denoted : (m : Model) (e : Env) (ts : List Term) → values_of (map (denoted m e) ts) ≡ vals m (terms ts) e
+pub values_of_denoted : (m : Model) (e : Env) (ts : List Term) → values_of (map (denoted m e) ts) ≡ vals m (terms ts) e
 values_of_denoted m e [] = refl
 values_of_denoted m e (t ∷ ts) = ap (λ vs. val m t e ∷ vs) (values_of_denoted m e ts)
 

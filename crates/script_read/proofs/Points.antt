@@ -9,13 +9,13 @@ use Rattle.script_read.specs.Laws.{blank, bare, SamePoints, PointsAgree}
 use Rattle.script_read.specs.Scenes.{forms_script}
 use Rattle.script_read.proofs.Agreement.{same_commands}
 
-abbrev level_with : {A B : Type 0} → (A → B) → Level A → Level B
+abbrev pub level_with : {A B : Type 0} → (A → B) → Level A → Level B
 level_with g l = record { sorts = l.sorts; symbols = l.symbols; asserted = map g l.asserted }
 
-abbrev state_with : {A B : Type 0} → (A → B) → State A → State B
+abbrev pub state_with : {A B : Type 0} → (A → B) → State A → State B
 state_with g s = record { levels = map (level_with g) s.levels; global = s.global }
 
-abbrev point_with : {A B : Type 0} → (A → B) → Point A → Point B
+abbrev pub point_with : {A B : Type 0} → (A → B) → Point A → Point B
 point_with g p = record { kind = p.kind; state = state_with g p.state; literals = map g p.literals }
 
 -- ---- levels
@@ -86,7 +86,7 @@ point_behind g check s ps = refl
 point_behind g (check_assuming ls) s ps = refl
 point_behind g _ s ps = refl
 
-points_with : {A B : Type 0} (g : A → B) (s : State A) (cs : List (Command A)) → points_from (state_with g s) (map (with_asserted g) cs) ≡ map (point_with g) (points_from s cs)
+pub points_with : {A B : Type 0} (g : A → B) (s : State A) (cs : List (Command A)) → points_from (state_with g s) (map (with_asserted g) cs) ≡ map (point_with g) (points_from s cs)
 points_with g s [] = refl
 points_with g s (c ∷ cs) =
     ap (λ x. with_point (with_asserted g c) (state_with g s) (points_from x (map (with_asserted g) cs))) (after_with g c s)
@@ -99,7 +99,7 @@ kinds_kept : {A B : Type 0} (g : A → B) (ps : List (Point A)) → map (λ p. p
 kinds_kept g [] = refl
 kinds_kept g (p ∷ ps) = ap (λ ks. p.kind ∷ ks) (kinds_kept g ps)
 
-nth_kept : {A B : Type 0} (g : A → B) (ps : List (Point A)) (k : ℕ) → nth_point (map (point_with g) ps) k ≡ option_map (point_with g) (nth_point ps k)
+pub nth_kept : {A B : Type 0} (g : A → B) (ps : List (Point A)) (k : ℕ) → nth_point (map (point_with g) ps) k ≡ option_map (point_with g) (nth_point ps k)
 nth_kept g [] k = refl
 nth_kept g (p ∷ ps) zero = refl
 nth_kept g (p ∷ ps) (suc zero) = refl
@@ -113,7 +113,7 @@ symbols_at : {A B : Type 0} (g : A → B) (o : Option (Point A)) → at_point (�
 symbols_at g (Some p) = symbols_kept g p.state.levels
 symbols_at g None = refl
 
-live_at : {A B : Type 0} (g : A → B) (o : Option (Point A)) → at_point (λ p. live_in p.state) (option_map (point_with g) o) ≡ map g (at_point (λ p. live_in p.state) o)
+pub live_at : {A B : Type 0} (g : A → B) (o : Option (Point A)) → at_point (λ p. live_in p.state) (option_map (point_with g) o) ≡ map g (at_point (λ p. live_in p.state) o)
 live_at g (Some p) = asserted_kept g p.state.levels
 live_at g None = refl
 

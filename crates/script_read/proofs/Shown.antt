@@ -97,7 +97,7 @@ truth_of_symbol : (o : Option Name) (b : Bool) → truth_named o ≡ Some b → 
 truth_of_symbol None b h = absurd (cc)
 truth_of_symbol (Some n) b h = named_truth (bytes_eq n (codes "true")) (bytes_eq n (codes "false")) b h
 
-truth_of_form : (f : Option Form) (b : Bool) → truth_in f ≡ Some b → is_true_symbol f ≡ b
+pub truth_of_form : (f : Option Form) (b : Bool) → truth_in f ≡ Some b → is_true_symbol f ≡ b
 truth_of_form None b h = absurd (cc)
 truth_of_form (Some f) b h = truth_of_symbol (symbol_in f) b h
 
@@ -142,7 +142,7 @@ no_parameters_shows (f ⨾ fs) next q h = tt
 
 -- ---- declarations and definitions
 
-abbrev bindings_of : Standing → List Binding
+abbrev pub bindings_of : Standing → List Binding
 bindings_of s = as_bindings s.sofar.live
 
 declares_sort_shows : (n : At Name) (arity : At ℕ) (s : Standing) → Shows (declares_sort n arity s) (declare_sort n.it ∷ [], mk (sort_name n.it (free_sort n.it) ∷ bindings_of s) s.global s.asserted)
@@ -161,7 +161,7 @@ defines_sort_shows n parameters f s =
     (mapped_shows make (sort_in (live_sorts (live_of s)) f) q (λ to h.
     (refl, ap (λ t. mk (sort_name n.it t ∷ bindings_of s) s.global s.asserted) (sym (ap (accepted_or bool) h))))))
 
-same_symbol : (s : Standing) (n : Name) (arguments : Forms) (f : Form) (args : List Sort) (to : Sort) → sorts_in (live_sorts (live_of s)) arguments ≡ Ok args → sort_in (live_sorts (live_of s)) f ≡ Ok to → symbol_of_sorts n args to ≡ symbol_meant (bindings_of s) n arguments f
+pub same_symbol : (s : Standing) (n : Name) (arguments : Forms) (f : Form) (args : List Sort) (to : Sort) → sorts_in (live_sorts (live_of s)) arguments ≡ Ok args → sort_in (live_sorts (live_of s)) f ≡ Ok to → symbol_of_sorts n args to ≡ symbol_meant (bindings_of s) n arguments f
 same_symbol s n arguments f args to h k =
     ap (λ ss. symbol_of_sorts n ss to) (sym (ap (accepted_or []) h)) ∙ ap (λ t. symbol_of_sorts n (sorts_meant (bindings_of s) arguments) t) (sym (ap (accepted_or bool) k))
 
@@ -182,12 +182,12 @@ unless_of_sort : (test : Bool) (place : ℕ) (p r : Term × Sofar) → unless te
 unless_of_sort true place p r h = absurd (cc)
 unless_of_sort false place p r h = cc
 
-of_sort_ok : (to : Sort) (place : ℕ) (r : Result (Term × Sofar) Refused) (p : Term × Sofar) → of_sort to place r ≡ Ok p → r ≡ Ok p
+pub of_sort_ok : (to : Sort) (place : ℕ) (r : Result (Term × Sofar) Refused) (p : Term × Sofar) → of_sort to place r ≡ Ok p → r ≡ Ok p
 of_sort_ok to place (Ok r) p h = ap Ok (unless_of_sort (not (has_sort to r.0)) place r p h)
 of_sort_ok to place (Err e) p h = absurd (cc)
 
 -- what a term that was read leads to
-leads_ok : (r : Result (Term × Sofar) Refused) (p : Term × Sofar) (bs : List Binding) → r ≡ Ok p → LeadsTo r bs → as_bindings p.1.live ≡ bs
+pub leads_ok : (r : Result (Term × Sofar) Refused) (p : Term × Sofar) (bs : List Binding) → r ≡ Ok p → LeadsTo r bs → as_bindings p.1.live ≡ bs
 leads_ok r p bs h k = subst (λ x. LeadsTo x bs) h k
 
 asserts_shows : (f : Form) (s : Standing) → Shows (asserts f s) (assert (suc s.asserted) (record { form = f; bindings = naming f [] (bindings_of s) }) ∷ [], mk (naming f [] (bindings_of s)) s.global (suc s.asserted))
@@ -199,7 +199,7 @@ asserts_shows f s =
           (leads_ok (read f no_context s.sofar) p (naming f [] (bindings_of s)) (of_sort_ok bool (place_of f) (read f no_context s.sofar) p h) (read_leads f no_context s.sofar)),
     ))
 
-body_leads : (n : Name) (xs : List Variable) (to : Sort) (body : Form) (s : Standing) (p : Term × Sofar) → of_sort to (place_of body) (read body (body_context n xs) s.sofar) ≡ Ok p → as_bindings p.1.live ≡ naming body (parameter_locals xs []) (bindings_of s)
+pub body_leads : (n : Name) (xs : List Variable) (to : Sort) (body : Form) (s : Standing) (p : Term × Sofar) → of_sort to (place_of body) (read body (body_context n xs) s.sofar) ≡ Ok p → as_bindings p.1.live ≡ naming body (parameter_locals xs []) (bindings_of s)
 body_leads n xs to body s p h =
     leads_ok (read body (body_context n xs) s.sofar) p (naming body (map as_local (parameters_read xs (parameters_from 0 xs) [])) (bindings_of s))
     (of_sort_ok to (place_of body) (read body (body_context n xs) s.sofar) p h) (read_leads body (body_context n xs) s.sofar)

@@ -1,23 +1,27 @@
 -- Statements of the laws of reading.
-use Rattle.std.specs.Prelude.{◌≡◌, ◌↔◌, ℕ, List, map, length, None, Result, Ok, Err, is_ok, IsTrue, ⊤}
+use Rattle.std.specs.Prelude.{◌≡◌, ◌↔◌, ℕ, List, ◌++◌, map, length, None, Result, Ok, Err, is_ok, IsTrue, ⊤}
+use Rattle.std.specs.List.{list_all}
 use Rattle.smt_lex.specs.declared.items.Until.{Until}
 use Rattle.smt_lex.specs.Forms.{Form, tokens_of}
-use Rattle.smt_lex.specs.Lex.{Token, Lexed, IsOneSymbol, lex}
+use Rattle.smt_lex.specs.Lex.{Token, IsOneSymbol, lex}
 use Rattle.smt_lex.specs.Names.{Name, IsName, printed_symbol}
 use Rattle.smt_lex.proofs.Joining.{spaced, placed}
 use Rattle.smt_terms.specs.Fresh.{Supply}
 use Rattle.smt_terms.specs.Models.{Model}
-use Rattle.smt_terms.specs.Rank.{sort_of}
+use Rattle.smt_terms.specs.Rank.{sort_of, is_well_sorted}
+use Rattle.smt_terms.specs.Sorts.{bool}
 use Rattle.smt_terms.specs.Term.{Term}
-use Rattle.smt_terms.specs.Val.{Env, val}
+use Rattle.smt_terms.specs.Val.{Env, no_variables, val}
 use Rattle.smt_terms.specs.Written.{Written, build}
-use Rattle.script_read.specs.Commands.{Command, with_asserted, kinds, live, signature}
+use Rattle.smt_terms.specs.Shapes.{is_clear}
+use Rattle.script_read.specs.Commands.{Command, with_asserted, kinds, live, literals, signature}
 use Rattle.script_read.specs.Heads.{term_algebra}
-use Rattle.script_read.specs.Mean.{Denoted, value_algebra}
+use Rattle.script_read.specs.Mean.{Denoted, value_algebra, mean, meaning}
 use Rattle.script_read.specs.Refusals.{Refused}
-use Rattle.script_read.specs.Read.{Context, read}
+use Rattle.script_read.specs.Read.{Context, has_sort, read}
 use Rattle.script_read.specs.Reading.{as_local, as_bindings, Sofar}
-use Rattle.script_read.specs.Scenes.{naming, forms_script}
+use Rattle.script_read.specs.Satisfied.{sat}
+use Rattle.script_read.specs.Scenes.{naming, Asserted, forms_script, holds}
 use Rattle.script_read.specs.Scope.{Binding}
 use Rattle.script_read.specs.Script.{script, fault}
 
@@ -71,3 +75,25 @@ denoted m e t = (val m t e, sort_of t)
 -- a written operator means over values what the term means that it is made into
 abbrev pub WrittenMeaning : Type 0
 WrittenMeaning = (m : Model) (e : Env) (w : Written) (ts : List Term) → build (value_algebra m) w (map (denoted m e) ts) ≡ denoted m e (build term_algebra w ts)
+
+-- ---- the meaning of what is read
+
+-- what an asserted form means
+abbrev pub form_denoted : Model → Asserted → Denoted
+form_denoted m a = mean a.form (meaning a.bindings m) m
+
+-- the terms of point k have in a model the values and the sorts that the text's forms mean, one by one; they are
+-- well-sorted truth values, and so the model satisfies the one where it satisfies the other
+pub record SameMeaning (b : List ℕ) (cs : List (Command Term)) (m : Model) (k : ℕ) : Type 0 where
+  pub asserted : map (form_denoted m) (live (forms_script b) k) ≡ map (denoted m no_variables) (live cs k)
+  pub assumed : map (form_denoted m) (literals (forms_script b) k) ≡ map (denoted m no_variables) (literals cs k)
+  pub truth_values : IsTrue (list_all (has_sort bool) (live cs k ++ literals cs k))
+  pub well_sorted : IsTrue (list_all is_well_sorted (live cs k ++ literals cs k))
+  pub satisfied : holds m b k ≡ sat m cs k
+
+abbrev pub ReadingKeepsMeaning : Type 0
+ReadingKeepsMeaning = (b : List ℕ) (r : List (Command Term) × Supply) → script b ≡ Ok r → (m : Model) (k : ℕ) → SameMeaning b r.0 m k
+
+-- the terms of every point have clear names
+abbrev pub ReadTermsAreClear : Type 0
+ReadTermsAreClear = (b : List ℕ) (r : List (Command Term) × Supply) → script b ≡ Ok r → (k : ℕ) → IsTrue (list_all is_clear (live r.0 k ++ literals r.0 k))

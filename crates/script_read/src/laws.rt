@@ -1,6 +1,6 @@
 //! The laws of reading, each the contract of a function that does nothing.
 
-ghost use Rattle.script_read.specs.Laws.{PrintedSymbolsAreRead, WrittenTokensAreRead, ReadingNames, SameCommands, PointsAgree, ReadingAnswers, WrittenMeaning};
+ghost use Rattle.script_read.specs.Laws.{PrintedSymbolsAreRead, WrittenTokensAreRead, ReadingNames, SameCommands, PointsAgree, ReadingAnswers, WrittenMeaning, ReadingKeepsMeaning, ReadTermsAreClear};
 
 /// A symbol, as it is printed, is read as that one symbol; and the tokens of a text's forms, written one after the other
 /// with a space behind each, are read as the same tokens.
@@ -30,4 +30,17 @@ pub fn terms_and_forms_agree()
 /// the right, exchanged operands, repetitions and rotations included.
 pub fn written_operators_keep_meaning()
     ensures { WrittenMeaning }
+{}
+
+/// Reading keeps meaning: at every point of an accepted text and in every model, each live assertion's term and each
+/// literal has the value and the sort that its form means, where nothing is put in the place of anything else; and each is
+/// a well-sorted truth value.
+pub fn reading_keeps_meaning()
+    ensures { ReadingKeepsMeaning }
+{}
+
+/// The terms that reading gives have clear names: each symbol, where it occurs, is the innermost quantified variable of its
+/// name there, or no quantifier above it binds its name, and no two free symbols of a term have one name.
+pub fn read_terms_are_clear()
+    ensures { ReadTermsAreClear }
 {}

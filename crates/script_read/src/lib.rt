@@ -8,5 +8,6 @@ mod laws;
 
 pub use causes::Cause;
 pub use laws::{
-    reading_answers, reading_binds_names, terms_and_forms_agree, written_operators_keep_meaning,
+    read_terms_are_clear, reading_answers, reading_binds_names, reading_keeps_meaning,
+    terms_and_forms_agree, written_operators_keep_meaning,
 };
