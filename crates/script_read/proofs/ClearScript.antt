@@ -23,7 +23,8 @@ use Rattle.script_read.specs.Heads.{parameters_from}
 use Rattle.script_read.specs.Laws.{ReadTermsAreClear}
 use Rattle.script_read.specs.Mean.{mean}
 use Rattle.script_read.specs.Outlines.{At, Outline, passing, global_option, sort_declaration, sort_definition, symbol_declaration, symbol_definition, assertion, checking, assuming, pushing, popping, resetting, resetting_assertions, ending, levels_written, outline}
-use Rattle.script_read.specs.Parts.{place_of, symbol_in, form_text, is_name}
+use Rattle.smt_lex.specs.FormText.{form_text}
+use Rattle.script_read.specs.Parts.{place_of, symbol_in, is_name}
 use Rattle.script_read.specs.Read.{local_constants, read}
 use Rattle.script_read.specs.Reading.{ReadLocal, parameter_as, ReadBinding, sort_known, function_known, definition_as, named_as, level_known, is_level_known, live_sorts, Entry, symbol_entry, definition_entry, term_entry, entry_of}
 use Rattle.script_read.specs.Refusals.{Refused, and_then, unless, mapped, given}

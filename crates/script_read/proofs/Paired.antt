@@ -22,7 +22,8 @@ use Rattle.script_read.specs.Commands.{Command, passed, declare_sort, declare, a
 use Rattle.script_read.specs.Laws.{denoted}
 use Rattle.script_read.specs.Mean.{Denoted, accepted_or, mean, meaning, with_arguments}
 use Rattle.script_read.specs.Outlines.{At, CommandWord, set_logic_word, set_info_word, set_option_word, get_info_word, get_option_word, echo_word, get_model_word, declare_sort_word, define_sort_word, declare_const_word, declare_fun_word, define_fun_word, assert_word, check_sat_word, check_sat_assuming_word, push_word, pop_word, reset_word, reset_assertions_word, exit_word, Outline, passing, global_option, sort_declaration, sort_definition, symbol_declaration, symbol_definition, assertion, checking, assuming, pushing, popping, resetting, resetting_assertions, ending, levels_written, where_so, of_both, symbol_at, numeral_at, list_in, is_globals, shape, shaped, outline_by, outline, supported, placed}
-use Rattle.script_read.specs.Parts.{place_of, form_text, is_symbol, is_keyword, is_text, keyword_in, word_in}
+use Rattle.smt_lex.specs.FormText.{form_text}
+use Rattle.script_read.specs.Parts.{place_of, is_symbol, is_keyword, is_text, keyword_in, word_in}
 use Rattle.script_read.specs.Read.{has_sort, read}
 use Rattle.script_read.specs.Reading.{ReadBinding, sort_known, function_known, level_known, Sofar, as_bindings, live_sorts, is_level_known, entry_of}
 use Rattle.script_read.specs.Refusals.{Refused, at, and_then, unless, mapped, given}
