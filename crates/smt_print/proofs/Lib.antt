@@ -1,5 +1,6 @@
 pub mod Digits
 pub mod FormTexts
+pub mod OperatorViews
 mod Rows
 pub mod TextsRead
 pub mod Writable
