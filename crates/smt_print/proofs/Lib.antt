@@ -1,7 +1,10 @@
 pub mod Digits
+pub mod Contexts
 pub mod FormTexts
 pub mod OperatorViews
 mod Rows
+pub mod SortsRead
+pub mod SymbolsRead
 pub mod TextsRead
 pub mod Writable
 pub mod WritableTerms
