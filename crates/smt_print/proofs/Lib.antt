@@ -3,6 +3,7 @@ pub mod Contexts
 pub mod FormTexts
 pub mod OperatorViews
 mod Rows
+pub mod Scopes
 pub mod SortsRead
 pub mod SymbolsRead
 pub mod TextsRead
