@@ -2,6 +2,7 @@ pub mod Digits
 pub mod Contexts
 pub mod FormTexts
 pub mod OperatorViews
+pub mod Readings
 mod Rows
 pub mod Scopes
 pub mod SortsRead
