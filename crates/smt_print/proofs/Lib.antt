@@ -1,5 +1,6 @@
 pub mod Digits
 pub mod Contexts
+pub mod DrawnNames
 pub mod FormTexts
 pub mod OperatorViews
 pub mod Readings
