@@ -1,4 +1,5 @@
 pub mod Digits
+pub mod BindersRead
 pub mod Contexts
 pub mod DrawnNames
 pub mod FormTexts
