@@ -86,7 +86,7 @@ variables_behind g live knows (x ∷ xs) earlier p usable new =
     next_variable live earlier (placed (suc p) (variable_form x)) (placed_behind (end_of (suc p) (variable_form x)) (forms_of_list (map variable_form xs)) none) x xs
     (variable_read g live knows earlier x (suc p) usable.0 new.0) (variables_behind g live knows xs (x.name ∷ earlier) (end_of (suc p) (variable_form x)) usable.1 new.1)
 
-variables_read : (g : Signature) (live : Sorts) → KnowsSorts g live → (x : Variable) (xs : List Variable) (p : ℕ) → AreUsable g (x ∷ xs) → are_distinct (names_in (x ∷ xs)) ≡ true
+pub variables_read : (g : Signature) (live : Sorts) → KnowsSorts g live → (x : Variable) (xs : List Variable) (p : ℕ) → AreUsable g (x ∷ xs) → are_distinct (names_in (x ∷ xs)) ≡ true
     → variables_in quantifier_binder live [] (placed_in p (forms_of_list (map variable_form (x ∷ xs))) none) ≡ Ok (x ∷ xs)
 variables_read g live knows x xs p usable distinct =
     let new : AreNew [] (x ∷ xs) = all_new [] (x ∷ xs) distinct (none_before (x ∷ xs)) in
@@ -112,7 +112,7 @@ drawn_taken is_taken (x ∷ xs) s = elim (true_or_false (is_taken x.name)) [
   | inr kept ↦ rw kept (drawn_taken is_taken xs s)
 ]
 
-word_begins : (q : Quantifier) (p : ℕ) → opening (placed p (quantifier_word q)) ≡ quantifier_opening q
+pub word_begins : (q : Quantifier) (p : ℕ) → opening (placed p (quantifier_word q)) ≡ quantifier_opening q
 unfolding is_syntax_word is_command_word
 word_begins universal p = refl
 word_begins existential p = refl
@@ -129,12 +129,11 @@ reads_quantified g scope ds q x xs f usable distinct body = record {
       let names = names_for c (x ∷ xs) (knowing bs taken i) in
       let there = names_taken taken (x ∷ xs) all.1.0 in
       let read_body = body.reads bs taken (below_quantifier (x ∷ xs) names.0 c) inner names.1.number live
-          (in_variables g (is_taken c.locals bs) (x ∷ xs) (knowing bs taken i).supply scope ds c.locals usable known) all.1.1.0 in
-      (
+      (in_variables g (is_taken c.locals bs) (x ∷ xs) (knowing bs taken i).supply scope ds c.locals usable known) all.1.1.0 in (
         quantified q (renamed (x ∷ xs) names.0) read_body.0,
         read_body.1,
         quantified_steps (placed (suc p) (quantifier_word q)) (placed inner f) (placed_in (suc part) (forms_of_list (map variable_form (x ∷ xs))) none) q part p c (knowing bs taken i) (knowing bs taken read_body.1)
-            (x ∷ xs) read_body.0 (word_begins q (suc p)) refl (variables_read g _ live.sorts x xs (suc part) usable (bindable_parts x xs distinct).0) 
+            (x ∷ xs) read_body.0 (word_begins q (suc p)) refl (variables_read g _ live.sorts x xs (suc part) usable (bindable_parts x xs distinct).0)
             (ap (λ ts. read (placed inner f) (below_quantifier (x ∷ xs) names.0 c) (record { live = bs; supply = record { taken = ts; number = names.1.number } })) (drawn_taken (is_taken c.locals bs) (x ∷ xs) (knowing bs taken i).supply) ∙ read_body.2)
             (bool_term read_body.0 read_body.3),
         sort_of-quantified q (renamed (x ∷ xs) names.0) read_body.0 (renamed_bindable (is_taken c.locals bs) x xs (knowing bs taken i).supply distinct there) read_body.3,
@@ -143,7 +142,7 @@ reads_quantified g scope ds q x xs f usable distinct body = record {
 
 -- ---- `let`
 
-let_begins : (p : ℕ) → opening (placed p (word_form (codes "let"))) ≡ let_word
+pub let_begins : (p : ℕ) → opening (placed p (word_form (codes "let"))) ≡ let_word
 unfolding is_syntax_word is_command_word
 let_begins p = refl
 
@@ -172,8 +171,7 @@ reads_let g scope d ds f s first body = record {
       let read_first = first.reads bs taken c value i live known all.1.0.0.1.0 in
       let local = lets_as (node inner (placed (suc inner) (word_form n) ⨾ placed value d.form ⨾ none) ⨾ none) ((n, read_first.0) ∷ []) in
       let read_body = body.reads bs taken (with_local local c) last read_first.1 live
-          (in_let scope d ds c.locals (node inner (placed (suc inner) (word_form n) ⨾ placed value d.form ⨾ none) ⨾ none) read_first.0 read_first.3 known) all.1.1.0 in
-      (
+      (in_let scope d ds c.locals (node inner (placed (suc inner) (word_form n) ⨾ placed value d.form ⨾ none) ⨾ none) read_first.0 read_first.3 known) all.1.1.0 in (
         read_body.0,
         read_body.1,
         let_steps (placed (suc p) (word_form (codes "let"))) (placed (suc inner) (word_form n)) (placed value d.form) (placed last f) p part inner c n (knowing bs taken i) (knowing bs taken read_first.1) (knowing bs taken read_body.1)
@@ -184,7 +182,7 @@ reads_let g scope d ds f s first body = record {
 
 -- ---- names of definitions
 
-defined_is : (ds : List Definition) (t : Term) → (k : ℕ) × (defined_name ds t ≡ definition_name k)
+pub defined_is : (ds : List Definition) (t : Term) → (k : ℕ) × (defined_name ds t ≡ definition_name k)
 defined_is [] t = (0, refl)
 defined_is (d ∷ ds) t = elim (true_or_false (term_eq d.term t)) [
   | inl here ↦ (length ds, rw here refl)
@@ -207,8 +205,7 @@ reads_defined g scope ds t there = record {
   reads = λ bs taken c p i live known all.
       let found = definition_read ds t c.locals there known.definitions in
       let named = defined_is ds t in
-      let free : is_reserved (defined_name ds t) ≡ false = ap is_reserved named.1 ∙ definition_unreserved named.0 in
-      (
+      let free : is_reserved (defined_name ds t) ≡ false = ap is_reserved named.1 ∙ definition_unreserved named.0 in (
         found.0,
         i,
         ap (beside (knowing bs taken i)) (bound_atom c.locals bs (token_at p Word (defined_name ds t)) (defined_name ds t) found.0 refl (word_symbol (defined_name ds t) free) found.1),

@@ -37,6 +37,10 @@ abbrev pub pushed : List Variable → List Variable → List Variable
 pushed [] scope = scope
 pushed (x ∷ xs) scope = pushed xs (x ∷ scope)
 
+-- a form in front of others
+abbrev pub first_form : Form → Forms → Forms
+first_form f fs = f ⨾ fs
+
 -- ---- names in forms
 
 abbrev pub IsTaken : List Name → Option Name → Type 0

@@ -44,9 +44,9 @@ next_new s [] taken = refl
 next_new s (x ∷ xs) taken =
     or_false (name_eq (next_name s) x.name) (has_name (next_name s) (names_in xs))
     (other_name (next_name s) x.name (λ same. absurd (
-      let free : name_among s.taken x.name ≡ false = subst (λ n. name_among s.taken n ≡ false) same (next_name-free s) in
-      let there : name_among s.taken x.name ≡ true = taken.0 in
-      cc
+    let free : name_among s.taken x.name ≡ false = subst (λ n. name_among s.taken n ≡ false) same (next_name-free s) in
+    let there : name_among s.taken x.name ≡ true = taken.0 in
+    cc
     )))
     (next_new s xs taken.1)
 
@@ -57,14 +57,14 @@ drawn_distinct is_taken (x ∷ xs) s distinct taken =
     elim (true_or_false (is_taken x.name)) [
       | inl drawn ↦ rw drawn (
           and_true (not (has_name (next_name s) (constant_names is_taken xs (after_draw s)).0)) (are_distinct (constant_names is_taken xs (after_draw s)).0)
-              (ap not (apart (next_name s) is_taken xs (after_draw s) (next_new s xs taken.1) (never-drawn s)))
-              (drawn_distinct is_taken xs (after_draw s) parts.1 taken.1)
-        )
+          (ap not (apart (next_name s) is_taken xs (after_draw s) (next_new s xs taken.1) (never-drawn s)))
+          (drawn_distinct is_taken xs (after_draw s) parts.1 taken.1)
+          )
       | inr kept ↦ rw kept (
           and_true (not (has_name x.name (constant_names is_taken xs s).0)) (are_distinct (constant_names is_taken xs s).0)
-              (ap not (apart x.name is_taken xs s (not_true (has_name x.name (names_in xs)) parts.0) (never_taken s x.name taken.0)))
-              (drawn_distinct is_taken xs s parts.1 taken.1)
-        )
+          (ap not (apart x.name is_taken xs s (not_true (has_name x.name (names_in xs)) parts.0) (never_taken s x.name taken.0)))
+          (drawn_distinct is_taken xs s parts.1 taken.1)
+          )
     ]
 
 renamed_names : (is_taken : Name → Bool) (xs : List Variable) (s : Supply) → names_in (renamed xs (constant_names is_taken xs s).0) ≡ (constant_names is_taken xs s).0

@@ -99,8 +99,7 @@ read_each g scope ds [] (s ∷ ss) each bs taken c p i live known all = absurd e
 read_each g scope ds (f ∷ fs) [] each bs taken c p i live known all = absurd each
 read_each g scope ds (f ∷ fs) (s ∷ ss) each bs taken c p i live known all =
     let first = each.0.reads bs taken c (suc p) i live known all.0 in
-    let others = read_each g scope ds fs ss each.1 bs taken c (end_of (suc p) f) first.1 live known all.1 in
-    (
+    let others = read_each g scope ds fs ss each.1 bs taken c (end_of (suc p) f) first.1 live known all.1 in (
       first.0 ∷ others.0,
       others.1,
       next_steps (placed (suc p) f) (placed_behind (end_of (suc p) f) (forms_of_list fs) none) c (knowing bs taken i) (knowing bs taken first.1) (knowing bs taken others.1) first.0 others.0 first.2 others.2,
@@ -116,8 +115,7 @@ reads_application g scope ds h f fs (u ∷ us) s heads each = record {
       let called = heads.calls bs c (suc p) live known in
       let first = each.0.reads bs taken c q i live known all.1.0 in
       let others = read_each g scope ds fs us each.1 bs taken c (end_of q f) first.1 live known all.1.1 in
-      let made = called.2 p (first.0 ∷ others.0) (knowing bs taken others.1) (more_sorts first.0 (terms others.0) u us first.3 others.3) in
-      (
+      let made = called.2 p (first.0 ∷ others.0) (knowing bs taken others.1) (more_sorts first.0 (terms others.0) u us first.3 others.3) in (
         made.0,
         others.1,
         application_steps (placed (suc p) h) (placed q f) (placed_behind (end_of q f) (forms_of_list fs) none) p c (knowing bs taken i) (knowing bs taken first.1) (knowing bs taken others.1)

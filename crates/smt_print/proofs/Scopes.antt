@@ -51,18 +51,18 @@ not_theory m n free theory =
 
 -- ---- a name in front of others
 
-first_none : {A : Type 0} (b : Bool) (a : A) (o : Option A) → or_later b a o ≡ None → (b ≡ false) × (o ≡ None)
+pub first_none : {A : Type 0} (b : Bool) (a : A) (o : Option A) → or_later b a o ≡ None → (b ≡ false) × (o ≡ None)
 first_none true a o h = absurd (cc)
 first_none false a o h = (refl, h)
 
-here_or_later : {A : Type 0} (b : Bool) (a c : A) (o : Option A) → or_later b a o ≡ Some c → ((b ≡ true) × (a ≡ c)) ⊎ ((b ≡ false) × (o ≡ Some c))
+pub here_or_later : {A : Type 0} (b : Bool) (a c : A) (o : Option A) → or_later b a o ≡ Some c → ((b ≡ true) × (a ≡ c)) ⊎ ((b ≡ false) × (o ≡ Some c))
 here_or_later true a c o h = inl (refl, cc)
 here_or_later false a c o h = inr (refl, h)
 
-behind_other : {A : Type 0} (b : Bool) (a : A) (o : Option A) → b ≡ false → or_later b a o ≡ o
+pub behind_other : {A : Type 0} (b : Bool) (a : A) (o : Option A) → b ≡ false → or_later b a o ≡ o
 behind_other b a o other = rw other refl
 
-at_first : {A : Type 0} (b : Bool) (a : A) (o : Option A) → b ≡ true → or_later b a o ≡ Some a
+pub at_first : {A : Type 0} (b : Bool) (a : A) (o : Option A) → b ≡ true → or_later b a o ≡ Some a
 at_first b a o here = rw here refl
 
 -- ---- reading
@@ -79,12 +79,11 @@ in_variable g x m scope ds ls usable known = record {
       let parts = first_none (name_eq x.name n) x (lookup scope n) h in
       behind_other (name_eq x.name n) (constant_as x m) (bound_as ls n) parts.0 ∙ known.unbound n outer parts.1;
   bound = λ n y outer h. elim (here_or_later (name_eq x.name n) x y (lookup scope n) h) [
-    | inl here ↦
-        (
-          constant_as x m,
-          at_first (name_eq x.name n) (constant_as x m) (bound_as ls n) here.0,
-          variable_sort x m (sort_narrow g x.sort usable.sort) ∙ ap (λ z. Some z.sort) here.1,
-        )
+    | inl here ↦ (
+      constant_as x m,
+      at_first (name_eq x.name n) (constant_as x m) (bound_as ls n) here.0,
+      variable_sort x m (sort_narrow g x.sort usable.sort) ∙ ap (λ z. Some z.sort) here.1,
+    )
     | inr later ↦
         let r = known.bound n y outer later.1 in
         (r.0, behind_other (name_eq x.name n) (constant_as x m) (bound_as ls n) later.0 ∙ r.1, r.2)
@@ -115,8 +114,7 @@ behind_let fs k t ls n other = rw other refl
 definitions_behind : (fs : Forms) (k : ℕ) (t : Term) (ls : List ReadLocal) (ds : List Definition) → length ds ≤ k → AreRead ds ls → AreRead ds (one_let fs k t ∷ ls)
 definitions_behind fs k t ls [] few known = tt
 definitions_behind fs k t ls (d ∷ ds) few known =
-    let r = known.0 in
-    (
+    let r = known.0 in (
       (r.0, behind_let fs k t ls (definition_name (length ds)) (other_definition k (length ds) (λ same. omega (arith, same, few))) ∙ r.1, r.2),
       definitions_behind fs k t ls ds (omega (arith, few)) known.1,
     )
@@ -148,16 +146,14 @@ meant_variable g m x w scope ds e v usable known = record {
       let parts = first_none (name_eq x.name n) x (lookup scope n) h in
       behind_other (name_eq x.name n) (denoted_as w x.sort) (e.bound n) parts.0 ∙ known.unbound n outer parts.1;
   bound = λ n y outer h. elim (here_or_later (name_eq x.name n) x y (lookup scope n) h) [
-    | inl here ↦
-        (
-          w,
-          at_first (name_eq x.name n) (denoted_as w x.sort) (e.bound n) here.0 ∙ ap (λ z. Some (denoted_as w z.sort)) here.1,
-          ap (λ z. assign x w v (constant_of z)) (sym here.1) ∙ at_first (symbol_eq (constant_of x) (constant_of x)) w (v (constant_of x)) ((Decides-symbol_eq (constant_of x) (constant_of x)).1 refl),
-        )
+    | inl here ↦ (
+      w,
+      at_first (name_eq x.name n) (denoted_as w x.sort) (e.bound n) here.0 ∙ ap (λ z. Some (denoted_as w z.sort)) here.1,
+      ap (λ z. assign x w v (constant_of z)) (sym here.1) ∙ at_first (symbol_eq (constant_of x) (constant_of x)) w (v (constant_of x)) ((Decides-symbol_eq (constant_of x) (constant_of x)).1 refl),
+    )
     | inr later ↦
         let r = known.bound n y outer later.1 in
-        let other : name_eq x.name y.name ≡ false = subst (λ k. name_eq x.name k ≡ false) (sym (lookup_name scope n y later.1)) later.0 in
-        (
+        let other : name_eq x.name y.name ≡ false = subst (λ k. name_eq x.name k ≡ false) (sym (lookup_name scope n y later.1)) later.0 in (
           r.0,
           behind_other (name_eq x.name n) (denoted_as w x.sort) (e.bound n) later.0 ∙ r.1,
           behind_other (symbol_eq (constant_of x) (constant_of y)) w (v (constant_of y)) (other_constant x y other) ∙ r.2,
