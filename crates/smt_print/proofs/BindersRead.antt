@@ -1,15 +1,14 @@
 -- Printed quantifiers, `let` and names of definitions are read.
-use Rattle.std.proofs.Common.{◌≡◌, ℕ, suc, ◌<◌, ◌≤◌, inl, inr, Bool, true, false, not, Result, Ok, Option, Some, None, List, [], ◌∷◌, length, map, refl, ap, sym, subst, ◌∙◌, arith}
-use Rattle.std.specs.Prelude.{◌&&◌, ◌||◌, bytes_eq, codes}
-use Rattle.std.specs.List.{list_any, list_all}
+use Rattle.std.proofs.Common.{◌≡◌, ℕ, suc, inl, inr, Bool, true, false, not, Ok, Option, Some, None, List, [], ◌∷◌, length, map, refl, ap, sym, subst, ◌∙◌}
+use Rattle.std.specs.Prelude.{bytes_eq, codes}
 use Rattle.smt_lex.specs.declared.items.Item.TheVariants.{Word}
 use Rattle.smt_lex.specs.Lex.{Token, symbol_by, symbol_of}
-use Rattle.smt_lex.specs.Names.{Name, is_among, is_reserved, is_syntax_word, is_command_word, is_theory_name, is_reserved_for_let, is_reserved_for_declaring}
+use Rattle.smt_lex.specs.Names.{Name, is_among, is_reserved, is_syntax_word, is_command_word, is_theory_name, is_reserved_for_let}
 use Rattle.smt_lex.specs.Forms.{Form, node, Forms, none, ◌⨾◌, forms_of_list}
 use Rattle.smt_terms.specs.Equal.{name_eq, term_eq}
 use Rattle.smt_terms.specs.Free.{name_among}
 use Rattle.smt_terms.specs.Fresh.{Supply, after_draw}
-use Rattle.smt_terms.specs.Rank.{is_quantifiable, has_name, are_distinct, are_bindable, sort_of}
+use Rattle.smt_terms.specs.Rank.{has_name, are_distinct, are_bindable, sort_of}
 use Rattle.smt_terms.specs.Sorts.{Sort, bool, Variable}
 use Rattle.smt_terms.specs.Term.{Quantifier, universal, existential, Term, quantified}
 use Rattle.smt_terms.proofs.Equal.{Decides-name_eq, Decides-term_eq}
@@ -17,18 +16,18 @@ use Rattle.smt_terms.proofs.Sorted.{sort_of-quantified}
 use Rattle.smt_terms.proofs.Tests.{true_or_false, both_true, both_false, or_false, not_true}
 use Rattle.script_read.specs.Commands.{Signature}
 use Rattle.script_read.specs.Heads.{atom_term, atom_by, name_or_other, symbol_term}
-use Rattle.script_read.specs.Parts.{Opening, constant_by, let_word, opening, quantifier_word as quantifier_opening}
-use Rattle.script_read.specs.Read.{Context, constant_names, let_name, with_local, is_empty, is_taken, below_quantifier, renamed, has_sort, is_of_sort, read}
+use Rattle.script_read.specs.Parts.{constant_by, let_word, opening, quantifier_word as quantifier_opening}
+use Rattle.script_read.specs.Read.{constant_names, let_name, with_local, is_taken, below_quantifier, renamed, has_sort, is_of_sort, read}
 use Rattle.script_read.specs.Reading.{ReadLocal, lets_as, ReadBinding, entry_of, beside, bound_as}
-use Rattle.script_read.specs.Refusals.{Refused, and_then, unless, mapped}
+use Rattle.script_read.specs.Refusals.{and_then, mapped}
 use Rattle.script_read.specs.SortForms.{Sorts, sort_in}
-use Rattle.script_read.specs.Variables.{quantifier_binder, may_have, variable_of, variable_in, variables_in}
+use Rattle.script_read.specs.Variables.{quantifier_binder, variable_of, variable_in, variables_in}
 use Rattle.smt_print.specs.Basics.{word_form, symbol_form, sort_form, variable_form, list_form}
 use Rattle.smt_print.specs.TermForms.{Definition, definition_name, is_defined, defined_name, quantifier_word, quantified_form, let_form}
-use Rattle.smt_print.proofs.Contexts.{pushed, lookup, IsTaken, AllTaken, EachTaken, LiveRead, InScope, IsReadAs, AreRead}
+use Rattle.smt_print.proofs.Contexts.{pushed, IsTaken, AllTaken, EachTaken, IsReadAs, AreRead}
 use Rattle.smt_print.proofs.DrawnNames.{names_in, AreAmong, bindable_parts, renamed_bindable}
 use Rattle.smt_print.proofs.FormTexts.{end_of, token_at, placed, placed_in, placed_behind}
-use Rattle.smt_print.proofs.Readings.{knowing, IsRead, Reads, names_for, quantified_steps, let_steps}
+use Rattle.smt_print.proofs.Readings.{knowing, Reads, names_for, quantified_steps, let_steps}
 use Rattle.smt_print.proofs.Scopes.{IsUsable, AreUsable, in_variables, in_let}
 use Rattle.smt_print.proofs.SortsRead.{KnowsSorts, sort_read}
 use Rattle.smt_print.proofs.SymbolsRead.{symbol_read, word_symbol}

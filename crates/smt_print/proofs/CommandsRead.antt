@@ -1,44 +1,40 @@
 -- Printed commands are read, one by one: what each leaves known, and what it shows.
-use Rattle.std.proofs.Common.{◌≡◌, ℕ, zero, suc, ◌+◌, ◌-◌, ◌<◌, ◌≤◌, inl, inr, ◌⊎◌, Bool, true, false, not, Result, Ok, Option, Some, None, List, [], ◌∷◌, ◌++◌, length, map, replicate, refl, ap, sym, subst, ◌∙◌, arith}
-use Rattle.std.specs.Prelude.{◌&&◌, ◌||◌, nat_le, nat_lt, codes, is_some, option_map}
+use Rattle.std.proofs.Common.{◌≡◌, ℕ, zero, suc, ◌+◌, ◌≤◌, Bool, true, false, not, Result, Ok, Option, Some, None, List, [], ◌∷◌, map, refl, ap, sym, subst, ◌∙◌, arith}
+use Rattle.std.specs.Prelude.{◌&&◌, nat_le, nat_lt, codes, is_some, option_map}
 use Rattle.std.specs.List.{list_all}
 use Rattle.std.proofs.lemmas.Bool.{le-ltb, leb-true}
-use Rattle.std.proofs.lemmas.List.{length-map}
-use Rattle.smt_lex.specs.Names.{Name, IsName, is_among, is_syntax_word, is_command_word, is_reserved_for_declaring, is_reserved_for_sorts, is_internal, is_theory_sort}
-use Rattle.smt_lex.specs.Forms.{Form, atom, node, Forms, none, ◌⨾◌, forms_of_list}
-use Rattle.smt_terms.specs.Free.{names_of}
-use Rattle.smt_terms.specs.Models.{Model}
+use Rattle.smt_lex.specs.Names.{Name, is_syntax_word, is_command_word}
+use Rattle.smt_lex.specs.Forms.{Form, Forms, none, forms_of_list}
 use Rattle.smt_terms.specs.Rank.{sort_of, is_sort}
 use Rattle.smt_terms.specs.Sorts.{Sort, bool, free_sort, Symbol}
 use Rattle.smt_terms.specs.Term.{Term}
 use Rattle.smt_terms.specs.Val.{no_variables}
 use Rattle.smt_terms.proofs.Equal.{Decides-sort_eq}
-use Rattle.smt_terms.proofs.Tests.{both_true, not_true, both_false, or_false}
+use Rattle.smt_terms.proofs.Tests.{both_true, not_true, or_false}
 use Rattle.script_read.specs.declared.causes.Cause.TheVariants.{WrongSort, BadForm, Redeclared, ReservedName, NumberLimit, PopTooFar, UnsupportedOption}
-use Rattle.script_read.specs.Commands.{Command, passed, declare_sort, declare, assert, check, check_assuming, push, pop, reset, reset_assertions, globals, exit, Level, State, empty_level, levels_popped, levels_emptied, throughout, on_latest, with_sort, with_symbol, with_assertion, after, sorts_of_state, symbols_of_state, Signature}
-use Rattle.script_read.specs.Laws.{denoted}
-use Rattle.script_read.specs.Mean.{accepted_or, mean, meaning}
-use Rattle.script_read.specs.Outlines.{At, Outline, passing, sort_declaration, symbol_declaration, assertion, checking, assuming, pushing, popping, resetting, resetting_assertions, ending, global_option, of_both, numeral_at, supported, outline}
-use Rattle.script_read.specs.Parts.{place_of, symbol_in, form_text}
-use Rattle.script_read.specs.Printable.{is_usable, is_writable, sort_is_live, is_new_sort, is_new_symbol, is_printable_term, may_stand, fixes, open_levels as levels_open}
-use Rattle.script_read.specs.Read.{has_sort, is_of_sort, read}
-use Rattle.script_read.specs.Reading.{ReadBinding, sort_known, function_known, level_known, is_level_known, as_binding, as_bindings, Sofar, entry_of, live_sorts}
+use Rattle.script_read.specs.Commands.{Command, passed, declare_sort, declare, assert, check, push, pop, reset, reset_assertions, globals, exit, State, after, Signature}
+use Rattle.script_read.specs.Mean.{accepted_or, meaning}
+use Rattle.script_read.specs.Outlines.{At, Outline, passing, sort_declaration, symbol_declaration, assertion, checking, pushing, popping, resetting, resetting_assertions, ending, global_option, of_both, numeral_at, supported, outline}
+use Rattle.script_read.specs.Parts.{place_of, form_text}
+use Rattle.script_read.specs.Printable.{sort_is_live, is_new_sort, is_new_symbol, is_printable_term, fixes, open_levels as levels_open}
+use Rattle.script_read.specs.Read.{has_sort, is_of_sort}
+use Rattle.script_read.specs.Reading.{ReadBinding, sort_known, function_known, level_known, is_level_known, as_binding, as_bindings, entry_of, live_sorts}
 use Rattle.script_read.specs.Refusals.{Refused, and_then, unless, given, mapped}
 use Rattle.script_read.specs.Scenes.{Asserted, Scene, naming, seen, seen_or_none, seen_command, sort_meant, is_true_symbol, declares as seen_declares, asserts as seen_asserts}
 use Rattle.script_read.specs.Scope.{Binding, level, is_level, opened, closed, merged, flattened, popped, emptied}
-use Rattle.script_read.specs.Script.{Standing, Step, live_of, begun_with, no_context, asserted_with, of_sort, asserts, step, read_command, declares_sort, declares_symbol, declares, declarable, sort_declarable, symbol_of_sorts, most_levels, open_levels, pushed_unless, pushes, pops, truth_in, sets_globals, after_reset, after_emptying}
+use Rattle.script_read.specs.Script.{Standing, Step, begun_with, no_context, asserted_with, of_sort, step, read_command, declares, symbol_of_sorts, most_levels, open_levels, pushed_unless, truth_in, sets_globals, after_reset, after_emptying}
 use Rattle.script_read.specs.SortForms.{sort_in, sorts_in}
 use Rattle.smt_print.specs.Basics.{word_form, symbol_form, numeral_form, sort_form, truth_form, list_form, keyword_form}
 use Rattle.smt_print.specs.Laws.{MeansTheSame}
 use Rattle.smt_print.specs.Text.{command_form, sort_declaration as sort_declaration_form, declaration, globals_option}
-use Rattle.smt_print.proofs.Contexts.{AllTaken, LiveRead}
-use Rattle.smt_print.proofs.FormTexts.{end_of, placed, placed_in, placed_behind}
+use Rattle.smt_print.proofs.Contexts.{AllTaken}
+use Rattle.smt_print.proofs.FormTexts.{end_of, placed, placed_in}
 use Rattle.smt_print.proofs.LikePoints.{LikeCommand, like_passed, like_sort, like_symbol, like_assert, like_check, like_push, like_pop, like_reset, like_emptying, like_globals, like_exit}
 use Rattle.smt_print.proofs.LiveNames.{shown, shown_usual, shown_read, shown_meant, nothing_around, nothing_meant}
 use Rattle.smt_print.proofs.NamesTaken.{unplaced}
-use Rattle.smt_print.proofs.Printables.{signature_of, IsUsual, printable_fits, usable_parts, sort_fits}
-use Rattle.smt_print.proofs.Readings.{knowing, IsRead}
-use Rattle.smt_print.proofs.SortsRead.{SortFits, SortsFit, sort_read, sorts_read}
+use Rattle.smt_print.proofs.Printables.{IsUsual, printable_fits, sort_fits}
+use Rattle.smt_print.proofs.Readings.{knowing}
+use Rattle.smt_print.proofs.SortsRead.{SortsFit, sort_read, sorts_read}
 use Rattle.smt_print.proofs.Stands.{Fits, Stands}
 use Rattle.smt_print.proofs.SymbolsRead.{symbol_read, numeral_read}
 use Rattle.smt_print.proofs.Tracks.{Tracks, same_signature, usual_state, sort_new, symbol_new, tracks_assert, tracks_push, open_same, tracks_pop, tracks_reset, tracks_emptied, tracks_globals}

@@ -1,28 +1,26 @@
 -- Where a printed term stands: what is live there, which variables are quantified around it and which definitions stand
 -- above it; and what reading and meaning know of all these.
-use Rattle.std.proofs.Common.{◌≡◌, ℕ, ◌+◌, ◌<◌, ◌≤◌, inl, inr, Bool, true, false, cond, Result, Ok, Option, Some, None, List, [], ◌∷◌, ◌++◌, length, map, refl, ap, sym, subst, ◌∙◌, arith}
+use Rattle.std.proofs.Common.{◌≡◌, ℕ, inl, inr, true, false, cond, Option, Some, None, List, [], ◌∷◌, ◌++◌, length, refl, ap, sym, subst, ◌∙◌}
 use Rattle.std.specs.Prelude.{codes}
-use Rattle.smt_lex.specs.Names.{Name, is_among, is_internal, is_theory_name, is_reserved_for_declaring}
+use Rattle.smt_lex.specs.Names.{Name, is_among, is_internal, is_theory_name}
 use Rattle.smt_lex.specs.Lex.{symbol_of}
 use Rattle.smt_lex.specs.Forms.{Form, atom, node, Forms, none, ◌⨾◌}
-use Rattle.smt_terms.specs.Equal.{name_eq, symbol_eq}
+use Rattle.smt_terms.specs.Equal.{name_eq}
 use Rattle.smt_terms.specs.Free.{is_among as is_among_symbols, name_among}
 use Rattle.smt_terms.specs.Models.{Model}
 use Rattle.smt_terms.specs.Numeral.{numeral}
-use Rattle.smt_terms.specs.Rank.{most_bits, width, rank, sort_of, sorts_of}
+use Rattle.smt_terms.specs.Rank.{sort_of}
 use Rattle.smt_terms.specs.Sorts.{Sort, free_sort, Symbol, Variable}
-use Rattle.smt_terms.specs.Term.{symbol, Term, none as no_terms, constant_of, variable}
-use Rattle.smt_terms.specs.Val.{Env, assign}
+use Rattle.smt_terms.specs.Term.{Term, constant_of}
+use Rattle.smt_terms.specs.Val.{Env}
 use Rattle.smt_terms.specs.Values.{Value}
-use Rattle.smt_terms.proofs.Equal.{Decides-name_eq, Decides-symbol_eq}
+use Rattle.smt_terms.proofs.Equal.{Decides-name_eq}
 use Rattle.smt_terms.proofs.Numeral.{numeral-injective}
-use Rattle.smt_terms.proofs.Ranked.{takes-rank}
-use Rattle.smt_terms.proofs.Sorted.{sort_of-apply}
-use Rattle.smt_terms.proofs.Tests.{true_or_false, both_false}
+use Rattle.smt_terms.proofs.Tests.{true_or_false}
 use Rattle.script_read.specs.Commands.{Signature}
 use Rattle.script_read.specs.Laws.{denoted}
-use Rattle.script_read.specs.Mean.{Denoted, Meaning, over_symbol, with_bound, denoted_as}
-use Rattle.script_read.specs.Reading.{ReadLocal, lets_as, quantified_as, ReadBinding, symbol_entry, entry_of, bound_as, term_among, live_sorts, constant_as}
+use Rattle.script_read.specs.Mean.{Meaning, over_symbol, denoted_as}
+use Rattle.script_read.specs.Reading.{ReadLocal, ReadBinding, symbol_entry, entry_of, bound_as, live_sorts}
 use Rattle.script_read.specs.Scope.{or_later}
 use Rattle.smt_print.specs.TermForms.{Definition, definition_name}
 

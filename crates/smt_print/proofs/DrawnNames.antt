@@ -1,14 +1,12 @@
 -- The names that a quantifier's variables are read with are distinct, where the variables are and no name that is drawn is
 -- one of the text.
-use Rattle.std.proofs.Common.{◌≡◌, ℕ, suc, ◌<◌, ◌≤◌, inl, inr, Bool, true, false, not, Option, Some, None, List, [], ◌∷◌, length, map, refl, ap, sym, subst, ◌∙◌, arith}
-use Rattle.std.specs.Prelude.{◌&&◌, ◌||◌}
-use Rattle.std.specs.List.{list_any, list_all}
+use Rattle.std.proofs.Common.{◌≡◌, ◌<◌, inl, inr, Bool, true, false, not, List, [], ◌∷◌, length, map, refl, ap, subst, ◌∙◌, arith}
+use Rattle.std.specs.List.{list_all}
 use Rattle.smt_terms.specs.Equal.{name_eq}
 use Rattle.smt_terms.specs.Free.{name_among}
 use Rattle.smt_terms.specs.Fresh.{Supply, next_name, after_draw, NeverGives}
 use Rattle.smt_terms.specs.Rank.{is_quantifiable, has_name, are_distinct, are_bindable}
 use Rattle.smt_terms.specs.Sorts.{Name, Variable}
-use Rattle.smt_terms.proofs.Equal.{Decides-name_eq}
 use Rattle.smt_terms.proofs.Fresh.{next_name-free, never-next, never-after, never-drawn}
 use Rattle.smt_terms.proofs.Tests.{true_or_false, both_true, and_true, both_false, or_false, not_true}
 use Rattle.script_read.specs.Read.{constant_names, renamed}

@@ -1,6 +1,6 @@
 -- What printed heads mean over operands, and printed terms without operands.
-use Rattle.std.proofs.Common.{◌≡◌, ℕ, suc, ◌+◌, ◌-◌, ◌/◌, ◌%◌, ◌^◌, ◌<◌, ◌≤◌, inl, inr, ◌⊎◌, Bool, true, false, eqb, not, Result, Ok, Option, Some, None, List, [], ◌∷◌, ◌++◌, length, map, refl, ap, sym, subst, ◌∙◌, arith}
-use Rattle.std.specs.Prelude.{codes, unwrap_or, nat_abs, ℤ, pos, negsuc, option_and_then, neg_ℤ}
+use Rattle.std.proofs.Common.{◌≡◌, ℕ, suc, ◌/◌, ◌%◌, ◌^◌, ◌<◌, ◌≤◌, inl, inr, Bool, true, false, eqb, Ok, Some, None, List, [], ◌∷◌, ◌++◌, map, refl, ap, sym, subst, ◌∙◌, arith}
+use Rattle.std.specs.Prelude.{codes, unwrap_or, nat_abs, ℤ, pos, negsuc, option_and_then}
 use Rattle.std.proofs.lemmas.Bool.{le-ltb}
 use Rattle.smt_lex.specs.declared.items.Item.TheVariants.{Numeral, Hex, Bin, Word}
 use Rattle.smt_lex.specs.Lex.{Token, symbol_of}
@@ -12,25 +12,23 @@ use Rattle.smt_terms.specs.Free.{is_among as is_among_symbols}
 use Rattle.smt_terms.specs.Models.{Model, background, symbol_value}
 use Rattle.smt_terms.specs.Numeral.{numeral}
 use Rattle.smt_terms.specs.Operators.{op_value, first_value}
-use Rattle.smt_terms.specs.Rank.{most_bits, width, rank, sort_of, sorts_of, sort_over, with_sort}
-use Rattle.smt_terms.specs.Sorts.{Sort, bool, int, bit_vector, Symbol, Variable}
-use Rattle.smt_terms.specs.Term.{Head, op, symbol, const_array, Term, apply, Terms, none as no_terms, ◌⨾◌, list, constant_of}
-use Rattle.smt_terms.specs.Val.{Env, val, vals}
+use Rattle.smt_terms.specs.Rank.{most_bits, width, rank, sorts_of, sort_over, with_sort}
+use Rattle.smt_terms.specs.Sorts.{Sort, bool, int, Symbol, Variable}
+use Rattle.smt_terms.specs.Term.{Head, op, symbol, const_array, Term, apply, Terms, none as no_terms, ◌⨾◌}
+use Rattle.smt_terms.specs.Val.{Env}
 use Rattle.smt_terms.specs.Values.{Value, table, no_pairs, whole}
-use Rattle.smt_terms.specs.Written.{Written, Indexed, operator_named, at_indices, written_named, build}
+use Rattle.smt_terms.specs.Written.{Written, Indexed, operator_named, at_indices, written_named}
 use Rattle.smt_terms.proofs.Operands.{fewer_sorts}
 use Rattle.smt_terms.proofs.Sorted.{sort_of-apply, sorted}
 use Rattle.smt_terms.proofs.Ranked.{rank-takes}
 use Rattle.script_read.specs.Commands.{Signature}
 use Rattle.script_read.specs.Laws.{denoted}
-use Rattle.script_read.specs.Mean.{Denoted, Meaning, values_of, sorts_denoted, over_op, over_symbol, over_array, denoted_width, value_algebra, over_written, denoted_as, over_constant, truth_of, live_or, denoted_or, symbol_or_nothing, symbol_means, token_means, array_of, named_means, symbol_head_means, head_means, mean}
-use Rattle.script_read.specs.Parts.{constant_by, symbol_in, numerals_in}
-use Rattle.script_read.specs.SortForms.{sort_in}
-use Rattle.smt_print.specs.Basics.{word_form, symbol_form, numeral_form, sort_form, constant_array_form, truth_form, integer_form, last_digits, vector_form}
+use Rattle.script_read.specs.Mean.{Denoted, Meaning, values_of, over_op, over_symbol, over_array, denoted_width, value_algebra, over_written, denoted_as, over_constant, truth_of, live_or, denoted_or, symbol_or_nothing, token_means, array_of, named_means, symbol_head_means, head_means, mean}
+use Rattle.script_read.specs.Parts.{constant_by, numerals_in}
+use Rattle.smt_print.specs.Basics.{word_form, symbol_form, numeral_form, constant_array_form, truth_form, integer_form, last_digits, vector_form}
 use Rattle.smt_print.specs.TermForms.{Definition, operator_form, head_form, application_form}
-use Rattle.smt_print.proofs.Contexts.{lookup, LiveMeant, MeantScope}
 use Rattle.smt_print.proofs.Digits.{numeral_value, binary_constant}
-use Rattle.smt_print.proofs.FormTexts.{end_of, token_at, placed, placed_in, placed_behind}
+use Rattle.smt_print.proofs.FormTexts.{end_of, token_at, placed, placed_behind}
 use Rattle.smt_print.proofs.HeadsRead.{IsOperatorName, operator_name, indices_read, operator_reads}
 use Rattle.smt_print.proofs.LeavesRead.{IsLeaf, truth_leaf, whole_leaf, bits_leaf, leaf, hex_vector, usual_true, usual_false, SymbolFits, HeadFits, no_filling, live_head_symbol, whole_rank, minus_rank, constant_sort}
 use Rattle.smt_print.proofs.Meanings.{Means, HeadMeans, each_denoted, denoted_sorts, denoted_values, means_application, bound_means}

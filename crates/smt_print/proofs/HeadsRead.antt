@@ -1,31 +1,28 @@
 -- Printed heads of applications are read.
-use Rattle.std.proofs.Common.{◌≡◌, ℕ, suc, ◌<◌, ◌≤◌, inl, inr, ◌⊎◌, Bool, true, false, not, Result, Ok, Option, Some, None, List, [], ◌∷◌, length, map, refl, ap, sym, subst, ◌∙◌, arith}
+use Rattle.std.proofs.Common.{◌≡◌, ℕ, suc, true, false, not, Ok, Some, None, List, [], ◌∷◌, map, refl, ap, sym, subst, ◌∙◌}
 use Rattle.std.specs.Prelude.{◌&&◌, nat_lt, codes, unwrap_or, is_some}
-use Rattle.smt_lex.specs.declared.items.Item.TheVariants.{Word}
 use Rattle.smt_lex.specs.Names.{Name, is_reserved, is_syntax_word, is_command_word, is_theory_name, is_internal}
-use Rattle.smt_lex.specs.Forms.{Form, node, Forms, none, ◌⨾◌, forms_of_list}
+use Rattle.smt_lex.specs.Forms.{Form, Forms, none, ◌⨾◌, forms_of_list}
 use Rattle.smt_terms.specs.declared.op.Op.{Op}
 use Rattle.smt_terms.specs.Free.{is_among as is_among_symbols}
-use Rattle.smt_terms.specs.Rank.{most_bits, width, operand, rank, sort_of, sorts_of}
+use Rattle.smt_terms.specs.Rank.{width, rank, sort_of, sorts_of}
 use Rattle.smt_terms.specs.Sorts.{Sort, bool, Symbol, Variable}
-use Rattle.smt_terms.specs.Term.{Head, op, symbol, const_array, Term, apply, Terms, terms, over, constant_of}
+use Rattle.smt_terms.specs.Term.{Head, op, symbol, const_array, Term, terms, over}
 use Rattle.smt_terms.specs.Written.{Written, Indexed, operator_named, at_indices, written_rank, build}
 use Rattle.smt_terms.proofs.Made.{made-sort}
 use Rattle.smt_terms.proofs.Operands.{fewer_sorts}
-use Rattle.smt_terms.proofs.Ranked.{rank-takes}
 use Rattle.smt_terms.proofs.Sorted.{sort_of-apply, sorted}
 use Rattle.smt_terms.proofs.Tests.{both_true, not_true}
 use Rattle.script_read.specs.declared.causes.Cause.TheVariants.{UnknownName, NumberLimit}
 use Rattle.script_read.specs.Commands.{Signature}
-use Rattle.script_read.specs.Heads.{Callee, written, array_of_sort, called, indices_within, written_at, theory_head, live_head, named_head, indexed_head, atom_head, list_head, filling_head, callee_of, applied, term_algebra, term_width, operand_sorts, where_ranked}
-use Rattle.script_read.specs.Parts.{greatest_number, numeral_by, numeral_in, numerals_with, numerals_in, head, opening, symbol_in}
-use Rattle.script_read.specs.Reading.{ReadLocal, ReadBinding, Sofar, symbol_entry, entry_of, bound_as, beside, live_sorts}
+use Rattle.script_read.specs.Heads.{Callee, written, array_of_sort, called, indices_within, written_at, theory_head, live_head, named_head, indexed_head, atom_head, callee_of, applied, term_algebra, term_width, operand_sorts, where_ranked}
+use Rattle.script_read.specs.Parts.{greatest_number, numeral_in, numerals_with, numerals_in, head, opening}
+use Rattle.script_read.specs.Reading.{ReadLocal, ReadBinding, Sofar, entry_of, bound_as, beside, live_sorts}
 use Rattle.script_read.specs.Refusals.{unless, mapped}
-use Rattle.script_read.specs.SortForms.{sort_in}
-use Rattle.smt_print.specs.Basics.{word_form, symbol_form, numeral_form, sort_form, constant_array_form}
+use Rattle.smt_print.specs.Basics.{word_form, symbol_form, numeral_form, constant_array_form}
 use Rattle.smt_print.specs.TermForms.{Definition, operator_form}
-use Rattle.smt_print.proofs.Contexts.{lookup, LiveRead, InScope}
-use Rattle.smt_print.proofs.FormTexts.{end_of, placed, placed_in, placed_behind}
+use Rattle.smt_print.proofs.Contexts.{lookup, InScope}
+use Rattle.smt_print.proofs.FormTexts.{end_of, placed, placed_behind}
 use Rattle.smt_print.proofs.OperatorViews.{is_operator_name, named_form, AreSmall, View}
 use Rattle.smt_print.proofs.Readings.{HeadReads}
 use Rattle.smt_print.proofs.SortsRead.{SortFits, sort_read}

@@ -1,15 +1,15 @@
 -- Printed terms without operands are read: constants of the theories, symbols and quantified variables.
-use Rattle.std.proofs.Common.{◌≡◌, ℕ, zero, suc, ◌+◌, ◌-◌, ◌*◌, ◌/◌, ◌%◌, ◌^◌, ◌<◌, ◌≤◌, inl, inr, ◌⊎◌, Bool, true, false, eqb, not, Result, Ok, Option, Some, None, List, [], ◌∷◌, ◌++◌, length, map, refl, ap, sym, subst, ◌∙◌, arith}
-use Rattle.std.specs.Prelude.{◌&&◌, ◌||◌, nat_lt, nat_abs, codes, ℤ, pos, negsuc, int_lt, unsigned_abs, if◌then◌else◌}
+use Rattle.std.proofs.Common.{◌≡◌, ℕ, zero, suc, ◌*◌, ◌/◌, ◌%◌, ◌^◌, ◌<◌, ◌≤◌, inl, inr, ◌⊎◌, Bool, true, false, eqb, Ok, Some, None, List, [], ◌∷◌, ◌++◌, refl, ap, sym, subst, ◌∙◌, arith}
+use Rattle.std.specs.Prelude.{nat_abs, codes, ℤ, pos, negsuc}
 use Rattle.std.proofs.lemmas.Bool.{le-ltb, eqb-true}
 use Rattle.std.proofs.lemmas.Nat.{div-add-mod'}
 use Rattle.std.proofs.Math.Nat.{pow-suc}
 use Rattle.smt_lex.specs.declared.items.Item.TheVariants.{Numeral, Hex, Bin, Word}
 use Rattle.smt_lex.specs.Names.{Name, IsName, printed_symbol, is_reserved, is_syntax_word, is_command_word, is_theory_name, is_internal}
 use Rattle.smt_lex.specs.Lex.{Token, symbol_of}
-use Rattle.smt_lex.specs.Forms.{Form, atom, node, Forms, none, ◌⨾◌}
+use Rattle.smt_lex.specs.Forms.{atom}
 use Rattle.smt_terms.specs.declared.op.Op.{Op}
-use Rattle.smt_terms.specs.declared.op.Op.TheVariants.{Truth, Whole, Bits, Sym, Forall, Exists, ConstArray, Neg}
+use Rattle.smt_terms.specs.declared.op.Op.TheVariants.{Truth, Whole, Bits, Neg}
 use Rattle.smt_terms.specs.Free.{is_among as is_among_symbols}
 use Rattle.smt_terms.specs.Numeral.{numeral}
 use Rattle.smt_terms.specs.Rank.{shape, most_bits, width, rank, sort_of}
@@ -28,11 +28,11 @@ use Rattle.smt_print.specs.TermForms.{Definition, operator_form, head_form, appl
 use Rattle.smt_print.proofs.BindersRead.{bound_atom}
 use Rattle.smt_print.proofs.Contexts.{lookup, LiveRead, InScope}
 use Rattle.smt_print.proofs.Digits.{numeral_value, hex_constant, binary_constant}
-use Rattle.smt_print.proofs.FormTexts.{placed, token_at}
+use Rattle.smt_print.proofs.FormTexts.{token_at}
 use Rattle.smt_print.proofs.HeadsRead.{IsOperatorName, operator_reads, symbol_reads, array_reads}
 use Rattle.smt_print.proofs.OperatorViews.{view}
 use Rattle.smt_print.proofs.Writable.{tell}
-use Rattle.smt_print.proofs.Readings.{knowing, IsRead, Reads, HeadReads, reads_application}
+use Rattle.smt_print.proofs.Readings.{knowing, Reads, HeadReads, reads_application}
 use Rattle.smt_print.proofs.SortsRead.{SortFits}
 use Rattle.smt_print.proofs.SymbolsRead.{symbol_item, symbol_read, symbol_no_constant, word_symbol}
 
@@ -150,10 +150,6 @@ theory_atom ls bs p n free unbound unused =
 truth_rank : (b : Bool) → rank (op (Truth b)) [] ≡ Ok bool
 unfolding rank shape
 truth_rank b = refl
-
-pub truth_name : Bool → Name
-truth_name true = codes "true"
-truth_name false = codes "false"
 
 reads_truth_word : (g : Signature) (scope : List Variable) (ds : List Definition) (n : Name) (b : Bool) → IsOperatorName n → ((p : ℕ) → theory_symbol p n ≡ Ok (apply (op (Truth b)) no_terms)) → Reads g scope ds (word_form n) (Some bool)
 reads_truth_word g scope ds n b usual is =

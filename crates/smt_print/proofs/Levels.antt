@@ -1,10 +1,10 @@
 -- The live bindings of a text that is read, as the levels of a state.
-use Rattle.std.proofs.Common.{◌≡◌, ℕ, zero, suc, ◌+◌, ◌-◌, ◌<◌, ◌≤◌, inl, inr, ◌⊎◌, Bool, true, false, not, cond, Option, Some, None, List, [], ◌∷◌, ◌++◌, length, map, drop, replicate, refl, ap, sym, subst, ◌∙◌, arith, append_assoc, append-nil}
-use Rattle.std.specs.Prelude.{count_by, filter}
+use Rattle.std.proofs.Common.{◌≡◌, ℕ, zero, suc, ◌+◌, ◌<◌, ◌≤◌, Bool, true, false, cond, List, [], ◌∷◌, ◌++◌, length, map, drop, replicate, refl, ap, sym, ◌∙◌, arith, append_assoc, append-nil}
+use Rattle.std.specs.Prelude.{count_by}
 use Rattle.std.proofs.lemmas.List.{drop-map}
 use Rattle.std.proofs.lemmas.List.Sums.{sum_by-cons}
 use Rattle.smt_terms.specs.Sorts.{Name, Symbol}
-use Rattle.script_read.specs.Commands.{Level, State, empty_level, throughout, on_latest, with_sort, with_symbol, with_assertion, with_declarations, folded, levels_popped, levels_emptied}
+use Rattle.script_read.specs.Commands.{Level, empty_level, throughout, on_latest, with_sort, with_symbol, with_declarations, folded, levels_popped, levels_emptied}
 use Rattle.script_read.specs.Reading.{ReadBinding, sort_known, function_known, definition_as, named_as, level_known, is_level_known}
 use Rattle.script_read.specs.Scope.{opened, closed, merged, flattened, popped, emptied}
 
@@ -36,9 +36,6 @@ bare_sort n (l ∷ ls) = refl
 pub bare_symbol : {A : Type 0} (f : Symbol) (ls : List (Level A)) → bare_levels (on_latest (with_symbol f) ls) ≡ on_latest (with_symbol f) (bare_levels ls)
 bare_symbol f [] = refl
 bare_symbol f (l ∷ ls) = refl
-
-pub bare_assertion : {A : Type 0} (a : A) (l : Level A) (ls : List (Level A)) → bare_levels (on_latest (with_assertion a) (l ∷ ls)) ≡ bare_levels (l ∷ ls)
-bare_assertion a l ls = refl
 
 pub bare_pushed : {A : Type 0} (n : ℕ) (ls : List (Level A)) → bare_levels (replicate n empty_level ++ ls) ≡ replicate n empty_level ++ bare_levels ls
 bare_pushed zero ls = refl

@@ -1,7 +1,7 @@
 -- Commands that are alike, but for what their assertions hold, have points that are alike.
-use Rattle.std.proofs.Common.{◌≡◌, ℕ, zero, suc, Bool, true, false, List, [], ◌∷◌, ◌++◌, map, length, replicate, drop, Option, Some, None, refl, ap, sym, subst, ◌∙◌}
+use Rattle.std.proofs.Common.{◌≡◌, ℕ, zero, suc, Bool, true, false, List, [], ◌∷◌, ◌++◌, map, replicate, drop, Option, Some, None, refl, ap, subst, ◌∙◌}
 use Rattle.smt_terms.specs.Sorts.{Name, Symbol}
-use Rattle.script_read.specs.Commands.{Command, passed, declare_sort, declare, assert, check, check_assuming, push, pop, reset, reset_assertions, globals, exit, Level, State, empty_level, start, throughout, on_latest, with_sort, with_symbol, with_assertion, with_declarations, folded, levels_popped, levels_emptied, with_levels, after, Kind, Point, with_point, points_from, points, kinds, nth_point, at_point, live_in, sorts_of_state, symbols_of_state, live, literals, signature, Signature}
+use Rattle.script_read.specs.Commands.{Command, passed, declare_sort, declare, assert, check, check_assuming, push, pop, reset, reset_assertions, globals, exit, Level, State, empty_level, start, throughout, on_latest, with_sort, with_symbol, with_assertion, with_declarations, folded, levels_popped, levels_emptied, after, Point, with_point, points_from, points, kinds, nth_point, at_point, live_in, sorts_of_state, symbols_of_state, live, literals, signature, Signature}
 use Rattle.smt_print.specs.Laws.{Each}
 
 -- the same command; the text of one that is passed on and the number of an assertion don't count

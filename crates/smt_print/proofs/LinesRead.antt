@@ -1,20 +1,17 @@
 -- The text of commands is read as their forms, one for each line, up to an `(exit)`.
-use Rattle.std.proofs.Common.{◌≡◌, ℕ, suc, ◌-◌, Bool, true, false, Result, Ok, List, [], ◌∷◌, ◌++◌, length, refl, ap, sym, subst, ◌∙◌, arith, append_assoc, ◌⊎◌, inl, inr}
-use Rattle.std.specs.Prelude.{codes, flat_map}
+use Rattle.std.proofs.Common.{◌≡◌, ℕ, suc, false, Ok, List, [], ◌∷◌, ◌++◌, refl, ap, sym, subst, ◌∙◌, arith, append_assoc, ◌⊎◌, inl, inr}
 use Rattle.std.proofs.lemmas.Bool.{ne_eqb}
 use Rattle.smt_lex.specs.declared.items.Item.{Item}
-use Rattle.smt_lex.specs.declared.items.Item.TheVariants.{Left, Right, Word}
-use Rattle.smt_lex.specs.declared.items.Until.TheVariants.{Exit}
+use Rattle.smt_lex.specs.declared.items.Item.TheVariants.{Left, Right}
 use Rattle.smt_lex.specs.Lexicon.{line_feed}
 use Rattle.smt_lex.specs.Lex.{Token, Lexed, ended, next, lex_from}
-use Rattle.smt_lex.specs.Forms.{Form, atom, node, Forms, none, ◌⨾◌, is_exit_word, depth_after, balanced, to_exit, rest, as_forms, forms_to_exit, begins_with_exit, first_tokens}
+use Rattle.smt_lex.specs.Forms.{Form, atom, node, Forms, none, ◌⨾◌, is_exit_word, depth_after, balanced, to_exit, rest, as_forms, forms_to_exit}
 use Rattle.smt_lex.proofs.Joining.{lex_line_before}
 use Rattle.smt_terms.specs.Term.{Term}
-use Rattle.script_read.specs.Commands.{Command, passed, declare_sort, declare, assert, check, check_assuming, push, pop, reset, reset_assertions, globals, exit}
-use Rattle.script_read.specs.Outlines.{passing, outline}
+use Rattle.script_read.specs.Commands.{Command}
 use Rattle.script_read.specs.Parts.{form_text}
 use Rattle.smt_print.specs.Text.{command_text, lines_in}
-use Rattle.smt_print.proofs.FormTexts.{IsInner, IsWritten, AreWritten, end_of, end_in, end_behind, placed, token_at, left_at, right_at, lexed_form, lexed_in, lexed_behind, listed, lex_form, form_balanced, with_form, form_rest}
+use Rattle.smt_print.proofs.FormTexts.{IsInner, IsWritten, AreWritten, end_of, end_in, placed, token_at, left_at, right_at, lexed_form, lexed_in, lexed_behind, listed, lex_form, form_balanced, with_form, form_rest}
 
 -- ---- lines
 
@@ -76,7 +73,6 @@ mutual
 pub list_goes_on : (w : Token) (fs : Forms) → IsWritten (node 0 (atom w ⨾ fs)) → is_exit_word w.item w.text ≡ false → GoesOn (λ p ts. lexed_form p (node 0 (atom w ⨾ fs)) ts)
 list_goes_on w fs are other p ts =
     let right = right_at (end_in (suc p) (atom w ⨾ fs)) in
-    let inside = lexed_in (suc p) (atom w ⨾ fs) (next right ts) in
     rw other (ap (next (left_at p)) (deep_in (atom w ⨾ fs) (suc p) 0 (next right ts) are ∙ ap (lexed_in (suc p) (atom w ⨾ fs)) (deep_right (end_in (suc p) (atom w ⨾ fs)) 0 ts)))
 
 -- ---- commands

@@ -1,47 +1,45 @@
 -- Printed literals of `check-sat-assuming` are read, and mean what they value to.
-use Rattle.std.proofs.Common.{◌≡◌, ℕ, suc, ◌<◌, ◌≤◌, inl, inr, Bool, true, false, cond, eqb, Result, Ok, Option, Some, None, List, [], ◌∷◌, length, map, refl, ap, sym, subst, ◌∙◌, arith}
+use Rattle.std.proofs.Common.{◌≡◌, ℕ, suc, inr, Bool, true, cond, Ok, Some, None, List, [], ◌∷◌, length, map, refl, ap, sym, subst, ◌∙◌, arith}
 use Rattle.std.specs.Prelude.{◌&&◌, ◌==◌, codes, option_map}
 use Rattle.std.specs.List.{list_all}
 use Rattle.std.proofs.lemmas.Bool.{eqb-true}
-use Rattle.smt_lex.specs.Names.{Name, is_internal, is_syntax_word, is_command_word}
+use Rattle.smt_lex.specs.Names.{Name, is_syntax_word, is_command_word}
 use Rattle.smt_lex.specs.Forms.{Form, Forms, none, forms_of_list}
 use Rattle.smt_terms.specs.declared.op.Op.TheVariants.{Not}
 use Rattle.smt_terms.specs.Connectives.{negated}
 use Rattle.smt_terms.specs.Equal.{sort_eq}
 use Rattle.smt_terms.specs.Free.{is_among as is_among_symbols}
-use Rattle.smt_terms.specs.Models.{Model}
 use Rattle.smt_terms.specs.Rank.{rank, shape}
 use Rattle.smt_terms.specs.Shapes.{is_bool}
 use Rattle.smt_terms.specs.Sorts.{Sort, bool, int, bit_vector, array, free_sort, Symbol}
-use Rattle.smt_terms.specs.Term.{Head, op, symbol, const_array, Term, apply, quantified, Terms, none as no_terms, ◌⨾◌, constant}
+use Rattle.smt_terms.specs.Term.{op, symbol, const_array, Term, apply, quantified, none as no_terms, ◌⨾◌, constant}
 use Rattle.smt_terms.specs.Val.{no_variables}
 use Rattle.smt_terms.proofs.Ranked.{takes-rank}
 use Rattle.smt_terms.proofs.Tests.{both_true}
-use Rattle.script_read.specs.Commands.{Command, check_assuming, State, Signature, symbols_of_state}
+use Rattle.script_read.specs.Commands.{check_assuming, State, Signature, symbols_of_state}
 use Rattle.script_read.specs.Mean.{meaning}
-use Rattle.script_read.specs.Outlines.{Outline, assuming, supported, outline}
+use Rattle.script_read.specs.Outlines.{assuming, supported, outline}
 use Rattle.script_read.specs.Printable.{is_live_constant, is_live_literal}
-use Rattle.script_read.specs.Reading.{ReadBinding, as_bindings, entry_of}
+use Rattle.script_read.specs.Reading.{ReadBinding, as_bindings}
 use Rattle.script_read.specs.Refusals.{and_then, given, mapped}
-use Rattle.script_read.specs.Scenes.{Asserted, literals_meant}
-use Rattle.script_read.specs.Scope.{Binding}
-use Rattle.script_read.specs.Script.{Standing, begun_with, boolean_constant, constant_entry, declared_constant, literal, literals_in, assumes}
+use Rattle.script_read.specs.Scenes.{literals_meant}
+use Rattle.script_read.specs.Script.{Standing, begun_with, boolean_constant, constant_entry, declared_constant, literal, literals_in}
 use Rattle.script_read.specs.declared.causes.Cause.TheVariants.{BadForm}
 use Rattle.script_read.specs.Parts.{place_of}
-use Rattle.smt_print.specs.Basics.{word_form, symbol_form, list_form}
+use Rattle.smt_print.specs.Basics.{word_form, list_form}
 use Rattle.smt_print.specs.TermForms.{operator_form, tree_form}
 use Rattle.smt_print.specs.Text.{command_form}
 use Rattle.smt_print.specs.Laws.{Each, MeansTheSame}
 use Rattle.smt_print.proofs.CommandsRead.{Follows, IsReadFrom, from_outline}
 use Rattle.smt_print.proofs.Contexts.{first_form, LiveRead}
 use Rattle.smt_print.proofs.FormTexts.{end_of, placed, placed_in, placed_behind}
-use Rattle.smt_print.proofs.LikePoints.{LikeCommand, like_assuming}
+use Rattle.smt_print.proofs.LikePoints.{like_assuming}
 use Rattle.smt_print.proofs.LiveNames.{AreDeclared, shown, shown_usual, shown_read, shown_meant, nothing_meant}
 use Rattle.smt_print.proofs.Printables.{signature_of, IsUsual, usable_parts}
 use Rattle.smt_print.proofs.Scopes.{free_outer}
 use Rattle.smt_print.proofs.Stands.{Fits, tree_stands}
 use Rattle.smt_print.proofs.SymbolsRead.{symbol_read}
-use Rattle.smt_print.proofs.Tracks.{Tracks, same_signature}
+use Rattle.smt_print.proofs.Tracks.{same_signature}
 
 -- a live Boolean constant, or its negation
 pub data IsLiteral (g : Signature) : Term → Type 0 where

@@ -1,22 +1,22 @@
 -- What live bindings of declarations say of names.
-use Rattle.std.proofs.Common.{◌≡◌, ℕ, zero, suc, ◌<◌, ◌≤◌, inl, inr, ◌⊎◌, Bool, true, false, not, cond, Option, Some, None, List, [], ◌∷◌, ◌++◌, map, replicate, refl, ap, sym, subst, ◌∙◌}
-use Rattle.std.specs.Prelude.{◌||◌, bytes_eq}
+use Rattle.std.proofs.Common.{◌≡◌, ℕ, zero, suc, inl, inr, ◌⊎◌, Bool, true, false, cond, Some, None, List, [], ◌∷◌, ◌++◌, refl, ap, sym, subst, ◌∙◌}
+use Rattle.std.specs.Prelude.{bytes_eq}
 use Rattle.std.specs.List.{list_any}
 use Rattle.std.proofs.lemmas.List.{map-append}
-use Rattle.smt_lex.specs.Names.{Name, IsName, is_among, is_theory_name, is_theory_sort, is_reserved_for_declaring}
+use Rattle.smt_lex.specs.Names.{Name, IsName, is_among, is_theory_name, is_theory_sort}
 use Rattle.smt_terms.specs.Equal.{name_eq, symbol_eq}
 use Rattle.smt_terms.specs.Free.{is_among as is_among_symbols, names_of}
 use Rattle.smt_terms.specs.Models.{Model}
-use Rattle.smt_terms.specs.Sorts.{Sort, free_sort, Symbol}
+use Rattle.smt_terms.specs.Sorts.{free_sort, Symbol}
 use Rattle.smt_terms.specs.Val.{no_variables}
 use Rattle.smt_terms.proofs.Among.{is_among-append}
 use Rattle.smt_terms.proofs.Equal.{Decides-name_eq, Decides-symbol_eq}
-use Rattle.smt_terms.proofs.Tests.{true_or_false, either_true, left_true, right_true, both_false, or_false}
+use Rattle.smt_terms.proofs.Tests.{either_true, left_true, right_true, both_false, or_false}
 use Rattle.script_read.specs.Commands.{Signature}
-use Rattle.script_read.specs.Mean.{Meaning, over_symbol, with_live, with_sort_name, with_binding, meaning}
+use Rattle.script_read.specs.Mean.{over_symbol, meaning}
 use Rattle.script_read.specs.Printable.{is_usable}
-use Rattle.script_read.specs.Reading.{ReadBinding, sort_known, function_known, definition_as, named_as, level_known, is_level_known, as_binding, as_bindings, Entry, symbol_entry, entry_of, live_sorts}
-use Rattle.script_read.specs.Scope.{or_later, live_sort, opened, closed, merged, flattened, popped, emptied}
+use Rattle.script_read.specs.Reading.{ReadBinding, sort_known, function_known, definition_as, named_as, level_known, is_level_known, as_bindings, Entry, symbol_entry, entry_of, live_sorts}
+use Rattle.script_read.specs.Scope.{or_later, opened, closed, merged, flattened, popped, emptied}
 use Rattle.smt_print.proofs.Contexts.{LiveRead, InScope, LiveMeant, MeantScope, other_name, same_name}
 use Rattle.smt_print.proofs.Levels.{sorts_known, symbols_known}
 use Rattle.smt_print.proofs.Printables.{IsUsual, usable_parts}
@@ -55,15 +55,15 @@ symbol_last fs g f h = elim (either_true (is_among_symbols fs f) (is_among_symbo
 
 -- ---- reading
 
-still_there : (n k : Name) (a : Entry) (bs : List ReadBinding) (f : Symbol) → entry_of bs n ≡ None → entry_of bs f.name ≡ Some (symbol_entry f) → or_later (name_eq n f.name) a (entry_of bs f.name) ≡ Some (symbol_entry f)
-still_there n k a bs f new found =
+still_there : (n : Name) (a : Entry) (bs : List ReadBinding) (f : Symbol) → entry_of bs n ≡ None → entry_of bs f.name ≡ Some (symbol_entry f) → or_later (name_eq n f.name) a (entry_of bs f.name) ≡ Some (symbol_entry f)
+still_there n a bs f new found =
     behind_other (name_eq n f.name) a (entry_of bs f.name) (other_name n f.name (λ same. absurd (let old : entry_of bs n ≡ Some (symbol_entry f) = ap (entry_of bs) same ∙ found in cc))) ∙ found
 
 pub known_symbol : (bs : List ReadBinding) (f : Symbol) → AreDeclared bs → is_among_symbols (symbols_known bs) f ≡ true → entry_of bs f.name ≡ Some (symbol_entry f)
 known_symbol [] f are h = absurd (cc)
 known_symbol (sort_known n s ∷ bs) f are h = known_symbol bs f are.4 h
 known_symbol (function_known g ∷ bs) f are h = elim (symbol_last (symbols_known bs) g f h) [
-  | inl before ↦ still_there g.name g.name (symbol_entry g) bs f are.1 (known_symbol bs f are.2 before)
+  | inl before ↦ still_there g.name (symbol_entry g) bs f are.1 (known_symbol bs f are.2 before)
   | inr same ↦ at_first (name_eq g.name f.name) (symbol_entry g) (entry_of bs f.name) (same_name g.name f.name (ap (λ k. k.name) same)) ∙ ap (λ k. Some (symbol_entry k)) same
 ]
 known_symbol (level_known ∷ bs) f are h = known_symbol bs f are h

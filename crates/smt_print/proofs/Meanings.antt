@@ -1,10 +1,10 @@
 -- What printed forms mean, put together: applications, quantifiers, `let` and names of definitions.
-use Rattle.std.proofs.Common.{◌≡◌, ℕ, suc, inl, inr, Bool, true, false, Result, Ok, Option, Some, None, List, [], ◌∷◌, length, map, refl, ap, sym, subst, ◌∙◌}
-use Rattle.std.specs.Prelude.{codes, unwrap_or}
+use Rattle.std.proofs.Common.{◌≡◌, ℕ, suc, inl, inr, Bool, true, false, Some, None, List, [], ◌∷◌, length, map, refl, ap, sym, ◌∙◌}
+use Rattle.std.specs.Prelude.{codes}
 use Rattle.smt_lex.specs.declared.items.Item.TheVariants.{Word}
-use Rattle.smt_lex.specs.Lex.{Token, symbol_by, symbol_of}
-use Rattle.smt_lex.specs.Names.{Name, is_reserved, is_syntax_word, is_command_word}
-use Rattle.smt_lex.specs.Forms.{Form, atom, node, Forms, none, forms_of_list}
+use Rattle.smt_lex.specs.Lex.{Token, symbol_of}
+use Rattle.smt_lex.specs.Names.{Name, is_reserved}
+use Rattle.smt_lex.specs.Forms.{Form, atom, node, none, forms_of_list}
 use Rattle.smt_terms.specs.Equal.{term_eq}
 use Rattle.smt_terms.specs.Models.{Model}
 use Rattle.smt_terms.specs.Rank.{with_sort, sort_of, sorts_of, are_bindable}
@@ -17,8 +17,8 @@ use Rattle.smt_terms.proofs.Sorted.{sort_of-quantified}
 use Rattle.smt_terms.proofs.Tests.{true_or_false}
 use Rattle.script_read.specs.Commands.{Signature}
 use Rattle.script_read.specs.Laws.{denoted}
-use Rattle.script_read.specs.Mean.{Denoted, Meaning, is_true_of, values_of, sorts_denoted, with_bound, denoted_as, over_variables, accepted_or, quantified_variables, quantifier_means, let_pair, with_all, symbol_or_nothing, denoted_or, live_or, over_constant, truth_of, token_means, head_means, mean, mean_list, mean_bindings, mean_all}
-use Rattle.script_read.specs.Parts.{Opening, head, opening, symbol_in, constant_by, quantifier_word as quantifier_opening}
+use Rattle.script_read.specs.Mean.{Denoted, Meaning, is_true_of, values_of, sorts_denoted, with_bound, denoted_as, over_variables, accepted_or, quantified_variables, quantifier_means, let_pair, with_all, symbol_or_nothing, denoted_or, live_or, over_constant, truth_of, token_means, head_means, mean, mean_list, mean_all}
+use Rattle.script_read.specs.Parts.{head, opening, symbol_in, constant_by}
 use Rattle.smt_print.specs.Basics.{word_form, list_form, variable_form}
 use Rattle.smt_print.specs.TermForms.{Definition, definition_name, is_defined, defined_name, application_form, quantifier_word, quantified_form, let_form}
 use Rattle.smt_print.proofs.BindersRead.{word_begins, let_begins, variables_read, definition_unreserved, defined_is}

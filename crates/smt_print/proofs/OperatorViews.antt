@@ -1,6 +1,6 @@
 -- What is written for an operator over operands, and what a written operator means there: one record for each operator, so
 -- that nothing else goes by cases over them.
-use Rattle.std.proofs.Common.{◌≡◌, ℕ, zero, suc, ◌+◌, ◌%◌, ◌<◌, ◌≤◌, Bool, true, false, not, Result, Ok, Err, Some, None, List, [], ◌∷◌, length, map, refl, ap, sym, subst, ◌∙◌, arith}
+use Rattle.std.proofs.Common.{◌≡◌, ℕ, ◌+◌, ◌%◌, ◌<◌, ◌≤◌, Bool, true, false, not, Result, Ok, Err, Some, None, List, [], ◌∷◌, length, map, refl, ap, sym, ◌∙◌, arith}
 use Rattle.std.specs.Prelude.{◌&&◌, nat_lt, nat_le, if◌then◌else◌, replicate, codes}
 use Rattle.std.proofs.Math.Nat.{mod-eq_of_lt}
 use Rattle.std.proofs.lemmas.Bool.{le-ltb}
@@ -12,7 +12,7 @@ use Rattle.smt_terms.specs.Rank.{wrong_arity, shape, most_bits, width, operand, 
 use Rattle.smt_terms.specs.Sorts.{Sort, bool, int, bit_vector}
 use Rattle.smt_terms.specs.Term.{op}
 use Rattle.smt_terms.specs.Written.{Written, plain, over_all, left_associative, right_associative, chainable, subtraction, left_rotation, right_rotation, Indexed, without_index, with_index, with_indices, operator_named, at_indices, written_rank, Algebra, build}
-use Rattle.smt_terms.proofs.Ranked.{rank-takes, rank-narrow, le_true, lt_true}
+use Rattle.smt_terms.proofs.Ranked.{rank-takes, rank-narrow, le_true}
 use Rattle.script_read.specs.Parts.{greatest_number}
 use Rattle.smt_print.specs.Basics.{word_form, indexed_form}
 use Rattle.smt_print.specs.TermForms.{operator_form}

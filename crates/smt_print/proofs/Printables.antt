@@ -1,13 +1,13 @@
 -- Printable terms fit where they stand.
-use Rattle.std.proofs.Common.{◌≡◌, ℕ, suc, ◌<◌, ◌≤◌, inl, inr, ◌⊎◌, Bool, true, false, not, cond, Option, Some, None, List, [], ◌∷◌, ◌++◌, length, map, refl, ap, sym, subst, ◌∙◌, arith, append_assoc}
-use Rattle.std.specs.Prelude.{◌&&◌, ◌||◌, nat_le, reverse, is_some}
+use Rattle.std.proofs.Common.{◌≡◌, inl, inr, ◌⊎◌, Bool, true, false, not, Option, Some, None, List, [], ◌∷◌, ◌++◌, map, refl, ap, sym, subst, ◌∙◌, append_assoc}
+use Rattle.std.specs.Prelude.{◌&&◌, nat_le, reverse, is_some}
 use Rattle.std.specs.List.{list_all}
 use Rattle.std.proofs.lemmas.Bool.{leb-true}
 use Rattle.std.proofs.lemmas.List.{reverse-append}
 use Rattle.smt_lex.specs.Names.{Name, IsName, is_among, is_internal, is_reserved_for_declaring, is_theory_sort}
 use Rattle.smt_terms.specs.Equal.{name_eq, symbol_eq}
 use Rattle.smt_terms.specs.Free.{is_among as is_among_symbols, with_more, without, head_symbols, free, free_of, names_of}
-use Rattle.smt_terms.specs.Rank.{most_bits, is_quantifiable, rank, sort_of, sorts_of, are_bindable, are_distinct, is_array, is_sort, has_sorts, is_regular, are_regular, is_well_sorted}
+use Rattle.smt_terms.specs.Rank.{most_bits, is_quantifiable, sort_of, sorts_of, are_bindable, are_distinct, is_array, is_sort, has_sorts, is_regular, are_regular, is_well_sorted}
 use Rattle.smt_terms.specs.Shapes.{is_seen, is_head_seen, is_clear_below, are_clear_below, is_clear}
 use Rattle.smt_terms.specs.Sorts.{Sort, bool, int, bit_vector, array, free_sort, Symbol, Variable}
 use Rattle.smt_terms.specs.Term.{Head, op, symbol, const_array, Term, apply, quantified, Terms, none, ◌⨾◌, constant_of}

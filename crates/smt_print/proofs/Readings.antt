@@ -1,26 +1,23 @@
 -- Readings of printed forms, put together: applications, quantifiers and `let`.
-use Rattle.std.proofs.Common.{◌≡◌, ℕ, suc, inl, inr, Bool, true, false, not, Result, Ok, Option, Some, None, List, [], ◌∷◌, map, refl, ap, sym, subst, ◌∙◌}
-use Rattle.smt_lex.specs.Names.{Name, is_syntax_word, is_command_word, is_theory_name, is_reserved_for_let}
-use Rattle.smt_lex.specs.Lex.{Token, symbol_of}
-use Rattle.smt_lex.specs.Forms.{Form, atom, node, Forms, none, ◌⨾◌, forms_of_list}
+use Rattle.std.proofs.Common.{◌≡◌, ℕ, suc, true, false, not, Result, Ok, Option, Some, List, [], ◌∷◌, refl, ap, ◌∙◌}
+use Rattle.smt_lex.specs.Names.{Name}
+use Rattle.smt_lex.specs.Forms.{Form, node, Forms, none, ◌⨾◌, forms_of_list}
 use Rattle.smt_terms.specs.Fresh.{Supply}
-use Rattle.smt_terms.specs.Rank.{sort_of, sorts_of, with_sort, are_bindable}
+use Rattle.smt_terms.specs.Rank.{sort_of, sorts_of}
 use Rattle.smt_terms.specs.Sorts.{Sort, bool, Variable}
-use Rattle.smt_terms.specs.Term.{Quantifier, universal, existential, Term, quantified, terms}
+use Rattle.smt_terms.specs.Term.{Quantifier, Term, quantified, terms}
 use Rattle.smt_terms.proofs.Operands.{more_sorts}
-use Rattle.smt_terms.proofs.Sorted.{sort_of-quantified}
 use Rattle.script_read.specs.Commands.{Signature}
-use Rattle.script_read.specs.Heads.{Callee, callee_of, applied, atom_term}
-use Rattle.script_read.specs.Parts.{Opening, let_word, quantifier_word, head, opening, place_of, symbol_in}
+use Rattle.script_read.specs.Heads.{Callee, callee_of, applied}
+use Rattle.script_read.specs.Parts.{let_word, quantifier_word, head, opening, place_of, symbol_in}
 use Rattle.script_read.specs.Read.{Context, with_local, is_empty, let_name, constant_names, is_taken, below_quantifier, renamed, has_sort, draws_names, quantified_over, read, read_list, read_bindings, read_all}
-use Rattle.script_read.specs.Reading.{ReadLocal, lets_as, ReadBinding, Sofar, live_sorts, Reading, continued, ◌>>=◌, gives, refused_if, beside, by_live, by_rule, bound_as}
+use Rattle.script_read.specs.Reading.{lets_as, ReadBinding, Sofar, live_sorts, Reading, continued, ◌>>=◌, gives, refused_if, beside, by_live}
 use Rattle.script_read.specs.declared.causes.Cause.TheVariants.{WrongSort, BadForm}
 use Rattle.script_read.specs.Refusals.{Refused, unless}
 use Rattle.script_read.specs.Variables.{quantifier_binder, variables_in}
-use Rattle.smt_print.specs.Basics.{list_form}
-use Rattle.smt_print.specs.TermForms.{Definition, definition_name, application_form}
+use Rattle.smt_print.specs.TermForms.{Definition, application_form}
 use Rattle.smt_print.proofs.Contexts.{AllTaken, EachTaken, LiveRead, InScope}
-use Rattle.smt_print.proofs.FormTexts.{end_of, placed, placed_in, placed_behind}
+use Rattle.smt_print.proofs.FormTexts.{end_of, placed, placed_behind}
 
 -- what is known: these live bindings, and the names that are left
 abbrev pub knowing : List ReadBinding → List Name → ℕ → Sofar

@@ -1,13 +1,12 @@
 -- What is known below a quantifier, and below a `let`.
-use Rattle.std.proofs.Common.{◌≡◌, ℕ, suc, ◌<◌, ◌≤◌, ◌⊎◌, inl, inr, Bool, true, false, cond, Option, Some, None, List, [], ◌∷◌, length, refl, ap, sym, subst, ◌∙◌, arith}
-use Rattle.std.specs.Prelude.{◌||◌}
+use Rattle.std.proofs.Common.{◌≡◌, ℕ, ◌≤◌, ◌⊎◌, inl, inr, Bool, true, false, Option, Some, None, List, [], ◌∷◌, length, refl, ap, sym, subst, ◌∙◌, arith}
 use Rattle.smt_lex.specs.Names.{Name, IsName, is_internal, is_theory_name, is_reserved_for_declaring}
 use Rattle.smt_lex.specs.Forms.{Forms}
 use Rattle.smt_terms.specs.Equal.{name_eq, symbol_eq}
 use Rattle.smt_terms.specs.Fresh.{Supply, next_name, after_draw}
 use Rattle.smt_terms.specs.Models.{Model}
 use Rattle.smt_terms.specs.Rank.{most_bits, width, is_quantifiable, sort_of}
-use Rattle.smt_terms.specs.Sorts.{Sort, Symbol, Variable}
+use Rattle.smt_terms.specs.Sorts.{Symbol, Variable}
 use Rattle.smt_terms.specs.Term.{symbol, Term, none as no_terms, constant_of}
 use Rattle.smt_terms.specs.Val.{Env, assign}
 use Rattle.smt_terms.specs.Values.{Value}
@@ -22,7 +21,7 @@ use Rattle.script_read.specs.Read.{constant_names, with_quantified}
 use Rattle.script_read.specs.Reading.{ReadLocal, lets_as, quantified_as, bound_as, constant_as}
 use Rattle.script_read.specs.Scope.{or_later}
 use Rattle.smt_print.specs.TermForms.{Definition, definition_name}
-use Rattle.smt_print.proofs.Contexts.{lookup, pushed, IsReadAs, AreRead, InScope, AreMeant, IsMeantAs, LiveMeant, MeantScope, other_name, same_name, no_definition, other_definition, lookup_name}
+use Rattle.smt_print.proofs.Contexts.{lookup, pushed, AreRead, InScope, AreMeant, LiveMeant, MeantScope, other_name, same_name, no_definition, other_definition, lookup_name}
 use Rattle.smt_print.proofs.SortsRead.{SortFits, sort_narrow}
 
 -- ---- variables that may be quantified

@@ -1,11 +1,10 @@
 -- Printed scripts are read back, command by command.
-use Rattle.std.proofs.Common.{◌≡◌, ℕ, zero, suc, inl, inr, Bool, true, false, not, Result, Ok, Option, Some, None, List, [], ◌∷◌, ◌++◌, map, refl, ap, sym, subst, ◌∙◌, arith}
+use Rattle.std.proofs.Common.{◌≡◌, ℕ, suc, inl, inr, Bool, true, false, not, Ok, Some, List, [], ◌∷◌, ◌++◌, map, refl, ap, sym, subst, ◌∙◌, arith}
 use Rattle.std.specs.Prelude.{◌&&◌, codes}
 use Rattle.std.specs.List.{list_all}
 use Rattle.smt_lex.specs.declared.items.Item.TheVariants.{Word, Keyword}
 use Rattle.smt_lex.specs.Names.{Name, IsName, is_among, is_reserved_for_sorts}
-use Rattle.smt_lex.specs.Lex.{Token}
-use Rattle.smt_lex.specs.Forms.{Form, atom, Forms, none, ◌⨾◌, forms_of_list, forms_to_exit, is_exit_word}
+use Rattle.smt_lex.specs.Forms.{Form, Forms, none, ◌⨾◌, forms_of_list, is_exit_word}
 use Rattle.smt_lex.proofs.Joining.{run_lexeme}
 use Rattle.smt_terms.specs.Fresh.{Supply}
 use Rattle.smt_terms.specs.Free.{names_of}
@@ -15,25 +14,25 @@ use Rattle.smt_terms.specs.Term.{Term}
 use Rattle.smt_terms.proofs.Tests.{both_true}
 use Rattle.script_read.specs.Commands.{Command, passed, declare_sort, declare, assert, check, check_assuming, push, pop, reset, reset_assertions, globals, exit, State, start, after, sorts_of_state, symbols_of_state, Signature}
 use Rattle.script_read.specs.Mean.{accepted_or}
-use Rattle.script_read.specs.Outlines.{passing, outline, is_passed_text}
+use Rattle.script_read.specs.Outlines.{passing, outline}
 use Rattle.script_read.specs.Parts.{form_text}
-use Rattle.script_read.specs.Printable.{is_usable, is_new_sort, is_new_symbol, is_printable_term, is_live_literal, may_stand, fixes, may_be_followed, printable_from, printable, is_writable, sort_is_live}
+use Rattle.script_read.specs.Printable.{is_usable, is_new_sort, is_new_symbol, is_printable_term, may_stand, fixes, may_be_followed, printable_from, printable, is_writable, sort_is_live}
 use Rattle.script_read.specs.Read.{has_sort}
 use Rattle.script_read.specs.Reading.{ReadBinding}
 use Rattle.script_read.specs.Refusals.{and_then, mapped}
-use Rattle.script_read.specs.Scenes.{Asserted, Scene, commands_seen, seen_command, first_scene, forms_script}
-use Rattle.script_read.specs.Script.{Standing, Step, read_command, Numbered, numbered, behind, read_commands, names_with_all, first_standing, commands_or_refusal, read_forms, script, fault_of, fault}
+use Rattle.script_read.specs.Scenes.{Asserted, commands_seen, first_scene, forms_script}
+use Rattle.script_read.specs.Script.{Standing, numbered, behind, read_commands, names_with_all, first_standing, commands_or_refusal, read_forms, script, fault_of}
 use Rattle.smt_print.specs.declared.layout.Layout.{Layout}
 use Rattle.smt_print.specs.declared.layout.Layout.TheVariants.{Tree, Dag}
-use Rattle.smt_print.specs.Basics.{list_form, truth_form, keyword_form, numeral_form, sort_form, symbol_form, word_form}
-use Rattle.smt_print.specs.Laws.{Each, MeansTheSame, ReadsBack, PrintingReadsBack}
+use Rattle.smt_print.specs.Basics.{list_form, truth_form, keyword_form, numeral_form, sort_form, symbol_form}
+use Rattle.smt_print.specs.Laws.{MeansTheSame, ReadsBack, PrintingReadsBack}
 use Rattle.smt_print.specs.TermForms.{tree_form}
 use Rattle.smt_print.specs.Text.{term_form, command_form, command_text, sort_declaration, declaration, globals_option, lines}
 use Rattle.smt_print.proofs.CommandsRead.{Follows, IsReadFrom, StandFor, scene_of, sort_is_bool, assert_read, sort_declared, symbol_declared, sorts_fit, check_read, reset_read, exit_read, passed_read, emptying_read, globals_read, push_read, pop_read}
 use Rattle.smt_print.proofs.Contexts.{AllTaken, EachTaken}
 use Rattle.smt_print.proofs.FormTexts.{IsWritten, AreWritten, placed, lexed_form}
-use Rattle.smt_print.proofs.LikePoints.{LikeCommand, LikeCommands, Alike, alike}
-use Rattle.smt_print.proofs.LinesRead.{IsLine, GoesOn, EndsThere, form_line, list_goes_on, CommandLine, EndsOrGoesOn, AllLines, AreForms, forms_of_lines}
+use Rattle.smt_print.proofs.LikePoints.{LikeCommands, Alike, alike}
+use Rattle.smt_print.proofs.LinesRead.{EndsThere, form_line, list_goes_on, CommandLine, EndsOrGoesOn, AllLines, AreForms, forms_of_lines}
 use Rattle.smt_print.proofs.LiteralsRead.{assuming_read, AreLiterals, all_literals, literal_fits}
 use Rattle.smt_print.proofs.LiveNames.{shown, shown_usual}
 use Rattle.smt_print.proofs.NamesTaken.{forms_taken}
@@ -42,7 +41,7 @@ use Rattle.smt_print.proofs.Printables.{signature_of, IsUsual, printable_fits, u
 use Rattle.smt_print.proofs.SortsRead.{SortsFit}
 use Rattle.smt_print.proofs.Stands.{Fits, tree_stands, dag_stands, sort_names, writable}
 use Rattle.smt_print.proofs.TextsRead.{term_written}
-use Rattle.smt_print.proofs.Tracks.{Tracks, same_signature, usual_state, symbol_new, bound_after, tracks_after}
+use Rattle.smt_print.proofs.Tracks.{Tracks, usual_state, symbol_new, bound_after, tracks_after}
 use Rattle.smt_print.proofs.Writable.{word_written, symbol_written, numeral_written, truth_written, sort_written}
 use Rattle.smt_print.proofs.WritableTerms.{tree_written}
 

@@ -1,17 +1,16 @@
 -- Printed forms give no names to terms.
-use Rattle.std.proofs.Common.{◌≡◌, ℕ, suc, ◌/◌, ◌%◌, inl, inr, Bool, true, false, eqb, List, [], ◌∷◌, ◌++◌, length, map, refl, ap, sym, ◌∙◌, arith}
-use Rattle.std.specs.Prelude.{codes, ℤ, pos, negsuc, int_lt, unsigned_abs}
+use Rattle.std.proofs.Common.{◌≡◌, ℕ, suc, ◌/◌, ◌%◌, inl, inr, eqb, List, [], ◌∷◌, ◌++◌, map, refl, ap, ◌∙◌, arith}
+use Rattle.std.specs.Prelude.{codes, ℤ, pos, negsuc}
 use Rattle.std.proofs.lemmas.Bool.{le-ltb}
-use Rattle.smt_lex.specs.Names.{is_syntax_word, is_command_word}
 use Rattle.smt_lex.specs.declared.items.Item.TheVariants.{Hex, Bin}
 use Rattle.smt_lex.specs.Lex.{Token}
-use Rattle.smt_lex.specs.Forms.{Form, atom, node, Forms, none, ◌⨾◌, forms_of_list}
+use Rattle.smt_lex.specs.Forms.{Form, atom, node, none, ◌⨾◌, forms_of_list}
 use Rattle.smt_terms.specs.Sorts.{Variable}
 use Rattle.smt_terms.specs.Term.{Quantifier}
 use Rattle.smt_terms.proofs.Tests.{true_or_false}
 use Rattle.script_read.specs.Mean.{quantified_variables}
 use Rattle.script_read.specs.Parts.{head, opening}
-use Rattle.script_read.specs.Scenes.{quantified_locals, naming, naming_list, naming_parts, naming_all}
+use Rattle.script_read.specs.Scenes.{quantified_locals, naming, naming_list, naming_all}
 use Rattle.script_read.specs.Scope.{Local, let_names, Binding, live_sort}
 use Rattle.smt_print.specs.Basics.{list_form, word_form, numeral_form, integer_form, last_digits, vector_form, variable_form}
 use Rattle.smt_print.specs.TermForms.{application_form, quantifier_word, quantified_form, definition_name, let_form}

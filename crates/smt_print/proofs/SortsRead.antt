@@ -1,15 +1,14 @@
 -- The form of a sort is read as the sort.
-use Rattle.std.proofs.Common.{◌≡◌, ℕ, suc, ◌<◌, ◌≤◌, Bool, true, false, Result, Ok, Err, Option, Some, None, List, [], ◌∷◌, length, map, refl, ap, sym, ◌∙◌, arith}
-use Rattle.std.specs.Prelude.{◌==◌, nat_lt, if◌then◌else◌, codes, bytes_eq}
+use Rattle.std.proofs.Common.{◌≡◌, ℕ, suc, ◌<◌, ◌≤◌, true, false, Ok, Option, Some, List, [], ◌∷◌, map, refl, ap, ◌∙◌, arith}
+use Rattle.std.specs.Prelude.{codes}
 use Rattle.std.proofs.lemmas.Bool.{le-ltb, ne_eqb}
 use Rattle.smt_lex.specs.Names.{Name, IsName, is_among, is_syntax_word, is_command_word, is_theory_sort, theory_sorts}
-use Rattle.smt_lex.specs.Lex.{symbol_by}
-use Rattle.smt_lex.specs.Forms.{Form, atom, node, none, ◌⨾◌, forms_of_list}
+use Rattle.smt_lex.specs.Forms.{Form, none, forms_of_list}
 use Rattle.smt_terms.specs.Rank.{is_array, most_bits, width}
 use Rattle.smt_terms.specs.Sorts.{Sort, bool, int, bit_vector, array, free_sort}
 use Rattle.script_read.specs.Commands.{Signature}
 use Rattle.script_read.specs.Parts.{place_of}
-use Rattle.script_read.specs.Refusals.{Refused, at, and_then, unless, mapped}
+use Rattle.script_read.specs.Refusals.{mapped}
 use Rattle.script_read.specs.SortForms.{Sorts, sort_of_symbol, sort_of_name, vectors_of, array_sort, Part, sort_in, sorts_in, all_sorts, parts_in}
 use Rattle.smt_print.specs.Basics.{word_form, sort_form}
 use Rattle.smt_print.proofs.FormTexts.{end_of, placed, placed_in, placed_behind}

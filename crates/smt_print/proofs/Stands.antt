@@ -1,8 +1,6 @@
 -- Printed terms stand for the terms, in both layouts: their forms are read as terms of the same sort, and mean the same.
-use Rattle.std.proofs.Common.{◌≡◌, ℕ, ◌<◌, ◌≤◌, inl, inr, Bool, true, false, Result, Ok, Option, Some, None, List, [], ◌∷◌, length, map, refl, ap, sym, subst, ◌∙◌, arith}
-use Rattle.std.specs.Prelude.{◌||◌}
+use Rattle.std.proofs.Common.{◌≡◌, ◌≤◌, inl, inr, true, false, Ok, Some, List, [], ◌∷◌, length, refl, ap, sym, subst, ◌∙◌, arith}
 use Rattle.smt_lex.specs.Forms.{Form}
-use Rattle.smt_lex.specs.Names.{IsName}
 use Rattle.smt_terms.specs.declared.op.Op.{Op}
 use Rattle.smt_terms.specs.declared.op.Op.TheVariants.{Bits}
 use Rattle.smt_terms.specs.Equal.{term_eq}

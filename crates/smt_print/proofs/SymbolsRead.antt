@@ -1,18 +1,18 @@
 -- Printed words, symbols and numerals, and how lists begin with them.
-use Rattle.std.proofs.Common.{◌≡◌, ℕ, ◌-◌, inl, inr, Bool, true, false, not, Option, Some, None, List, [], ◌∷◌, ◌++◌, length, take, drop, map, refl, ap, sym, subst, ◌∙◌, arith, length-append}
-use Rattle.std.specs.Prelude.{◌&&◌, if◌then◌else◌, codes, bytes_eq}
+use Rattle.std.proofs.Common.{◌≡◌, ℕ, ◌-◌, inl, inr, true, false, not, Some, None, List, [], ◌∷◌, ◌++◌, length, take, refl, ap, sym, subst, ◌∙◌, arith, length-append}
+use Rattle.std.specs.Prelude.{if◌then◌else◌, codes, bytes_eq}
 use Rattle.std.proofs.lemmas.List.{take_at}
 use Rattle.smt_lex.specs.declared.items.Item.{Item}
 use Rattle.smt_lex.specs.declared.items.Item.TheVariants.{Numeral, Word, Quoted}
 use Rattle.smt_lex.specs.Lexicon.{bar, is_word}
-use Rattle.smt_lex.specs.Names.{Name, IsName, is_among, is_reserved, is_syntax_word, is_command_word, is_simple, syntax_words, printed_symbol}
+use Rattle.smt_lex.specs.Names.{Name, is_among, is_reserved, is_syntax_word, is_command_word, is_simple, syntax_words, printed_symbol}
 use Rattle.smt_lex.specs.Lex.{symbol_by, name_by}
-use Rattle.smt_lex.specs.Forms.{Form, atom, node}
+use Rattle.smt_lex.specs.Forms.{Form, atom}
 use Rattle.smt_terms.specs.Numeral.{numeral}
 use Rattle.smt_terms.proofs.Equal.{Decides-name_eq}
 use Rattle.smt_terms.proofs.Tests.{true_or_false, both_true, both_false, not_true}
-use Rattle.script_read.specs.Parts.{Opening, head, opening, opening_word, word_by, constant_by, numeral_by}
-use Rattle.smt_print.specs.Basics.{word_form, symbol_form, numeral_form}
+use Rattle.script_read.specs.Parts.{head, opening, opening_word, word_by, constant_by, numeral_by}
+use Rattle.smt_print.specs.Basics.{word_form, symbol_form}
 use Rattle.smt_print.proofs.Digits.{numeral_value}
 use Rattle.smt_print.proofs.FormTexts.{placed, token_at}
 
@@ -46,9 +46,6 @@ word_symbol w free = rw free refl
 
 abbrev pub symbol_item : Name → Item
 symbol_item n = if is_simple n then Word else Quoted
-
-abbrev pub is_unreserved : Name → Type 0
-is_unreserved n = is_reserved n ≡ false
 
 simple_unreserved : (n : Name) → is_simple n ≡ true → is_reserved n ≡ false
 simple_unreserved n simple = not_true (is_reserved n) (both_true (is_word n) (not (is_reserved n)) simple).1
