@@ -68,28 +68,28 @@ abbrev pub right_at : ℕ → Token
 right_at p = token_at p Right (right_parenthesis ∷ [])
 
 abbrev mutual
-  lexed_form : ℕ → Form → Lexed → Lexed
+  pub lexed_form : ℕ → Form → Lexed → Lexed
   lexed_form p (atom t) ts = next (token_at p t.item t.text) ts
   lexed_form p (node place fs) ts = next (left_at p) (lexed_in (suc p) fs (next (right_at (end_in (suc p) fs)) ts))
 
-  lexed_in : ℕ → Forms → Lexed → Lexed
+  pub lexed_in : ℕ → Forms → Lexed → Lexed
   lexed_in p none ts = ts
   lexed_in p (f ⨾ fs) ts = lexed_form p f (lexed_behind (end_of p f) fs ts)
 
-  lexed_behind : ℕ → Forms → Lexed → Lexed
+  pub lexed_behind : ℕ → Forms → Lexed → Lexed
   lexed_behind p none ts = ts
   lexed_behind p (f ⨾ fs) ts = lexed_form (suc p) f (lexed_behind (end_of (suc p) f) fs ts)
 
 abbrev mutual
-  listed : ℕ → Form → List Token → List Token
+  pub listed : ℕ → Form → List Token → List Token
   listed p (atom t) ts = token_at p t.item t.text ∷ ts
   listed p (node place fs) ts = left_at p ∷ listed_in (suc p) fs (right_at (end_in (suc p) fs) ∷ ts)
 
-  listed_in : ℕ → Forms → List Token → List Token
+  pub listed_in : ℕ → Forms → List Token → List Token
   listed_in p none ts = ts
   listed_in p (f ⨾ fs) ts = listed p f (listed_behind (end_of p f) fs ts)
 
-  listed_behind : ℕ → Forms → List Token → List Token
+  pub listed_behind : ℕ → Forms → List Token → List Token
   listed_behind p none ts = ts
   listed_behind p (f ⨾ fs) ts = listed (suc p) f (listed_behind (end_of (suc p) f) fs ts)
 
@@ -143,7 +143,7 @@ with_ok : (t : Token) (r : Result (List Token) Fault) (us : List Token) → r �
 with_ok t r us is = ap (with_token t) is
 
 mutual
-  form_balanced : (f : Form) (p depth : ℕ) (ts : Lexed) (us : List Token) → IsWritten f → balanced depth ts ≡ Ok us
+  pub form_balanced : (f : Form) (p depth : ℕ) (ts : Lexed) (us : List Token) → IsWritten f → balanced depth ts ≡ Ok us
       → balanced depth (lexed_form p f ts) ≡ Ok (listed p f us)
   form_balanced (atom t) p depth ts us is behind = inner_balanced t.item p depth t.text ts is.0 ∙ with_ok (token_at p t.item t.text) (balanced depth ts) us behind
   form_balanced (node place fs) p depth ts us are behind =
@@ -169,7 +169,7 @@ mutual
 -- ---- from tokens to forms
 
 -- a form in front of what is left to read
-abbrev with_form : Form → Forms × List Forms → Forms × List Forms
+abbrev pub with_form : Form → Forms × List Forms → Forms × List Forms
 with_form f r = (f ⨾ r.0, r.1)
 
 inner_before : (item : Item) (p : ℕ) (text : List ℕ) (r : Forms × List Forms) → IsInner item
@@ -179,7 +179,7 @@ inner_before Right p text r inner = absurd inner
 inner_before item p text (fs, around) inner = refl
 
 mutual
-  form_rest : (f : Form) (p : ℕ) (ts : List Token) → IsWritten f → rest (listed p f ts) ≡ with_form (placed p f) (rest ts)
+  pub form_rest : (f : Form) (p : ℕ) (ts : List Token) → IsWritten f → rest (listed p f ts) ≡ with_form (placed p f) (rest ts)
   form_rest (atom t) p ts is = inner_before t.item p t.text (rest ts) is.0
   form_rest (node place fs) p ts are =
       ap (before Left (left_at p)) (forms_rest fs (suc p) (right_at (end_in (suc p) fs) ∷ ts) are)

@@ -3,6 +3,8 @@
 
 #![tactic(auto)]
 
+mod laws;
 mod layout;
 
+pub use laws::printing_reads_back;
 pub use layout::Layout;
