@@ -17,3 +17,6 @@ pub use kept::Kept;
 pub use node_step::NodeStep;
 pub use steps::Steps;
 pub use walks::{walk, walk_all};
+
+#[cfg(test)]
+mod tests;
