@@ -1,6 +1,6 @@
 -- Lists of passes as they are written: names joined by commas, at most 32 of them.
 use Rattle.std.specs.Prelude.{ℕ, ◌==◌, Bool, true, false, nat_lt, if◌then◌else◌, List, [], ◌∷◌, length, codes, bytes_eq, Result, Ok, Err, Option, Some, None}
-use Rattle.std.specs.List.{list_any}
+use Rattle.std.specs.List.{list_all, list_any}
 use Rattle.smt_terms.specs.Sorts.{Name}
 use Rattle.passes.specs.declared.names.Pass.{Pass}
 use Rattle.passes.specs.declared.names.Pass.TheVariants.{Simplify, Nnf, Aig, Prenex, Reads, Shannon, SelfSub, Rules, Ite, Cnf, Ackermann}
@@ -55,6 +55,15 @@ groups_after_rules [] = false
 groups_after_rules (Rules ∷ ps) = list_any makes_groups ps
 groups_after_rules (p ∷ ps) = groups_after_rules ps
 
+-- the passes that can be run so far; in a list, the name of another one is none
+abbrev pub can_run : Pass → Bool
+can_run Nnf = true
+can_run Aig = true
+can_run Prenex = true
+can_run Shannon = true
+can_run SelfSub = true
+can_run _ = false
+
 -- ---- lists
 
 abbrev pub onto_first : ℕ → List Name → List Name
@@ -72,13 +81,17 @@ most_passes = 32
 abbrev pub in_order : List Pass → Result (List Pass) ListFault
 in_order ps = if groups_after_rules ps then Err AfterRules else Ok ps
 
-abbrev pub all_known : Option (List Pass) → Result (List Pass) ListFault
-all_known (Some ps) = in_order ps
-all_known None = Err BadPass
+abbrev pub all_known : (Pass → Bool) → Option (List Pass) → Result (List Pass) ListFault
+all_known runs (Some ps) = if list_all runs ps then in_order ps else Err BadPass
+all_known runs None = Err BadPass
 
-abbrev pub listed : List Name → Result (List Pass) ListFault
-listed ns = if nat_lt most_passes (length ns) then Err BadPass else all_known (passes_named ns)
+abbrev pub listed : (Pass → Bool) → List Name → Result (List Pass) ListFault
+listed runs ns = if nat_lt most_passes (length ns) then Err BadPass else all_known runs (passes_named ns)
+
+-- the passes of a text, where those that pass a test can be run
+abbrev pub pass_list_of : (Pass → Bool) → List ℕ → Result (List Pass) ListFault
+pass_list_of runs text = listed runs (between_commas text)
 
 -- the passes of a text
 abbrev pub pass_list : List ℕ → Result (List Pass) ListFault
-pass_list text = listed (between_commas text)
+pass_list text = pass_list_of can_run text

@@ -9,7 +9,7 @@ use Rattle.smt_print.specs.declared.layout.Layout.TheVariants.{Tree, Dag}
 use Rattle.passes.specs.declared.names.Pass.{Pass}
 use Rattle.passes.specs.declared.names.ListFault.{ListFault}
 use Rattle.passes.specs.declared.names.ListFault.TheVariants.{BadPass as UnknownPass, AfterRules as GroupsAfterRules}
-use Rattle.passes.specs.Lists.{pass_list}
+use Rattle.passes.specs.Lists.{pass_list_of, can_run}
 use Rattle.smtrw_answers.specs.declared.status.Usage.{Usage}
 use Rattle.smtrw_answers.specs.declared.status.Why.{Why}
 use Rattle.smtrw_answers.specs.declared.status.Why.TheVariants.{Missing, UnknownCommand, BadOption, Repeated, BadValue, BadPass, AfterRules, Extra, TwoInputs}
@@ -58,6 +58,12 @@ needed translating = 2
 needed extending = 2
 needed counting = 1
 needed demonstrating = 2
+
+-- the commands that the program has so far; the name of another one is none
+abbrev pub stands : Command → Bool
+stands rewriting = true
+stands counting = true
+stands _ = false
 
 -- ---- options
 
@@ -134,25 +140,25 @@ with_layout i None g = at i BadValue
 abbrev pub with_check : ℕ → Option ℕ → Given → Result Given Usage
 with_check i k g = if is_from 1 k then Ok (record g { check = k; awaited = None }) else at i BadValue
 
-abbrev pub with_value : ℕ → Setting → Word → Given → Result Given Usage
-with_value i of_passes w g = with_passes i (pass_list w) g
-with_value i of_layout w g = with_layout i (layout_named w) g
-with_value i of_check w g = with_check i (number_in w) g
+abbrev pub with_value : (Pass → Bool) → ℕ → Setting → Word → Given → Result Given Usage
+with_value runs i of_passes w g = with_passes i (pass_list_of runs w) g
+with_value runs i of_layout w g = with_layout i (layout_named w) g
+with_value runs i of_check w g = with_check i (number_in w) g
 
 -- ---- word by word
 
 -- the value of an option, which stands in a word of its own
-abbrev pub value_word : ℕ → Setting → Word → Given → Result Given Usage
-value_word i s w g = if is_dashed w then at i BadValue else with_value i s w g
+abbrev pub value_word : (Pass → Bool) → ℕ → Setting → Word → Given → Result Given Usage
+value_word runs i s w g = if is_dashed w then at i BadValue else with_value runs i s w g
 
-abbrev pub with_setting : ℕ → Setting → Option Word → Given → Result Given Usage
-with_setting i s None g = Ok (record g { awaited = Some s })
-with_setting i s (Some w) g = with_value i s w g
+abbrev pub with_setting : (Pass → Bool) → ℕ → Setting → Option Word → Given → Result Given Usage
+with_setting runs i s None g = Ok (record g { awaited = Some s })
+with_setting runs i s (Some w) g = with_value runs i s w g
 
 -- an option is given once
-abbrev pub option_word : ℕ → Option (Setting × Option Word) → Given → Result Given Usage
-option_word i None g = at i BadOption
-option_word i (Some o) g = if is_given o.0 g then at i Repeated else with_setting i o.0 o.1 g
+abbrev pub option_word : (Pass → Bool) → ℕ → Option (Setting × Option Word) → Given → Result Given Usage
+option_word runs i None g = at i BadOption
+option_word runs i (Some o) g = if is_given o.0 g then at i Repeated else with_setting runs i o.0 o.1 g
 
 abbrev pub with_plain : ℕ → Word → Given → Result Given Usage
 with_plain i w g = Ok (record g { plain = g.plain ++ record { number = i; word = w } ∷ [] })
@@ -182,19 +188,19 @@ abbrev pub plain_word : Command → ℕ → Word → Given → Result Given Usag
 plain_word c i [] g = at i BadValue
 plain_word c i (b ∷ bs) g = if nat_le (needed c) (length g.plain) then at i Extra else of_kind c i (b ∷ bs) g
 
-abbrev pub word_behind : Command → ℕ → Word → Given → Option Setting → Result Given Usage
-word_behind c i w g (Some s) = value_word i s w g
-word_behind c i w g None =
-    if is_dashed w then option_word i (setting_among (settings_of c) w) g else plain_word c i w g
+abbrev pub word_behind : (Pass → Bool) → Command → ℕ → Word → Given → Option Setting → Result Given Usage
+word_behind runs c i w g (Some s) = value_word runs i s w g
+word_behind runs c i w g None =
+    if is_dashed w then option_word runs i (setting_among (settings_of c) w) g else plain_word c i w g
 
 abbrev pub and_then : {A B : Type 0} → (A → Result B Usage) → Result A Usage → Result B Usage
 and_then next (Ok a) = next a
 and_then next (Err fault) = Err fault
 
 -- the words from number i on
-abbrev pub words_from : Command → ℕ → List Word → Given → Result Given Usage
-words_from c i [] g = Ok g
-words_from c i (w ∷ ws) g = and_then (words_from c (suc i) ws) (word_behind c i w g g.awaited)
+abbrev pub words_from : (Pass → Bool) → Command → ℕ → List Word → Given → Result Given Usage
+words_from runs c i [] g = Ok g
+words_from runs c i (w ∷ ws) g = and_then (words_from runs c (suc i) ws) (word_behind runs c i w g g.awaited)
 
 -- ---- what is asked for
 
@@ -234,11 +240,19 @@ abbrev pub at_end : Command → ℕ → Given → Option Setting → Result Aske
 at_end c i g (Some s) = at i Missing
 at_end c i g None = asked_or_missing i (asked_with c g g.plain)
 
-abbrev pub asked_of : Option Command → List Word → Result Asked Usage
-asked_of None ws = at 1 UnknownCommand
-asked_of (Some c) ws = and_then (λ g. at_end c (suc (suc (length ws))) g g.awaited) (words_from c 2 ws nothing_given)
+abbrev pub command_if : (Command → Bool) → Option Command → Option Command
+command_if test None = None
+command_if test (Some c) = if test c then Some c else None
+
+abbrev pub asked_of : (Pass → Bool) → Option Command → List Word → Result Asked Usage
+asked_of runs None ws = at 1 UnknownCommand
+asked_of runs (Some c) ws = and_then (λ g. at_end c (suc (suc (length ws))) g g.awaited) (words_from runs c 2 ws nothing_given)
+
+-- what the words ask for, or their first fault, where there are the commands and passes that pass two tests
+abbrev pub asked_by : (Command → Bool) → (Pass → Bool) → List Word → Result Asked Usage
+asked_by has runs [] = at 1 Missing
+asked_by has runs (w ∷ ws) = asked_of runs (command_if has (command_named w)) ws
 
 -- what the words ask for, or their first fault
 abbrev pub asked : List Word → Result Asked Usage
-asked [] = at 1 Missing
-asked (w ∷ ws) = asked_of (command_named w) ws
+asked words = asked_by stands can_run words

@@ -1,16 +1,21 @@
 -- Worked rows of the program's words.
 use Prim.Native.String.{String}
-use Rattle.std.specs.Prelude.{◌≡◌, ℕ, List, [], ◌∷◌, map, codes, Result, Ok, Err, refl}
+use Rattle.std.specs.Prelude.{◌≡◌, ℕ, List, [], ◌∷◌, map, true, codes, Result, Ok, Err, refl}
 use Rattle.smt_print.specs.declared.layout.Layout.TheVariants.{Tree, Dag}
-use Rattle.passes.specs.declared.names.Pass.TheVariants.{Nnf, Simplify, Rules, Ite, Cnf}
+use Rattle.passes.specs.declared.names.Pass.TheVariants.{Nnf, Aig, Prenex, Shannon, SelfSub, Simplify, Rules, Ite, Cnf}
 use Rattle.passes.specs.Lists.{pass_named}
 use Rattle.smtrw_answers.specs.declared.status.Usage.{Usage}
 use Rattle.smtrw_answers.specs.declared.status.Why.{Why}
 use Rattle.smtrw_answers.specs.declared.status.Why.TheVariants.{Missing, UnknownCommand, BadOption, Repeated, BadValue, BadPass, AfterRules, Extra, TwoInputs}
-use Rattle.smtrw_answers.specs.Words.{Numbered, Asked, rewrite, translate, extend, stats, demo, asked}
+use Rattle.smtrw_answers.specs.Words.{Numbered, Asked, rewrite, translate, extend, stats, demo, asked, asked_by}
 
-abbrev asked_by : List String → Result Asked Usage
-asked_by words = asked (map codes words)
+-- with every command and every pass
+abbrev all_asked : List String → Result Asked Usage
+all_asked words = asked_by (λ c. true) (λ p. true) (map codes words)
+
+-- with those that the program has so far
+abbrev so_far : List String → Result Asked Usage
+so_far words = asked (map codes words)
 
 abbrev fault : ℕ → Why → Result Asked Usage
 fault i why = Err (record { word = i; why = why })
@@ -20,179 +25,199 @@ word i s = record { number = i; word = codes s }
 
 -- ---- what each command takes
 
-rewrite_alone : asked_by ("rewrite" ∷ "-" ∷ []) ≡ Ok (rewrite [] Tree (word 2 "-"))
+rewrite_alone : all_asked ("rewrite" ∷ "-" ∷ []) ≡ Ok (rewrite [] Tree (word 2 "-"))
 rewrite_alone = refl
 
-rewrite_with_options : asked_by ("rewrite" ∷ "--layout" ∷ "dag" ∷ "a.smt2" ∷ "--passes=nnf,simplify" ∷ []) ≡ Ok (rewrite (Nnf ∷ Simplify ∷ []) Dag (word 4 "a.smt2"))
+rewrite_with_options : all_asked ("rewrite" ∷ "--layout" ∷ "dag" ∷ "a.smt2" ∷ "--passes=nnf,simplify" ∷ []) ≡ Ok (rewrite (Nnf ∷ Simplify ∷ []) Dag (word 4 "a.smt2"))
 unfolding pass_named
 rewrite_with_options = refl
 
-layout_in_one_word : asked_by ("rewrite" ∷ "--layout=tree" ∷ "f" ∷ []) ≡ Ok (rewrite [] Tree (word 3 "f"))
+layout_in_one_word : all_asked ("rewrite" ∷ "--layout=tree" ∷ "f" ∷ []) ≡ Ok (rewrite [] Tree (word 3 "f"))
 layout_in_one_word = refl
 
-translate_alone : asked_by ("translate" ∷ "a" ∷ "-" ∷ []) ≡ Ok (translate [] 1 (word 2 "a") (word 3 "-"))
+translate_alone : all_asked ("translate" ∷ "a" ∷ "-" ∷ []) ≡ Ok (translate [] 1 (word 2 "a") (word 3 "-"))
 translate_alone = refl
 
-translate_with_options : asked_by ("translate" ∷ "--check" ∷ "12" ∷ "a" ∷ "--passes" ∷ "ite,cnf,rules" ∷ "a" ∷ []) ≡ Ok (translate (Ite ∷ Cnf ∷ Rules ∷ []) 12 (word 4 "a") (word 7 "a"))
+translate_with_options : all_asked ("translate" ∷ "--check" ∷ "12" ∷ "a" ∷ "--passes" ∷ "ite,cnf,rules" ∷ "a" ∷ []) ≡ Ok (translate (Ite ∷ Cnf ∷ Rules ∷ []) 12 (word 4 "a") (word 7 "a"))
 unfolding pass_named
 translate_with_options = refl
 
-extend_with_check : asked_by ("extend" ∷ "-" ∷ "m" ∷ "--check=2" ∷ []) ≡ Ok (extend [] 2 (word 2 "-") (word 3 "m"))
+extend_with_check : all_asked ("extend" ∷ "-" ∷ "m" ∷ "--check=2" ∷ []) ≡ Ok (extend [] 2 (word 2 "-") (word 3 "m"))
 extend_with_check = refl
 
-stats_alone : asked_by ("stats" ∷ "-" ∷ []) ≡ Ok (stats (word 2 "-"))
+stats_alone : all_asked ("stats" ∷ "-" ∷ []) ≡ Ok (stats (word 2 "-"))
 stats_alone = refl
 
-demo_alone : asked_by ("demo" ∷ "0" ∷ "10000" ∷ []) ≡ Ok (demo 0 10000)
+demo_alone : all_asked ("demo" ∷ "0" ∷ "10000" ∷ []) ≡ Ok (demo 0 10000)
 demo_alone = refl
 
 -- eighteen digits
-long_seed : asked_by ("demo" ∷ "123456789012345678" ∷ "1" ∷ []) ≡ Ok (demo 123456789012345678 1)
+long_seed : all_asked ("demo" ∷ "123456789012345678" ∷ "1" ∷ []) ≡ Ok (demo 123456789012345678 1)
 long_seed = refl
 
 -- ---- the faults of rewriting, of lists and of files
 
-after_rules : asked_by ("rewrite" ∷ "--passes" ∷ "rules,cnf" ∷ "-" ∷ []) ≡ fault 3 AfterRules
+after_rules : all_asked ("rewrite" ∷ "--passes" ∷ "rules,cnf" ∷ "-" ∷ []) ≡ fault 3 AfterRules
 unfolding pass_named
 after_rules = refl
 
-bad_pass : asked_by ("rewrite" ∷ "--passes" ∷ "nnf,foo" ∷ "-" ∷ []) ≡ fault 3 BadPass
+bad_pass : all_asked ("rewrite" ∷ "--passes" ∷ "nnf,foo" ∷ "-" ∷ []) ≡ fault 3 BadPass
 unfolding pass_named
 bad_pass = refl
 
-no_file : asked_by ("rewrite" ∷ "--passes=cnf" ∷ []) ≡ fault 3 Missing
+no_file : all_asked ("rewrite" ∷ "--passes=cnf" ∷ []) ≡ fault 3 Missing
 unfolding pass_named
 no_file = refl
 
-two_inputs : asked_by ("translate" ∷ "-" ∷ "-" ∷ []) ≡ fault 3 TwoInputs
+two_inputs : all_asked ("translate" ∷ "-" ∷ "-" ∷ []) ≡ fault 3 TwoInputs
 two_inputs = refl
 
-two_dashes : asked_by ("rewrite" ∷ "--" ∷ "a" ∷ []) ≡ fault 2 BadOption
+two_dashes : all_asked ("rewrite" ∷ "--" ∷ "a" ∷ []) ≡ fault 2 BadOption
 two_dashes = refl
 
 -- ---- words that are missing
 
-no_words : asked_by [] ≡ fault 1 Missing
+no_words : all_asked [] ≡ fault 1 Missing
 no_words = refl
 
-command_alone : asked_by ("stats" ∷ []) ≡ fault 2 Missing
+command_alone : all_asked ("stats" ∷ []) ≡ fault 2 Missing
 command_alone = refl
 
-one_file_of_two : asked_by ("extend" ∷ "a" ∷ []) ≡ fault 3 Missing
+one_file_of_two : all_asked ("extend" ∷ "a" ∷ []) ≡ fault 3 Missing
 one_file_of_two = refl
 
-no_value : asked_by ("rewrite" ∷ "-" ∷ "--passes" ∷ []) ≡ fault 4 Missing
+no_value : all_asked ("rewrite" ∷ "-" ∷ "--passes" ∷ []) ≡ fault 4 Missing
 no_value = refl
 
-no_size : asked_by ("demo" ∷ "5" ∷ []) ≡ fault 3 Missing
+no_size : all_asked ("demo" ∷ "5" ∷ []) ≡ fault 3 Missing
 no_size = refl
 
 -- ---- commands and options
 
-unknown_command : asked_by ("solve" ∷ "--x" ∷ []) ≡ fault 1 UnknownCommand
+unknown_command : all_asked ("solve" ∷ "--x" ∷ []) ≡ fault 1 UnknownCommand
 unknown_command = refl
 
-empty_command : asked_by ("" ∷ "a" ∷ []) ≡ fault 1 UnknownCommand
+empty_command : all_asked ("" ∷ "a" ∷ []) ≡ fault 1 UnknownCommand
 empty_command = refl
 
-help_first : asked_by ("--help" ∷ []) ≡ fault 1 UnknownCommand
+help_first : all_asked ("--help" ∷ []) ≡ fault 1 UnknownCommand
 help_first = refl
 
-help_later : asked_by ("stats" ∷ "a" ∷ "--help" ∷ []) ≡ fault 3 BadOption
+help_later : all_asked ("stats" ∷ "a" ∷ "--help" ∷ []) ≡ fault 3 BadOption
 help_later = refl
 
 -- an option of another command
-layout_of_translate : asked_by ("translate" ∷ "--layout" ∷ "tree" ∷ []) ≡ fault 2 BadOption
+layout_of_translate : all_asked ("translate" ∷ "--layout" ∷ "tree" ∷ []) ≡ fault 2 BadOption
 layout_of_translate = refl
 
-check_of_rewrite : asked_by ("rewrite" ∷ "--check=1" ∷ "a" ∷ []) ≡ fault 2 BadOption
+check_of_rewrite : all_asked ("rewrite" ∷ "--check=1" ∷ "a" ∷ []) ≡ fault 2 BadOption
 check_of_rewrite = refl
 
-passes_of_stats : asked_by ("stats" ∷ "--passes=nnf" ∷ "a" ∷ []) ≡ fault 2 BadOption
+passes_of_stats : all_asked ("stats" ∷ "--passes=nnf" ∷ "a" ∷ []) ≡ fault 2 BadOption
 passes_of_stats = refl
 
-cut_name : asked_by ("rewrite" ∷ "--pass" ∷ "nnf" ∷ "a" ∷ []) ≡ fault 2 BadOption
+cut_name : all_asked ("rewrite" ∷ "--pass" ∷ "nnf" ∷ "a" ∷ []) ≡ fault 2 BadOption
 cut_name = refl
 
-negative_seed : asked_by ("demo" ∷ "-5" ∷ "1" ∷ []) ≡ fault 2 BadOption
+negative_seed : all_asked ("demo" ∷ "-5" ∷ "1" ∷ []) ≡ fault 2 BadOption
 negative_seed = refl
 
 -- an option given twice, before its value
-repeated : asked_by ("rewrite" ∷ "--passes" ∷ "nnf" ∷ "--passes=foo" ∷ "a" ∷ []) ≡ fault 4 Repeated
+repeated : all_asked ("rewrite" ∷ "--passes" ∷ "nnf" ∷ "--passes=foo" ∷ "a" ∷ []) ≡ fault 4 Repeated
 unfolding pass_named
 repeated = refl
 
-repeated_at_end : asked_by ("translate" ∷ "--check=1" ∷ "a" ∷ "b" ∷ "--check" ∷ []) ≡ fault 5 Repeated
+repeated_at_end : all_asked ("translate" ∷ "--check=1" ∷ "a" ∷ "b" ∷ "--check" ∷ []) ≡ fault 5 Repeated
 repeated_at_end = refl
 
 -- ---- values
 
-dashed_value : asked_by ("rewrite" ∷ "--passes" ∷ "--layout" ∷ "tree" ∷ "a" ∷ []) ≡ fault 3 BadValue
+dashed_value : all_asked ("rewrite" ∷ "--passes" ∷ "--layout" ∷ "tree" ∷ "a" ∷ []) ≡ fault 3 BadValue
 dashed_value = refl
 
-dash_as_list : asked_by ("rewrite" ∷ "--passes" ∷ "-" ∷ []) ≡ fault 3 BadPass
+dash_as_list : all_asked ("rewrite" ∷ "--passes" ∷ "-" ∷ []) ≡ fault 3 BadPass
 unfolding pass_named
 dash_as_list = refl
 
-dash_as_layout : asked_by ("rewrite" ∷ "--layout" ∷ "-" ∷ []) ≡ fault 3 BadValue
+dash_as_layout : all_asked ("rewrite" ∷ "--layout" ∷ "-" ∷ []) ≡ fault 3 BadValue
 dash_as_layout = refl
 
-empty_list : asked_by ("rewrite" ∷ "--passes=" ∷ "a" ∷ []) ≡ fault 2 BadPass
+empty_list : all_asked ("rewrite" ∷ "--passes=" ∷ "a" ∷ []) ≡ fault 2 BadPass
 unfolding pass_named
 empty_list = refl
 
-bad_layout : asked_by ("rewrite" ∷ "--layout=graph" ∷ "a" ∷ []) ≡ fault 2 BadValue
+bad_layout : all_asked ("rewrite" ∷ "--layout=graph" ∷ "a" ∷ []) ≡ fault 2 BadValue
 bad_layout = refl
 
-check_zero : asked_by ("extend" ∷ "--check" ∷ "0" ∷ []) ≡ fault 3 BadValue
+check_zero : all_asked ("extend" ∷ "--check" ∷ "0" ∷ []) ≡ fault 3 BadValue
 check_zero = refl
 
-check_with_zero : asked_by ("extend" ∷ "--check=01" ∷ []) ≡ fault 2 BadValue
+check_with_zero : all_asked ("extend" ∷ "--check=01" ∷ []) ≡ fault 2 BadValue
 check_with_zero = refl
 
-check_of_nineteen_digits : asked_by ("extend" ∷ "--check=1234567890123456789" ∷ []) ≡ fault 2 BadValue
+check_of_nineteen_digits : all_asked ("extend" ∷ "--check=1234567890123456789" ∷ []) ≡ fault 2 BadValue
 check_of_nineteen_digits = refl
 
-size_zero : asked_by ("demo" ∷ "1" ∷ "0" ∷ []) ≡ fault 3 BadValue
+size_zero : all_asked ("demo" ∷ "1" ∷ "0" ∷ []) ≡ fault 3 BadValue
 size_zero = refl
 
-size_too_great : asked_by ("demo" ∷ "1" ∷ "10001" ∷ []) ≡ fault 3 BadValue
+size_too_great : all_asked ("demo" ∷ "1" ∷ "10001" ∷ []) ≡ fault 3 BadValue
 size_too_great = refl
 
-dash_as_seed : asked_by ("demo" ∷ "-" ∷ []) ≡ fault 2 BadValue
+dash_as_seed : all_asked ("demo" ∷ "-" ∷ []) ≡ fault 2 BadValue
 dash_as_seed = refl
 
-seed_with_letter : asked_by ("demo" ∷ "1a" ∷ "1" ∷ []) ≡ fault 2 BadValue
+seed_with_letter : all_asked ("demo" ∷ "1a" ∷ "1" ∷ []) ≡ fault 2 BadValue
 seed_with_letter = refl
 
 -- ---- words too many, and empty ones
 
-third_file : asked_by ("translate" ∷ "a" ∷ "b" ∷ "c" ∷ []) ≡ fault 4 Extra
+third_file : all_asked ("translate" ∷ "a" ∷ "b" ∷ "c" ∷ []) ≡ fault 4 Extra
 third_file = refl
 
 -- too many counts before the second `-`
-second_dash_too_many : asked_by ("rewrite" ∷ "-" ∷ "-" ∷ []) ≡ fault 3 Extra
+second_dash_too_many : all_asked ("rewrite" ∷ "-" ∷ "-" ∷ []) ≡ fault 3 Extra
 second_dash_too_many = refl
 
-third_number : asked_by ("demo" ∷ "1" ∷ "2" ∷ "x" ∷ []) ≡ fault 4 Extra
+third_number : all_asked ("demo" ∷ "1" ∷ "2" ∷ "x" ∷ []) ≡ fault 4 Extra
 third_number = refl
 
 -- an empty word counts before one too many
-empty_word_too_many : asked_by ("stats" ∷ "a" ∷ "" ∷ []) ≡ fault 3 BadValue
+empty_word_too_many : all_asked ("stats" ∷ "a" ∷ "" ∷ []) ≡ fault 3 BadValue
 empty_word_too_many = refl
 
 -- ---- several faults: the first counts
 
-list_before_option : asked_by ("rewrite" ∷ "--passes" ∷ "foo" ∷ "--nothing" ∷ "-" ∷ "-" ∷ []) ≡ fault 3 BadPass
+list_before_option : all_asked ("rewrite" ∷ "--passes" ∷ "foo" ∷ "--nothing" ∷ "-" ∷ "-" ∷ []) ≡ fault 3 BadPass
 unfolding pass_named
 list_before_option = refl
 
-option_before_list : asked_by ("rewrite" ∷ "--nothing" ∷ "--passes" ∷ "foo" ∷ []) ≡ fault 2 BadOption
+option_before_list : all_asked ("rewrite" ∷ "--nothing" ∷ "--passes" ∷ "foo" ∷ []) ≡ fault 2 BadOption
 option_before_list = refl
 
-inputs_before_value : asked_by ("translate" ∷ "-" ∷ "-" ∷ "--check=0" ∷ []) ≡ fault 3 TwoInputs
+inputs_before_value : all_asked ("translate" ∷ "-" ∷ "-" ∷ "--check=0" ∷ []) ≡ fault 3 TwoInputs
 inputs_before_value = refl
 
 -- what is missing is tested last
-value_before_missing : asked_by ("translate" ∷ "--check=0" ∷ []) ≡ fault 2 BadValue
+value_before_missing : all_asked ("translate" ∷ "--check=0" ∷ []) ≡ fault 2 BadValue
 value_before_missing = refl
+
+-- ---- what the program has so far
+
+standing_passes : so_far ("rewrite" ∷ "--passes=nnf,aig,prenex,shannon,selfsub" ∷ "-" ∷ []) ≡ Ok (rewrite (Nnf ∷ Aig ∷ Prenex ∷ Shannon ∷ SelfSub ∷ []) Tree (word 3 "-"))
+unfolding pass_named
+standing_passes = refl
+
+a_pass_to_come : so_far ("rewrite" ∷ "--passes" ∷ "nnf,simplify" ∷ "-" ∷ []) ≡ fault 3 BadPass
+unfolding pass_named
+a_pass_to_come = refl
+
+passes_to_come_in_wrong_order : so_far ("rewrite" ∷ "--passes" ∷ "rules,cnf" ∷ "-" ∷ []) ≡ fault 3 BadPass
+unfolding pass_named
+passes_to_come_in_wrong_order = refl
+
+a_command_to_come : so_far ("translate" ∷ "-" ∷ "-" ∷ []) ≡ fault 1 UnknownCommand
+a_command_to_come = refl
+
+standing_stats : so_far ("stats" ∷ "-" ∷ []) ≡ Ok (stats (word 2 "-"))
+standing_stats = refl
