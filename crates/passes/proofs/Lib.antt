@@ -1,1 +1,6 @@
+mod Numbered
 mod Rows
+mod WithinForms
+mod WithinPrenex
+mod WithinQuantifiers
+mod WithinSubst
