@@ -26,6 +26,7 @@ mod Rows
 mod Shown
 mod SortFacts
 mod Sources
+mod SparedScript
 mod Standing
 mod SubstClear
 mod TermsMean
