@@ -1,5 +1,12 @@
+mod Assertions
+mod Kept
+mod Literals
+mod ModelsStay
 mod Numbered
+mod Outlines
 mod Rows
+mod Standing
+mod Walked
 mod WithinForms
 mod WithinPrenex
 mod WithinQuantifiers

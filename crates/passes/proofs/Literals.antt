@@ -1,22 +1,24 @@
 -- The literals of a script's points are those of its checks, whatever is asserted; and literals that may be printed are well
 -- sorted.
-use Rattle.std.proofs.Common.{◌≡◌, ◌∙◌, sym, ap, refl, ℕ, zero, suc, eqb, Bool, true, false, not, ◌&&◌, List, [], ◌∷◌, map, length, Option, Some, None, subst}
+use Rattle.std.proofs.Common.{◌≡◌, ◌∙◌, sym, ap, refl, ℕ, zero, suc, eqb, Bool, true, false, not, ◌&&◌, List, [], ◌∷◌, map, length, Option, Some, None, subst, arith}
 use Rattle.std.specs.Prelude.{is_some}
 use Rattle.std.specs.List.{list_all}
+use Rattle.std.proofs.lemmas.Bool.{ne_eqb}
 use Rattle.smt_terms.specs.declared.op.Op.TheVariants.{Not}
 use Rattle.smt_terms.specs.Free.{is_among as is_among_symbols}
-use Rattle.smt_terms.specs.Rank.{shape, rank, sort_of, is_regular, is_minus, IsWellSorted}
+use Rattle.smt_terms.specs.Rank.{rank, with_sort, sort_over, sort_of, is_regular, is_minus, is_minus_of, IsWellSorted}
 use Rattle.smt_terms.specs.Shapes.{is_bool}
 use Rattle.smt_terms.specs.Sorts.{Name, Sort, bool, Symbol}
 use Rattle.smt_terms.specs.Term.{op, symbol, const_array, Term, apply, quantified, none, ◌⨾◌, constant}
-use Rattle.smt_terms.proofs.Tests.{both_true}
+use Rattle.smt_terms.proofs.Keeping.{not_minus}
+use Rattle.smt_terms.proofs.Tests.{both_true, and_true}
 use Rattle.script_read.specs.Commands.{Command, passed, declare_sort, declare, assert, check, check_assuming, push, pop, reset, reset_assertions, globals, exit, State, start, after, Point, with_point, points_from, points, nth_point, at_point, symbols_of_state, literals}
 use Rattle.script_read.specs.Printable.{is_live_constant, is_live_literal}
 
 -- ---- literals by commands
 
 -- of a check, before those of the later points
-abbrev literals_before : Command Term → List (List Term) → List (List Term)
+abbrev pub literals_before : Command Term → List (List Term) → List (List Term)
 literals_before check later = [] ∷ later
 literals_before (check_assuming ls) later = ls ∷ later
 literals_before _ later = later
@@ -61,7 +63,7 @@ bool_sort _ h = absurd cc
 
 no_arguments : (ss : List Sort) → eqb (length ss) 0 ≡ true → ss ≡ []
 no_arguments [] h = refl
-no_arguments (s ∷ ss) h = absurd cc
+no_arguments (s ∷ ss) h = let more : eqb (suc (length ss)) 0 ≡ false = ne_eqb (suc (length ss)) 0 (λ none. omega (arith, none)) in absurd cc
 
 flag : Name → Symbol
 flag n = record { name = n; args = []; result = bool }
@@ -71,7 +73,7 @@ record IsFormula (t : Term) : Type 0 where
   regular : is_regular t ≡ true
 
 flag_fine : (n : Name) → IsFormula (constant (flag n))
-unfolding rank flag
+unfolding rank is_minus_of flag
 flag_fine n = record { sort = refl; regular = refl }
 
 constant_fine : (s : State Term) (t : Term) → is_live_constant s t ≡ true → IsFormula t
@@ -87,11 +89,15 @@ constant_fine s (apply (const_array a) us) h = absurd cc
 constant_fine s (quantified q xs u) h = absurd cc
 
 not_fine : (t : Term) → IsFormula t → IsFormula (apply (op Not) (t ⨾ none))
-not_fine t fine = ?
+unfolding rank is_minus
+not_fine t fine = record {
+  sort = ap (λ o. sort_over (op Not) (with_sort o (Some []))) fine.sort;
+  regular = and_true (not (is_minus_of (op Not) (t ⨾ none))) (is_regular t && true) (ap not (not_minus Not (t ⨾ none) refl)) (and_true (is_regular t) true fine.regular refl);
+}
 
 literal_fine : (s : State Term) (t : Term) → is_live_literal s t ≡ true → IsFormula t
 literal_fine s (apply (op Not) (u ⨾ none)) h = not_fine u (constant_fine s u h)
 literal_fine s u h = constant_fine s u h
 
 pub literal_sorted : (s : State Term) (t : Term) → is_live_literal s t ≡ true → IsWellSorted t
-literal_sorted s t h = let fine = literal_fine s t h in ?
+literal_sorted s t h = let fine = literal_fine s t h in and_true (is_some (sort_of t)) (is_regular t) (ap is_some fine.sort) fine.regular

@@ -6,7 +6,7 @@ use Rattle.smt_terms.specs.Sorts.{Name, Sort, Symbol, Variable}
 use Rattle.smt_terms.specs.Term.{Quantifier, Head, op, symbol, const_array, Term, apply, quantified, Terms, none, ◌⨾◌, constant_of, constant, variable}
 use Rattle.smt_terms.specs.Free.{name_among, without, free}
 use Rattle.smt_terms.specs.Fresh.{Supply, numbered_name, next_number, after_draw, fresh_for}
-use Rattle.smt_terms.specs.Made.{made}
+use Rattle.smt_terms.specs.Made.{minus, made}
 use Rattle.smt_terms.specs.Subst.{Map, image, cut_to, names_in, bind, renaming, image_or_itself, rebuilt, subst}
 use Rattle.smt_terms.proofs.Tests.{both_true, and_true}
 use Rattle.normal_forms.proofs.Substituted.{IsSubst, AreSubsts, ImagesHave, subst-any, cut-have, renamed-have}
@@ -48,14 +48,13 @@ module _ (sorts : Sort → Bool) (names : Name → Bool) (drawn : (i : ℕ) → 
 
   -- ---- made terms
 
-  made-within : (h : Head) (us : Terms) → Within (apply h us) → Within (made h us)
-  made-within (symbol f) us given = given
-  made-within (const_array s) us given = given
-  made-within (op Neg) (apply (op (Whole n)) none ⨾ none) given = refl
-  made-within (op o) us given = made-other (op o) us given refl
-    where
-      made-other : (h : Head) (us : Terms) → Within (apply h us) → made h us ≡ apply h us → Within (made h us)
-      made-other h us given same = carry Within (sym same) given
+  minus-within : (t : Term) → Within t → Within (minus t)
+  minus-within (apply (op (Whole n)) none) given = refl
+  minus-within t given = and_true (within t) true given refl
+
+  pub made-within : (h : Head) (us : Terms) → Within (apply h us) → Within (made h us)
+  made-within (op Neg) (t ⨾ none) given = minus-within t (both_true (within t) true given).0
+  made-within h us given = given
 
   image-within : (f : Map) (g : Symbol) (o : Option Term) → image f g ≡ o → Within (constant g) → ImagesHave Within f → Within (image_or_itself o g)
   image-within f g (Some u) found itself have = have g u found
