@@ -1,5 +1,5 @@
 -- What passes put in the place of one assertion: a term of the same value, in which nothing is new but drawn names.
-use Rattle.std.proofs.Common.{◌≡◌, ℕ, Bool, true, List, [], ◌∷◌, refl}
+use Rattle.std.proofs.Common.{◌≡◌, ℕ, Bool, true, [], ◌∷◌, refl}
 use Rattle.smt_terms.specs.Sorts.{Name, Sort, Symbol}
 use Rattle.smt_terms.specs.Term.{Term}
 use Rattle.smt_terms.specs.Free.{is_among, free}
@@ -15,12 +15,12 @@ use Rattle.normal_forms.specs.Nnf.{nnf}
 use Rattle.normal_forms.specs.Aig.{aig}
 use Rattle.normal_forms.specs.Prenex.{prenex}
 use Rattle.normal_forms.specs.Quantifiers.{shannon, selfsub}
-use Rattle.script_read.specs.Commands.{Command, declare}
+use Rattle.script_read.specs.Commands.{declare}
 use Rattle.script_read.specs.Printable.{all_within}
 use Rattle.passes.specs.declared.names.Pass.{Pass}
 use Rattle.passes.specs.declared.names.Pass.TheVariants.{Simplify, Nnf, Aig, Prenex, Reads, Shannon, SelfSub, Rules, Ite, Cnf, Ackermann}
 use Rattle.passes.specs.Laws.{keeps_values}
-use Rattle.passes.specs.Passed.{Way, alone, rewritten, in_place, Replacement, written}
+use Rattle.passes.specs.Passed.{Way, alone, rewritten, in_place, written}
 use Rattle.passes.proofs.WithinForms.{nnf-within, aig-within}
 use Rattle.passes.proofs.WithinPrenex.{prenex-within}
 use Rattle.passes.proofs.WithinQuantifiers.{shannon-within, selfsub-within}

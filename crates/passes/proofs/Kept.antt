@@ -1,5 +1,5 @@
 -- A pass, and a list of passes, lead from commands that can be printed to equivalent ones that can be printed.
-use Rattle.std.proofs.Common.{◌≡◌, ◌∙◌, sym, ap, refl, ℕ, Bool, true, false, List, [], ◌∷◌, Some}
+use Rattle.std.proofs.Common.{◌≡◌, ◌∙◌, sym, refl, false, List, [], ◌∷◌, Some}
 use Rattle.std.specs.Prelude.{is_some}
 use Rattle.std.specs.List.{list_all}
 use Rattle.smt_terms.specs.Term.{Term}
@@ -17,7 +17,7 @@ use Rattle.smt_print.specs.Laws.{Each}
 use Rattle.smt_print.proofs.LikePoints.{Alike, alike}
 use Rattle.passes.specs.declared.names.Pass.{Pass}
 use Rattle.passes.specs.Laws.{keeps_values, IsReady, AreEquivalent, KeepsCommands, PassKeepsCommands, PassesKeepCommands}
-use Rattle.passes.specs.Passed.{Way, Replacement, replacements, written, apply_pass, passed}
+use Rattle.passes.specs.Passed.{Way, apply_pass, passed}
 use Rattle.passes.proofs.Assertions.{Rule, FormLaws, rule_of}
 use Rattle.passes.proofs.Literals.{same_literals}
 use Rattle.passes.proofs.Walked.{Walked, walked, all_like}

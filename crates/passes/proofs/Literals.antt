@@ -1,8 +1,7 @@
 -- The literals of a script's points are those of its checks, whatever is asserted; and literals that may be printed are well
 -- sorted.
-use Rattle.std.proofs.Common.{◌≡◌, ◌∙◌, sym, ap, refl, ℕ, zero, suc, eqb, Bool, true, false, not, ◌&&◌, List, [], ◌∷◌, map, length, Option, Some, None, subst, arith}
+use Rattle.std.proofs.Common.{◌≡◌, ◌∙◌, sym, ap, refl, ℕ, zero, suc, eqb, true, false, not, ◌&&◌, List, [], ◌∷◌, map, length, Some, subst, arith}
 use Rattle.std.specs.Prelude.{is_some}
-use Rattle.std.specs.List.{list_all}
 use Rattle.std.proofs.lemmas.Bool.{ne_eqb}
 use Rattle.smt_terms.specs.declared.op.Op.TheVariants.{Not}
 use Rattle.smt_terms.specs.Free.{is_among as is_among_symbols}
@@ -12,7 +11,7 @@ use Rattle.smt_terms.specs.Sorts.{Name, Sort, bool, Symbol}
 use Rattle.smt_terms.specs.Term.{op, symbol, const_array, Term, apply, quantified, none, ◌⨾◌, constant}
 use Rattle.smt_terms.proofs.Keeping.{not_minus}
 use Rattle.smt_terms.proofs.Tests.{both_true, and_true}
-use Rattle.script_read.specs.Commands.{Command, passed, declare_sort, declare, assert, check, check_assuming, push, pop, reset, reset_assertions, globals, exit, State, start, after, Point, with_point, points_from, points, nth_point, at_point, symbols_of_state, literals}
+use Rattle.script_read.specs.Commands.{Command, check, check_assuming, State, start, after, Point, with_point, points_from, points, nth_point, at_point, symbols_of_state, literals}
 use Rattle.script_read.specs.Printable.{is_live_constant, is_live_literal}
 
 -- ---- literals by commands

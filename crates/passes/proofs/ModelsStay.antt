@@ -1,18 +1,17 @@
 -- Passes that draw no symbols leave models as they are.
-use Rattle.std.proofs.Common.{◌≡◌, ◌∙◌, sym, ap, refl, ℕ, Bool, true, false, List, [], ◌∷◌, ◌++◌, map, Option, Some, None}
+use Rattle.std.proofs.Common.{◌≡◌, ◌∙◌, ap, refl, ℕ, true, List, [], ◌∷◌, ◌++◌, map, Option}
 use Rattle.std.specs.Prelude.{filter, flat_map}
 use Rattle.std.specs.List.{list_all}
 use Rattle.smt_terms.specs.Sorts.{Symbol}
 use Rattle.smt_terms.specs.Term.{Term}
 use Rattle.smt_terms.specs.Free.{is_among}
 use Rattle.smt_terms.specs.Fresh.{Supply}
-use Rattle.smt_terms.specs.Groups.{Named, Group}
 use Rattle.smt_terms.specs.Models.{Graph, Model}
 use Rattle.smt_terms.proofs.Tests.{both_true}
 use Rattle.ackermann.specs.Ackermann.{one_level}
 use Rattle.script_read.specs.Commands.{Command, passed, declare_sort, declare, assert, check, check_assuming, push, pop, reset, reset_assertions, globals, exit, live, signature}
 use Rattle.smt_print.specs.Laws.{Each}
-use Rattle.smt_print.proofs.LikePoints.{LikeCommand, like_passed, like_sort, like_symbol, like_assert, like_check, like_assuming, like_push, like_pop, like_reset, like_emptying, like_globals, like_exit, LikeCommands, Alike, alike}
+use Rattle.smt_print.proofs.LikePoints.{LikeCommand, like_passed, like_sort, like_symbol, like_assert, like_check, like_assuming, like_push, like_pop, like_reset, like_emptying, like_globals, like_exit, LikeCommands, alike}
 use Rattle.passes.specs.declared.names.Pass.{Pass}
 use Rattle.passes.specs.declared.names.Pass.TheVariants.{Simplify, Nnf, Aig, Prenex, Reads, Shannon, SelfSub, Rules, Ite, Cnf, Ackermann}
 use Rattle.passes.specs.Carry.{live_symbols, drawn_by, new_symbols, with_graphs, graph_dropped, back_over, back, term_for, declared_new, graph_kept, graph_given, forth_over, forth}

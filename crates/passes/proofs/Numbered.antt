@@ -1,5 +1,5 @@
 -- The names that passes draw may be quantified: they can be written between bars, and nothing has them.
-use Rattle.std.proofs.Common.{◌≡◌, ℕ, ◌+◌, ◌<◌, ◌%◌, eqb, Bool, true, not, ◌&&◌, List, refl, ap, arith}
+use Rattle.std.proofs.Common.{◌≡◌, ℕ, ◌+◌, ◌<◌, ◌%◌, eqb, Bool, true, not, ◌&&◌, refl, ap, arith}
 use Rattle.std.specs.List.{list_all}
 use Rattle.std.proofs.Math.Nat.{mod-lt}
 use Rattle.std.proofs.lemmas.Bool.{ne_eqb}

@@ -12,7 +12,7 @@ use Rattle.smt_terms.specs.Shapes.{is_bool}
 use Rattle.smt_terms.specs.Sorts.{Name, Symbol}
 use Rattle.smt_terms.specs.Term.{op, symbol, const_array, Term, apply, quantified, none, ◌⨾◌}
 use Rattle.script_read.specs.Commands.{Command, passed, declare_sort, declare, assert, check, check_assuming, push, pop, reset, reset_assertions, globals, exit, Level, State, empty_level, throughout, on_latest, with_sort, with_symbol, with_assertion, with_declarations, folded, levels_popped, levels_emptied, after, sorts_of_state, symbols_of_state}
-use Rattle.script_read.specs.Printable.{is_writable, is_usable, sort_is_live, is_live_constant, is_live_literal, is_new_symbol, is_new_sort, may_stand}
+use Rattle.script_read.specs.Printable.{is_writable, is_usable, sort_is_live, is_live_constant, is_live_literal, may_stand}
 use Rattle.script_read.specs.Script.{most_levels}
 
 abbrev pub level_outline : Level Term → Level Term

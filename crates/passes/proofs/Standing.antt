@@ -1,10 +1,9 @@
 -- An assertion that takes the place of one that may stand may stand there, too.
-use Rattle.std.proofs.Common.{◌≡◌, ◌∙◌, sym, ap, refl, ℕ, Bool, true, false, ◌&&◌, ◌||◌, ◌⊎◌, inl, inr, List, [], ◌∷◌, subst}
+use Rattle.std.proofs.Common.{◌≡◌, ◌∙◌, sym, ap, refl, ℕ, Bool, true, ◌&&◌, inl, inr, List, [], ◌∷◌, subst}
 use Rattle.std.specs.List.{list_all}
 use Rattle.smt_terms.specs.Equal.{symbol_eq}
 use Rattle.smt_terms.specs.Free.{is_among, free}
-use Rattle.smt_terms.specs.Keeps.{Keeps}
-use Rattle.smt_terms.specs.Rank.{sort_of, is_well_sorted, IsWellSorted}
+use Rattle.smt_terms.specs.Rank.{is_well_sorted, IsWellSorted}
 use Rattle.smt_terms.specs.Shapes.{is_clear}
 use Rattle.smt_terms.specs.Sorts.{bool, Symbol}
 use Rattle.smt_terms.specs.Term.{Term}

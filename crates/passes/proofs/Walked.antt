@@ -1,8 +1,8 @@
 -- Commands behind a pass: alike, with the same literals, and printable again.
-use Rattle.std.proofs.Common.{◌≡◌, ◌∙◌, sym, ap, refl, ℕ, Bool, true, false, ◌&&◌, ◌⊎◌, inl, inr, List, [], ◌∷◌, ◌++◌, map, subst}
+use Rattle.std.proofs.Common.{◌≡◌, ◌∙◌, sym, ap, refl, ℕ, Bool, true, ◌&&◌, ◌⊎◌, inl, inr, List, [], ◌∷◌, ◌++◌, map, subst}
 use Rattle.std.specs.Prelude.{flat_map}
 use Rattle.std.specs.List.{list_all}
-use Rattle.smt_terms.specs.Sorts.{Name, Symbol}
+use Rattle.smt_terms.specs.Sorts.{Name}
 use Rattle.smt_terms.specs.Term.{Term}
 use Rattle.smt_terms.specs.Free.{name_among}
 use Rattle.smt_terms.specs.Fresh.{Supply, NeverGives}
@@ -18,10 +18,10 @@ use Rattle.script_read.specs.Printable.{is_live_literal, may_stand, fixes, may_b
 use Rattle.smt_print.specs.Laws.{Each}
 use Rattle.smt_print.proofs.LikePoints.{LikeCommand, like_passed, like_sort, like_symbol, like_assert, like_check, like_assuming, like_push, like_pop, like_reset, like_emptying, like_globals, like_exit, LikeCommands}
 use Rattle.passes.specs.declared.names.Pass.{Pass}
-use Rattle.passes.specs.Passed.{Way, alone, in_place, Replacement, literal_kept, replaced_by, onward, turn, behind, replacements_from, group_commands, written}
-use Rattle.passes.proofs.Assertions.{Kept, Replaces, Rule}
+use Rattle.passes.specs.Passed.{Way, in_place, Replacement, literal_kept, replaced_by, onward, behind, replacements_from, group_commands, written}
+use Rattle.passes.proofs.Assertions.{Replaces, Rule}
 use Rattle.passes.proofs.Literals.{literals_in, literals_before, literal_sorted}
-use Rattle.passes.proofs.Outlines.{asserts_nothing, outline, same_after, asserted_after, DeclareTheSame, declare_the_same, stands_alike}
+use Rattle.passes.proofs.Outlines.{asserts_nothing, outline, same_after, asserted_after, declare_the_same, stands_alike}
 use Rattle.passes.proofs.Standing.{Stands, stands, stands_still}
 
 abbrev LikeTerms : List (Command Term) → List (Command Term) → Type 0

@@ -1,14 +1,14 @@
 -- Negation normal form and and-inverter form bring in no sort and no quantified name: each sort and each quantified name of the
 -- result passes the tests that those of the term pass.
-use Rattle.std.proofs.Common.{◌≡◌, ℕ, zero, suc, Bool, true, not, ◌&&◌, List, [], ◌∷◌, map, refl, ap, sym, subst}
+use Rattle.std.proofs.Common.{◌≡◌, ℕ, zero, suc, Bool, true, ◌&&◌, List, [], ◌∷◌, map, refl, sym, subst}
 use Rattle.std.specs.List.{list_all}
 use Rattle.smt_terms.specs.declared.op.Op.{Op}
 use Rattle.smt_terms.specs.declared.op.Op.TheVariants.{Not, And, Or}
 use Rattle.smt_terms.specs.Sorts.{Name, Sort}
-use Rattle.smt_terms.specs.Term.{Quantifier, op, symbol, const_array, Term, apply, quantified, Terms, none, ◌⨾◌, terms}
-use Rattle.smt_terms.specs.Connectives.{Kind, truth_value, negation, conjunction, disjunction, exclusive, implication, equivalence, difference, conditional, atom, kind_of, truth_term, negated, all_of, both, either, opposite, nth}
+use Rattle.smt_terms.specs.Term.{op, Term, apply, quantified, Terms, none, ◌⨾◌, terms}
+use Rattle.smt_terms.specs.Connectives.{Kind, truth_value, negation, conjunction, disjunction, exclusive, implication, equivalence, difference, conditional, atom, kind_of, negated, all_of, both, either, opposite, nth}
 use Rattle.smt_terms.proofs.Tests.{both_true, and_true}
-use Rattle.normal_forms.specs.Nnf.{differ, agree, positive_distinct, negative_distinct, positive, negative, dual, nnf, nnf_not, nnf_each, nnf_not_each}
+use Rattle.normal_forms.specs.Nnf.{differ, agree, positive_distinct, negative_distinct, positive, negative, nnf, nnf_not, nnf_each, nnf_not_each}
 use Rattle.normal_forms.specs.Aig.{same_sides, aig_distinct, inverted, aig, aig_each}
 use Rattle.script_read.specs.Printable.{head_sorts, all_within, all_within_each}
 

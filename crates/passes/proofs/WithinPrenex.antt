@@ -1,12 +1,11 @@
 -- Prenex form keeps the tests of sorts and quantified names, where drawn names pass.
-use Rattle.std.proofs.Common.{◌≡◌, ℕ, zero, suc, Bool, true, false, ◌&&◌, List, [], ◌∷◌, map, Option, Some, None, refl}
+use Rattle.std.proofs.Common.{◌≡◌, ℕ, zero, suc, Bool, true, false, ◌&&◌, [], map, Option, Some, None, refl}
 use Rattle.std.specs.List.{list_all}
 use Rattle.std.specs.Prelude.{⊤}
 use Rattle.smt_terms.specs.Sorts.{Name, Sort, Variable}
 use Rattle.smt_terms.specs.Term.{Head, Term, apply, quantified, Terms, none, ◌⨾◌}
 use Rattle.smt_terms.specs.Equal.{term_eq}
 use Rattle.smt_terms.specs.Fresh.{Supply, numbered_name}
-use Rattle.smt_terms.specs.Subst.{Renamed, renaming, subst}
 use Rattle.smt_terms.specs.Connectives.{Kind, conjunction, disjunction, kind_of}
 use Rattle.smt_terms.proofs.Tests.{both_true, and_true}
 use Rattle.normal_forms.specs.Nnf.{nnf}
@@ -69,7 +68,7 @@ module _ (sorts : Sort → Bool) (names : Name → Bool) (numbered : (i : ℕ) �
   AllOf none = ⊤
   AllOf (t ⨾ ts) = Within t × AllOf ts
 
-  turn-within : (t : Term) (s : Supply) (more : Term → Supply → Term × Supply) → Within t → ((u : Term) (v : Supply) → Within u → Within (more u v).0) → (o : Option Quantified) → (( f : Quantified) → o ≡ Some f → Within (whole f)) → Within (pulled o t s more).0
+  turn-within : (t : Term) (s : Supply) (more : Term → Supply → Term × Supply) → Within t → ((u : Term) (v : Supply) → Within u → Within (more u v).0) → (o : Option Quantified) → ((f : Quantified) → o ≡ Some f → Within (whole f)) → Within (pulled o t s more).0
   turn-within t s more given below None found = given
   turn-within t s more given below (Some f) found =
       let here : Within (whole f) = found f refl in

@@ -1,13 +1,12 @@
 -- Shannon's expansion and self-substitution keep the tests of sorts and quantified names, where drawn names pass.
-use Rattle.std.proofs.Common.{◌≡◌, ℕ, Bool, true, false, not, cond, ◌&&◌, List, [], ◌∷◌, map, Option, Some, None, refl, ap, sym, ◌∙◌, subst as carry}
+use Rattle.std.proofs.Common.{◌≡◌, ℕ, Bool, true, false, not, cond, ◌&&◌, List, [], ◌∷◌, map, Option, Some, None, refl, sym, subst as carry}
 use Rattle.std.specs.List.{list_all}
 use Rattle.std.specs.Prelude.{⊤}
-use Rattle.smt_terms.specs.Sorts.{Name, Sort, bool, int, bit_vector, array, free_sort, Symbol, Variable}
+use Rattle.smt_terms.specs.Sorts.{Name, Sort, bool, int, bit_vector, array, free_sort, Variable}
 use Rattle.smt_terms.specs.Term.{Quantifier, universal, existential, Head, op, symbol, const_array, Term, apply, quantified, Terms, none, ◌⨾◌, constant_of, constant}
 use Rattle.smt_terms.specs.Equal.{symbol_eq, term_eq}
 use Rattle.smt_terms.specs.Free.{is_among}
 use Rattle.smt_terms.specs.Fresh.{Supply, numbered_name}
-use Rattle.smt_terms.specs.Subst.{subst}
 use Rattle.smt_terms.specs.Connectives.{truth_term}
 use Rattle.smt_terms.specs.Shapes.{is_bool}
 use Rattle.smt_terms.proofs.Tests.{both_true, and_true}

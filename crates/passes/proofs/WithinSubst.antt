@@ -1,9 +1,9 @@
 -- Substitution, where it is for images that pass them, keeps the tests of sorts and quantified names, where drawn names pass.
-use Rattle.std.proofs.Common.{◌≡◌, ℕ, Bool, true, false, ◌&&◌, ℤ, List, [], ◌∷◌, Option, Some, None, refl, ap, sym, ◌∙◌, subst as carry}
+use Rattle.std.proofs.Common.{◌≡◌, ℕ, Bool, true, false, ◌&&◌, List, [], ◌∷◌, Option, Some, None, refl, subst as carry}
 use Rattle.std.specs.List.{list_all}
 use Rattle.smt_terms.specs.declared.op.Op.TheVariants.{Whole, Neg}
 use Rattle.smt_terms.specs.Sorts.{Name, Sort, Symbol, Variable}
-use Rattle.smt_terms.specs.Term.{Quantifier, Head, op, symbol, const_array, Term, apply, quantified, Terms, none, ◌⨾◌, constant_of, constant, variable}
+use Rattle.smt_terms.specs.Term.{Head, op, symbol, const_array, Term, apply, quantified, Terms, none, ◌⨾◌, constant_of, constant, variable}
 use Rattle.smt_terms.specs.Free.{name_among, without, free}
 use Rattle.smt_terms.specs.Fresh.{Supply, numbered_name, next_number, after_draw, fresh_for}
 use Rattle.smt_terms.specs.Made.{minus, made}

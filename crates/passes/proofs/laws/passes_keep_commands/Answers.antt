@@ -1,4 +1,3 @@
-use Rattle.passes.proofs.Assertions.{FormLaws}
 use Rattle.passes.proofs.Kept.{pass_keeps, passes_keep}
 use Rattle.passes.proofs.laws.passes_keep_commands.Goals as goal
 
