@@ -1,5 +1,5 @@
 -- Rewriting keeps its promise: reading keeps meaning, passes keep values, and printing reads back.
-use Rattle.std.proofs.Common.{◌≡◌, ◌∙◌, sym, ap, refl, ℕ, Bool, true, false, ◌&&◌, List, [], ◌∷◌, ◌++◌, map, length, Option, Some, None, Result, Ok, Err, IsTrue, subst}
+use Rattle.std.proofs.Common.{◌≡◌, ◌∙◌, sym, ap, refl, ℕ, suc, Bool, true, ◌&&◌, List, [], ◌∷◌, ◌++◌, map, length, Option, Some, None, Result, Ok, Err, IsTrue, subst}
 use Rattle.std.specs.Prelude.{is_ok}
 use Rattle.std.specs.List.{list_all}
 use Rattle.smt_terms.specs.Fresh.{Supply}
@@ -14,21 +14,20 @@ use Rattle.smt_terms.proofs.Equal.{Decides-sort_eq}
 use Rattle.smt_terms.proofs.Respects.{truths_alike}
 use Rattle.smt_terms.proofs.Tests.{both_true, and_true}
 use Rattle.smt_terms.proofs.Valid.{val_valid}
-use Rattle.script_read.specs.Commands.{Command, Signature, kinds, live, literals, signature}
-use Rattle.script_read.specs.Laws.{PointsAgree, SamePoints, ReadingAnswers, denoted, form_denoted, SameMeaning, ReadingKeepsMeaning, ReadScriptsArePrintable, NamesLeftAreNew}
+use Rattle.script_read.specs.Commands.{Command, Signature, live, literals}
+use Rattle.script_read.specs.Laws.{PointsAgree, SamePoints, ReadingAnswers, denoted, form_denoted, SameMeaning, ReadingKeepsMeaning}
 use Rattle.script_read.specs.Mean.{Denoted, is_true_of}
 use Rattle.script_read.specs.Read.{is_of_sort, has_sort}
 use Rattle.script_read.specs.Refusals.{Unaccepted}
-use Rattle.script_read.specs.Satisfied.{is_true_in, sat}
+use Rattle.script_read.specs.Satisfied.{is_true_in}
 use Rattle.script_read.specs.Scenes.{Asserted, forms_script, means_true, holds}
-use Rattle.script_read.specs.Script.{script, fault}
+use Rattle.script_read.specs.Script.{script}
 use Rattle.smt_print.specs.declared.layout.Layout.{Layout}
 use Rattle.smt_print.specs.Laws.{Each, MeansTheSame, ReadsBack, PrintingReadsBack}
 use Rattle.passes.specs.declared.names.Pass.{Pass}
 use Rattle.passes.specs.Laws.{keeps_values, IsReady, AreEquivalent, KeepsCommands, PassesKeepCommands, PassesLeaveModels}
 use Rattle.passes.specs.Passed.{passed}
-use Rattle.smtrw_answers.specs.Carrying.{translated, extended}
-use Rattle.smtrw_answers.specs.Headline.{IsPoint, signature_at, IsModelAt, meaning_of, MeanTheSame, IsEquivalentAt, IsRewriting}
+use Rattle.smtrw_answers.specs.Headline.{signature_at, IsModelAt, MeanTheSame, IsRewriting}
 use Rattle.smtrw_answers.specs.Laws.{RewritingKeepsItsPromise}
 use Rattle.smtrw_answers.specs.Outputs.{read_or_none, commands, names_left, rewritten_commands, rewritten}
 
@@ -174,11 +173,5 @@ module _ (laws : TextLaws) (b : List ℕ) (ps : List Pass) (layout : Layout) (al
 
 -- ---- the law
 
-pub record ReadyLaws : Type 0 where
-  pub printable : ReadScriptsArePrintable
-  pub names : NamesLeftAreNew
-
-pub keeps_promise : TextLaws → ReadyLaws → RewritingKeepsItsPromise
-keeps_promise laws ready b ps layout accepted all =
-    let reads : script b ≡ Ok (read_or_none (script b)) = read_found (script b) ((laws.answers b).1 accepted) in
-    promise laws b ps layout all reads (record { printable = ready.printable b (read_or_none (script b)) reads; names = ready.names b (read_or_none (script b)) reads })
+pub keeps_promise : TextLaws → RewritingKeepsItsPromise
+keeps_promise laws b ps layout accepted ready all = promise laws b ps layout all (read_found (script b) ((laws.answers b).1 accepted)) ready
