@@ -5,11 +5,12 @@ use Rattle.smt_terms.specs.Term.{Term}
 use Rattle.smt_terms.specs.Free.{is_among, free}
 use Rattle.smt_terms.specs.Fresh.{Supply, numbered_name}
 use Rattle.smt_terms.specs.Groups.{Group}
-use Rattle.smt_terms.specs.Keeps.{Keeps}
+use Rattle.smt_terms.specs.Keeps.{Keeps, KeepsValues}
 use Rattle.smt_terms.specs.Rank.{IsWellSorted}
 use Rattle.smt_terms.specs.Shapes.{is_clear}
 use Rattle.smt_terms.specs.SubstLaws.{names_within, GivesNone, Later}
 use Rattle.smt_terms.proofs.Keeping.{keeps_itself}
+use Rattle.array_forms.specs.Reads.{reads}
 use Rattle.normal_forms.specs.Laws.{RewritesAlone, RewritesAs, RewritesFresh, RewritesWith}
 use Rattle.normal_forms.specs.Nnf.{nnf}
 use Rattle.normal_forms.specs.Aig.{aig}
@@ -21,6 +22,7 @@ use Rattle.passes.specs.declared.names.Pass.{Pass}
 use Rattle.passes.specs.declared.names.Pass.TheVariants.{Simplify, Nnf, Aig, Prenex, Reads, Shannon, SelfSub, Rules, Ite, Cnf, Ackermann}
 use Rattle.passes.specs.Laws.{keeps_values}
 use Rattle.passes.specs.Passed.{Way, alone, rewritten, in_place, written}
+use Rattle.passes.proofs.ReadsInside.{reads-symbols, reads-names, reads-clear, reads-within}
 use Rattle.passes.proofs.WithinForms.{nnf-within, aig-within}
 use Rattle.passes.proofs.WithinPrenex.{prenex-within}
 use Rattle.passes.proofs.WithinQuantifiers.{shannon-within, selfsub-within}
@@ -84,10 +86,20 @@ unchanged t w fine given = record {
 
 -- ---- the passes
 
+reads_replaces : KeepsValues reads → (t : Term) (w : Way) → IsWellSorted t → GivesNone w.names (names_within t) → Replaces t w.names (alone (reads t), w)
+reads_replaces keeps t w fine given = record {
+  term = reads t;
+  group = refl;
+  kept = record { keeps = keeps t fine; symbols = reads-symbols t; clear = reads-clear t fine; within = λ sorts names numbered all. reads-within sorts names t all };
+  later = λ n never. never;
+  names = λ n among. given n (reads-names t n among);
+}
+
 pub record FormLaws : Type 0 where
   pub nnf : RewritesAs nnf
   pub aig : RewritesAs aig
   pub prenex : RewritesWith prenex
+  pub reads : KeepsValues reads
   pub shannon : RewritesAs shannon
   pub selfsub : RewritesWith selfsub
 
@@ -95,11 +107,11 @@ pub rule_of : FormLaws → (p : Pass) → keeps_values p ≡ true → Rule p
 rule_of laws Nnf is = record { replaces = as_form nnf laws.nnf (λ t sorts names numbered all. nnf-within sorts names t all); declares = λ f. refl }
 rule_of laws Aig is = record { replaces = as_form aig laws.aig (λ t sorts names numbered all. aig-within sorts names t all); declares = λ f. refl }
 rule_of laws Prenex is = record { replaces = with_form prenex laws.prenex (λ t s sorts names numbered all. prenex-within sorts names numbered t s all); declares = λ f. refl }
+rule_of laws Reads is = record { replaces = reads_replaces laws.reads; declares = λ f. refl }
 rule_of laws Shannon is = record { replaces = as_form shannon laws.shannon (λ t sorts names numbered all. shannon-within sorts names t all); declares = λ f. refl }
 rule_of laws SelfSub is = record { replaces = with_form selfsub laws.selfsub (λ t s sorts names numbered all. selfsub-within sorts names numbered t s all); declares = λ f. refl }
 rule_of laws Rules is = record { replaces = unchanged; declares = λ f. refl }
 rule_of laws Simplify is = absurd cc
-rule_of laws Reads is = absurd cc
 rule_of laws Ite is = absurd cc
 rule_of laws Cnf is = absurd cc
 rule_of laws Ackermann is = absurd cc

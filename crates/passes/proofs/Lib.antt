@@ -4,6 +4,7 @@ mod Literals
 mod ModelsStay
 mod Numbered
 mod Outlines
+mod ReadsInside
 mod Rows
 mod Standing
 mod Walked

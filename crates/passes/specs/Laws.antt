@@ -11,7 +11,7 @@ use Rattle.script_read.specs.Laws.{GivesNoNameOf}
 use Rattle.script_read.specs.Printable.{printable}
 use Rattle.smt_print.specs.Laws.{Each}
 use Rattle.passes.specs.declared.names.Pass.{Pass}
-use Rattle.passes.specs.declared.names.Pass.TheVariants.{Nnf, Aig, Prenex, Shannon, SelfSub, Rules}
+use Rattle.passes.specs.declared.names.Pass.TheVariants.{Nnf, Aig, Prenex, Reads, Shannon, SelfSub, Rules}
 use Rattle.passes.specs.Passed.{apply_pass, passed}
 use Rattle.passes.specs.Carry.{back, forth}
 
@@ -20,6 +20,7 @@ abbrev pub keeps_values : Pass → Bool
 keeps_values Nnf = true
 keeps_values Aig = true
 keeps_values Prenex = true
+keeps_values Reads = true
 keeps_values Shannon = true
 keeps_values SelfSub = true
 keeps_values Rules = true

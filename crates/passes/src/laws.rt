@@ -3,6 +3,7 @@
 
 ghost use Rattle.passes.specs.Laws.{PassKeepsCommands, PassesKeepCommands, PassesLeaveModels};
 
+use array_forms::laws::reads_keep_values;
 use normal_forms::laws::{
     aig_keeps_values, nnf_keeps_values, prenex_keeps_values, selfsub_keeps_values,
     shannon_keeps_values,
@@ -18,6 +19,7 @@ pub fn passes_keep_commands()
     nnf_keeps_values();
     aig_keeps_values();
     prenex_keeps_values();
+    reads_keep_values();
     shannon_keeps_values();
     selfsub_keeps_values();
 }
