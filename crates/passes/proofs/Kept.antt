@@ -20,7 +20,7 @@ use Rattle.passes.specs.Laws.{keeps_values, IsReady, AreEquivalent, KeepsCommand
 use Rattle.passes.specs.Passed.{Way, apply_pass, passed}
 use Rattle.passes.proofs.Assertions.{Rule, FormLaws, rule_of}
 use Rattle.passes.proofs.Literals.{same_literals}
-use Rattle.passes.proofs.Walked.{Walked, walked, all_like}
+use Rattle.passes.proofs.Walked.{Walked, walked, all_like, keeps_own}
 
 -- ---- one pass
 
@@ -73,7 +73,7 @@ equivalent_then cs ds es h k = record {
 
 equivalent_itself : (cs : List (Command Term)) (s : Supply) → IsReady cs s → AreEquivalent cs cs
 equivalent_itself cs s ready =
-    let same : Alike Term Term Keeps cs cs = alike Term Term Keeps cs cs (all_like cs false start ready.printable) in
+    let same : Alike Term Term Keeps cs cs = alike Term Term Keeps cs cs (all_like Keeps keeps_own cs false start ready.printable) in
     record { kinds = refl; signatures = λ k. refl; live = same.live; literals = λ k. refl }
 
 pub passes_keep : FormLaws → PassesKeepCommands

@@ -1,12 +1,14 @@
 mod Assertions
 mod Kept
 mod Literals
+mod ModelsCarried
 mod ModelsStay
 mod Numbered
 mod Outlines
 mod ReadsInside
 mod Rows
 mod Standing
+mod Truths
 mod Walked
 mod WithinForms
 mod WithinPrenex

@@ -1,6 +1,6 @@
--- The literals of a script's points are those of its checks, whatever is asserted; and literals that may be printed are well
--- sorted.
-use Rattle.std.proofs.Common.{◌≡◌, ◌∙◌, sym, ap, refl, ℕ, zero, suc, eqb, true, false, not, ◌&&◌, List, [], ◌∷◌, map, length, Some, subst, arith}
+-- The literals of a script's points are those of its checks, whatever is asserted; and literals that may be printed are
+-- formulas.
+use Rattle.std.proofs.Common.{◌≡◌, ◌∙◌, sym, ap, refl, ℕ, zero, suc, eqb, true, false, not, ◌&&◌, List, [], ◌∷◌, map, length, Option, Some, None, subst, arith}
 use Rattle.std.specs.Prelude.{is_some}
 use Rattle.std.proofs.lemmas.Bool.{ne_eqb}
 use Rattle.smt_terms.specs.declared.op.Op.TheVariants.{Not}
@@ -9,10 +9,12 @@ use Rattle.smt_terms.specs.Rank.{rank, with_sort, sort_over, sort_of, is_regular
 use Rattle.smt_terms.specs.Shapes.{is_bool}
 use Rattle.smt_terms.specs.Sorts.{Name, Sort, bool, Symbol}
 use Rattle.smt_terms.specs.Term.{op, symbol, const_array, Term, apply, quantified, none, ◌⨾◌, constant}
+use Rattle.smt_terms.proofs.Equal.{Decides-sort_eq}
 use Rattle.smt_terms.proofs.Keeping.{not_minus}
 use Rattle.smt_terms.proofs.Tests.{both_true, and_true}
 use Rattle.script_read.specs.Commands.{Command, check, check_assuming, State, start, after, Point, with_point, points_from, points, nth_point, at_point, symbols_of_state, literals}
 use Rattle.script_read.specs.Printable.{is_live_constant, is_live_literal}
+use Rattle.script_read.specs.Read.{is_of_sort, has_sort}
 
 -- ---- literals by commands
 
@@ -54,7 +56,21 @@ literals_are cs k = literals_at (points cs) k ∙ ap (λ ls. nth_literals ls k) 
 pub same_literals : (cs ds : List (Command Term)) → literals_in ds ≡ literals_in cs → (k : ℕ) → literals ds k ≡ literals cs k
 same_literals cs ds h k = literals_are ds k ∙ ap (λ ls. nth_literals ls k) h ∙ sym (literals_are cs k)
 
--- ---- well-sorted literals
+-- ---- formulas
+
+pub record IsFormula (t : Term) : Type 0 where
+  pub sort : sort_of t ≡ Some bool
+  pub regular : is_regular t ≡ true
+
+pub formula_sorted : (t : Term) → IsFormula t → IsWellSorted t
+formula_sorted t fine = and_true (is_some (sort_of t)) (is_regular t) (ap is_some fine.sort) fine.regular
+
+pub sort_is_bool : (o : Option Sort) → is_of_sort bool o ≡ true → o ≡ Some bool
+sort_is_bool None e = absurd cc
+sort_is_bool (Some s) e = ap Some ((Decides-sort_eq s bool).0 e)
+
+pub sorted_formula : (t : Term) → has_sort bool t ≡ true → IsWellSorted t → IsFormula t
+sorted_formula t formula sorted = record { sort = sort_is_bool (sort_of t) formula; regular = (both_true (is_some (sort_of t)) (is_regular t) sorted).1 }
 
 bool_sort : (s : Sort) → is_bool s ≡ true → s ≡ bool
 bool_sort bool h = refl
@@ -66,10 +82,6 @@ no_arguments (s ∷ ss) h = let more : eqb (suc (length ss)) 0 ≡ false = ne_eq
 
 flag : Name → Symbol
 flag n = record { name = n; args = []; result = bool }
-
-record IsFormula (t : Term) : Type 0 where
-  sort : sort_of t ≡ Some bool
-  regular : is_regular t ≡ true
 
 flag_fine : (n : Name) → IsFormula (constant (flag n))
 unfolding rank is_minus_of flag
@@ -94,9 +106,6 @@ not_fine t fine = record {
   regular = and_true (not (is_minus_of (op Not) (t ⨾ none))) (is_regular t && true) (ap not (not_minus Not (t ⨾ none) refl)) (and_true (is_regular t) true fine.regular refl);
 }
 
-literal_fine : (s : State Term) (t : Term) → is_live_literal s t ≡ true → IsFormula t
+pub literal_fine : (s : State Term) (t : Term) → is_live_literal s t ≡ true → IsFormula t
 literal_fine s (apply (op Not) (u ⨾ none)) h = not_fine u (constant_fine s u h)
 literal_fine s u h = constant_fine s u h
-
-pub literal_sorted : (s : State Term) (t : Term) → is_live_literal s t ≡ true → IsWellSorted t
-literal_sorted s t h = let fine = literal_fine s t h in and_true (is_some (sort_of t)) (is_regular t) (ap is_some fine.sort) fine.regular

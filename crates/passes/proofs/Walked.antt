@@ -20,37 +20,56 @@ use Rattle.smt_print.proofs.LikePoints.{LikeCommand, like_passed, like_sort, lik
 use Rattle.passes.specs.declared.names.Pass.{Pass}
 use Rattle.passes.specs.Passed.{Way, in_place, Replacement, literal_kept, replaced_by, onward, behind, replacements_from, group_commands, written}
 use Rattle.passes.proofs.Assertions.{Replaces, Rule}
-use Rattle.passes.proofs.Literals.{literals_in, literals_before, literal_sorted}
+use Rattle.passes.proofs.Literals.{literals_in, literals_before, IsFormula, formula_sorted, sorted_formula, literal_fine}
 use Rattle.passes.proofs.Outlines.{asserts_nothing, outline, same_after, asserted_after, declare_the_same, stands_alike}
 use Rattle.passes.proofs.Standing.{Stands, stands, stands_still}
 
 abbrev LikeTerms : List (Command Term) → List (Command Term) → Type 0
 LikeTerms cs ds = LikeCommands Term Term Keeps cs ds
 
-abbrev pub LikeTerm : Command Term → Command Term → Type 0
-LikeTerm c d = LikeCommand Term Term Keeps c d
+-- ---- the first of commands
+
+-- what is known of a command that may stand first
+record First (begun : Bool) (s : State Term) (c : Command Term) (cs : List (Command Term)) : Type 0 where
+  stands : may_stand begun s c ≡ true
+  followed : may_be_followed c cs ≡ true
+  rest : printable_from (fixes begun c) (after c s) cs ≡ true
+
+first : (begun : Bool) (s : State Term) (c : Command Term) (cs : List (Command Term)) → printable_from begun s (c ∷ cs) ≡ true → First begun s c cs
+first begun s c cs h =
+    let a = both_true (may_stand begun s c) (may_be_followed c cs && printable_from (fixes begun c) (after c s) cs) h in
+    let b = both_true (may_be_followed c cs) (printable_from (fixes begun c) (after c s) cs) a.1 in
+    record { stands = a.0; followed = b.0; rest = b.1 }
 
 -- ---- commands that stay
 
-literals_keep : (s : State Term) (ls : List Term) → list_all (is_live_literal s) ls ≡ true → Each Keeps ls ls
-literals_keep s [] all = tt
-literals_keep s (l ∷ ls) all =
-    let parts = both_true (is_live_literal s l) (list_all (is_live_literal s) ls) all in
-    (keeps_itself l (literal_sorted s l parts.0), literals_keep s ls parts.1)
+module _ (R : Term → Term → Type 0) (own : (t : Term) → IsFormula t → R t t) where
+  literals_own : (s : State Term) (ls : List Term) → list_all (is_live_literal s) ls ≡ true → Each R ls ls
+  literals_own s [] all = tt
+  literals_own s (l ∷ ls) all =
+      let parts = both_true (is_live_literal s l) (list_all (is_live_literal s) ls) all in
+      (own l (literal_fine s l parts.0), literals_own s ls parts.1)
 
-pub like_itself : (begun : Bool) (s : State Term) (c : Command Term) → may_stand begun s c ≡ true → LikeTerm c c
-like_itself begun s (passed text) h = like_passed text text
-like_itself begun s (declare_sort n) h = like_sort n
-like_itself begun s (declare f) h = like_symbol f
-like_itself begun s (assert i t) h = like_assert i i t t (keeps_itself t (stands begun s i t h).sorted)
-like_itself begun s check h = like_check
-like_itself begun s (check_assuming ls) h = like_assuming ls ls (literals_keep s ls h)
-like_itself begun s (push n) h = like_push n
-like_itself begun s (pop n) h = like_pop n
-like_itself begun s reset h = like_reset
-like_itself begun s reset_assertions h = like_emptying
-like_itself begun s (globals b) h = like_globals b
-like_itself begun s exit h = like_exit
+  like_itself : (begun : Bool) (s : State Term) (c : Command Term) → may_stand begun s c ≡ true → LikeCommand Term Term R c c
+  like_itself begun s (passed text) h = like_passed text text
+  like_itself begun s (declare_sort n) h = like_sort n
+  like_itself begun s (declare f) h = like_symbol f
+  like_itself begun s (assert i t) h = let stand : Stands s t = stands begun s i t h in like_assert i i t t (own t (sorted_formula t stand.formula stand.sorted))
+  like_itself begun s check h = like_check
+  like_itself begun s (check_assuming ls) h = like_assuming ls ls (literals_own s ls h)
+  like_itself begun s (push n) h = like_push n
+  like_itself begun s (pop n) h = like_pop n
+  like_itself begun s reset h = like_reset
+  like_itself begun s reset_assertions h = like_emptying
+  like_itself begun s (globals b) h = like_globals b
+  like_itself begun s exit h = like_exit
+
+  pub all_like : (cs : List (Command Term)) (begun : Bool) (s : State Term) → printable_from begun s cs ≡ true → LikeCommands Term Term R cs cs
+  all_like [] begun s h = tt
+  all_like (c ∷ cs) begun s h = let f : First begun s c cs = first begun s c cs h in (like_itself begun s c f.stands, all_like cs (fixes begun c) (after c s) f.rest)
+
+pub keeps_own : (t : Term) → IsFormula t → Keeps t t
+keeps_own t fine = keeps_itself t (formula_sorted t fine)
 
 followed : (c : Command Term) (cs ds : List (Command Term)) → LikeTerms cs ds → may_be_followed c cs ≡ true → may_be_followed c ds ≡ true
 followed exit [] [] like h = refl
@@ -81,18 +100,6 @@ named_later w left c cs ds later given rest n among = go (in-both (names_in_comm
 names_behind : (w : Supply) (c : Command Term) (cs : List (Command Term)) → GivesNone w (flat_map names_in_command (c ∷ cs)) → GivesNone w (flat_map names_in_command cs)
 names_behind w c cs given n among = given n (in-right (names_in_command c) (flat_map names_in_command cs) n among)
 
--- what is known of a command that may stand first
-record First (begun : Bool) (s : State Term) (c : Command Term) (cs : List (Command Term)) : Type 0 where
-  stands : may_stand begun s c ≡ true
-  followed : may_be_followed c cs ≡ true
-  rest : printable_from (fixes begun c) (after c s) cs ≡ true
-
-first : (begun : Bool) (s : State Term) (c : Command Term) (cs : List (Command Term)) → printable_from begun s (c ∷ cs) ≡ true → First begun s c cs
-first begun s c cs h =
-    let a = both_true (may_stand begun s c) (may_be_followed c cs && printable_from (fixes begun c) (after c s) cs) h in
-    let b = both_true (may_be_followed c cs) (printable_from (fixes begun c) (after c s) cs) a.1 in
-    record { stands = a.0; followed = b.0; rest = b.1 }
-
 prints : (begun : Bool) (s : State Term) (c : Command Term) (cs : List (Command Term)) → First begun s c cs → printable_from begun s (c ∷ cs) ≡ true
 prints begun s c cs h =
     and_true (may_stand begun s c) (may_be_followed c cs && printable_from (fixes begun c) (after c s) cs) h.stands
@@ -102,7 +109,7 @@ prints begun s c cs h =
 stays : (begun : Bool) (s t : State Term) (w left : Supply) (c : Command Term) (cs ds : List (Command Term)) → asserts_nothing c ≡ true → outline s ≡ outline t → First begun s c cs → GivesNone w (flat_map names_in_command (c ∷ cs))
     → Walked cs (fixes begun c) (after c t) w ds left → Walked (c ∷ cs) begun t w (c ∷ ds) left
 stays begun s t w left c cs ds plain same h given rest = record {
-  like = (like_itself begun s c h.stands, rest.like);
+  like = (like_itself Keeps keeps_own begun s c h.stands, rest.like);
   literals = ap (literals_before c) rest.literals;
   printable = prints begun t c ds (record {
     stands = sym (stands_alike s t (declare_the_same s t same) begun c plain) ∙ h.stands;
@@ -193,9 +200,3 @@ module _ (p : Pass) (rule : Rule p) where
   walked (reset_assertions ∷ cs) w begun s t same h given = plain_step reset_assertions cs refl (walked cs) w begun s t same h given
   walked (globals b ∷ cs) w begun s t same h given = plain_step (globals b) cs refl (walked cs) w begun s t same h given
   walked (exit ∷ cs) w begun s t same h given = plain_step exit cs refl (walked cs) w begun s t same h given
-
--- ---- commands themselves
-
-pub all_like : (cs : List (Command Term)) (begun : Bool) (s : State Term) → printable_from begun s cs ≡ true → LikeCommands Term Term Keeps cs cs
-all_like [] begun s h = tt
-all_like (c ∷ cs) begun s h = let f : First begun s c cs = first begun s c cs h in (like_itself begun s c f.stands, all_like cs (fixes begun c) (after c s) f.rest)

@@ -4,18 +4,20 @@ use Rattle.std.specs.Prelude.{◌≡◌, ℕ, Bool, true, false, List, IsTrue}
 use Rattle.std.specs.List.{list_all}
 use Rattle.smt_terms.specs.Fresh.{Supply}
 use Rattle.smt_terms.specs.Keeps.{Keeps}
-use Rattle.smt_terms.specs.Models.{Model}
+use Rattle.smt_terms.specs.Models.{Model, IsModelOver}
 use Rattle.smt_terms.specs.Term.{Term}
 use Rattle.script_read.specs.Commands.{Command, kinds, live, literals, signature}
 use Rattle.script_read.specs.Laws.{GivesNoNameOf}
 use Rattle.script_read.specs.Printable.{printable}
+use Rattle.script_read.specs.Satisfied.{sat}
 use Rattle.smt_print.specs.Laws.{Each}
 use Rattle.passes.specs.declared.names.Pass.{Pass}
 use Rattle.passes.specs.declared.names.Pass.TheVariants.{Nnf, Aig, Prenex, Reads, Shannon, SelfSub, Rules}
 use Rattle.passes.specs.Passed.{apply_pass, passed}
 use Rattle.passes.specs.Carry.{back, forth}
 
--- the passes of these laws; stored rules count as changing nothing here
+-- the passes of these laws: all that put one assertion in the place of each, but `simplify`; stored rules count as changing
+-- nothing here
 abbrev pub keeps_values : Pass → Bool
 keeps_values Nnf = true
 keeps_values Aig = true
@@ -43,6 +45,17 @@ pub record AreEquivalent (cs ds : List (Command Term)) : Type 0 where
   pub live : (k : ℕ) → Each Keeps (live cs k) (live ds k)
   pub literals : (k : ℕ) → literals ds k ≡ literals cs k
 
+-- a model over what is declared at point k, in which all that is live there holds
+pub record IsModelOf (cs : List (Command Term)) (k : ℕ) (m : Model) : Type 0 where
+  pub over : IsModelOver (signature cs k).sorts (signature cs k).symbols m
+  pub sat : IsTrue (sat m cs k)
+
+-- the same checks; a model of ds, carried back, is one of cs, and a model of cs, carried forth, is one of ds
+pub record CarriesModels (cs ds : List (Command Term)) (to_first to_second : ℕ → Model → Model) : Type 0 where
+  pub kinds : kinds ds ≡ kinds cs
+  pub back : (k : ℕ) (m : Model) → IsModelOf ds k m → IsModelOf cs k (to_first k m)
+  pub forth : (k : ℕ) (m : Model) → IsModelOf cs k m → IsModelOf ds k (to_second k m)
+
 -- ---- the laws
 
 -- of commands and a supply of names, and those behind a pass
@@ -59,3 +72,6 @@ PassesKeepCommands = (ps : List Pass) (cs : List (Command Term)) (s : Supply) �
 -- models stay as they are: there are no new symbols
 abbrev pub PassesLeaveModels : Type 0
 PassesLeaveModels = (ps : List Pass) (cs : List (Command Term)) (s : Supply) → IsTrue (list_all keeps_values ps) → (k : ℕ) (m : Model) → (back ps cs s k m ≡ m) × (forth ps cs s k m ≡ m)
+
+abbrev pub PassesCarryModels : Type 0
+PassesCarryModels = (ps : List Pass) (cs : List (Command Term)) (s : Supply) → IsTrue (list_all keeps_values ps) → IsReady cs s → CarriesModels cs (passed ps cs s).0 (back ps cs s) (forth ps cs s)

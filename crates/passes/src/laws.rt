@@ -1,7 +1,9 @@
 //! The laws of passes that put one assertion in the place of each, as the contracts of functions that do nothing. Where such
 //! a law rests on those of single forms, its function names them.
 
-ghost use Rattle.passes.specs.Laws.{PassKeepsCommands, PassesKeepCommands, PassesLeaveModels};
+ghost use Rattle.passes.specs.Laws.{
+    PassKeepsCommands, PassesKeepCommands, PassesLeaveModels, PassesCarryModels
+};
 
 use array_forms::laws::reads_keep_values;
 use normal_forms::laws::{
@@ -28,3 +30,12 @@ pub fn passes_keep_commands()
 pub fn passes_leave_models()
     ensures { PassesLeaveModels }
 {}
+
+/// A model of the commands behind a list of these passes, carried back, is a model of those before it at the same point, and a
+/// model of those before it, carried forth, is one of those behind it.
+pub fn passes_carry_models()
+    ensures { PassesCarryModels }
+{
+    passes_keep_commands();
+    passes_leave_models();
+}

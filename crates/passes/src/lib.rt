@@ -6,5 +6,5 @@
 mod laws;
 mod names;
 
-pub use laws::{passes_keep_commands, passes_leave_models};
+pub use laws::{passes_carry_models, passes_keep_commands, passes_leave_models};
 pub use names::{ListFault, Pass};
