@@ -11,6 +11,7 @@ mod ClearTerms
 mod Defining
 mod Expanding
 mod Fitting
+mod FormTexts
 mod Literals
 mod Meanings
 mod NameFacts
@@ -30,3 +31,4 @@ mod SparedScript
 mod Standing
 mod SubstClear
 mod TermsMean
+mod WritableText
