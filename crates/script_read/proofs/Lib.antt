@@ -17,6 +17,7 @@ mod Meanings
 mod NameFacts
 mod Naming
 mod Outcomes
+mod OutlineFacts
 mod Paired
 mod Points
 mod Quantifying
