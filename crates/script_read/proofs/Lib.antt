@@ -12,6 +12,7 @@ mod Defining
 mod Expanding
 mod Fitting
 mod FormTexts
+mod LastExit
 mod Literals
 mod Meanings
 mod NameFacts
