@@ -33,4 +33,5 @@ mod SparedScript
 mod Standing
 mod SubstClear
 mod TermsMean
+mod UsableTerms
 mod WritableText
