@@ -27,6 +27,7 @@ mod RegularStanding
 mod RegularTerms
 mod Rows
 mod Shown
+mod ShownLevels
 mod SortFacts
 mod Sources
 mod SparedScript
