@@ -14,6 +14,7 @@ mod Fitting
 mod FormTexts
 mod LastExit
 mod Literals
+mod LiveSorts
 mod Meanings
 mod NameFacts
 mod Naming
