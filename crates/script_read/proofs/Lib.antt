@@ -35,5 +35,6 @@ mod SparedScript
 mod Standing
 mod SubstClear
 mod TermsMean
+mod UsableBindings
 mod UsableTerms
 mod WritableText
