@@ -36,5 +36,6 @@ mod Standing
 mod SubstClear
 mod TermsMean
 mod UsableBindings
+mod UsableReads
 mod UsableTerms
 mod WritableText
