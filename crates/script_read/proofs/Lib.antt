@@ -22,6 +22,7 @@ mod Outcomes
 mod OutlineFacts
 mod Paired
 mod Points
+mod PrintableScript
 mod Quantifying
 mod RegularReads
 mod RegularStanding
