@@ -5,7 +5,7 @@ use Rattle.std.proofs.lemmas.Bool.{eqb-true}
 use Rattle.smt_lex.specs.declared.items.Item.{Item}
 use Rattle.smt_lex.specs.declared.items.Item.TheVariants.{Left, Right, Word}
 use Rattle.smt_lex.specs.Lex.{Token, Fault, Lexed, ended, faulty, next, lex}
-use Rattle.smt_lex.specs.Forms.{Form, atom, node, Forms, none, ◌⨾◌, is_left, is_right, is_exit_word, depth_after, with_token, balanced, first_tokens, begins_with_right, begins_with_name, begins_with_exit, to_exit, before, rest, as_forms, forms_to_exit}
+use Rattle.smt_lex.specs.Forms.{atom, node, Forms, none, ◌⨾◌, is_left, is_right, is_exit_word, depth_after, balanced, first_tokens, begins_with_right, begins_with_name, begins_with_exit, to_exit, before, rest, as_forms, forms_to_exit}
 use Rattle.smt_terms.proofs.Tests.{true_or_false, both_true, and_true}
 use Rattle.script_read.proofs.OutlineFacts.{is_exit_form}
 use Rattle.script_read.proofs.WritableText.{with_token_some}

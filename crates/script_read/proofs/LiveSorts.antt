@@ -6,7 +6,7 @@ use Rattle.std.specs.List.{list_all}
 use Rattle.std.proofs.lemmas.Bool.{ltb-true, ne_eqb}
 use Rattle.std.proofs.Math.Nat.{mod-lt}
 use Rattle.smt_lex.specs.Lexicon.{bar, backslash}
-use Rattle.smt_lex.specs.Names.{Name, IsName, is_among, is_theory_sort, is_theory_name, is_reserved_for_declaring}
+use Rattle.smt_lex.specs.Names.{Name, is_among, is_theory_sort, is_theory_name, is_reserved_for_declaring}
 use Rattle.smt_lex.specs.Forms.{Form, atom, node, Forms, none, ◌⨾◌}
 use Rattle.smt_terms.specs.Equal.{sort_eq}
 use Rattle.smt_terms.specs.Free.{name_among}

@@ -1,6 +1,6 @@
 -- The commands of an accepted text can be printed: live bindings show the levels of the state, and nothing that reading
 -- would refuse is among the commands.
-use Rattle.std.proofs.Common.{◌≡◌, ◌∙◌, sym, ap, subst, refl, ℕ, suc, ◌+◌, ◌≤◌, ◌==◌, inl, inr, Bool, true, false, not, cond, ◌&&◌, ◌||◌, List, [], ◌∷◌, ◌++◌, length, replicate, Option, Some, None, Result, Ok, Err, arith}
+use Rattle.std.proofs.Common.{◌≡◌, ◌∙◌, sym, ap, subst, refl, ℕ, suc, ◌+◌, ◌≤◌, ◌==◌, Bool, true, false, not, cond, ◌&&◌, ◌||◌, List, [], ◌∷◌, ◌++◌, length, replicate, Option, Some, None, Result, Ok, Err, arith}
 use Rattle.std.specs.Prelude.{⊤, nat_lt, nat_le, is_some, option_map, codes, count_by}
 use Rattle.std.specs.List.{list_all}
 use Rattle.std.proofs.lemmas.Bool.{ltb-false}
@@ -15,28 +15,27 @@ use Rattle.smt_terms.specs.Free.{is_among as is_among_symbols, name_among, names
 use Rattle.smt_terms.specs.Fresh.{Supply}
 use Rattle.smt_terms.specs.Rank.{is_sort, sort_of, is_regular, is_well_sorted}
 use Rattle.smt_terms.specs.Shapes.{is_bool, is_clear_below, is_clear}
-use Rattle.smt_terms.specs.Sorts.{Sort, bool, int, bit_vector, array, free_sort, Symbol, Variable}
-use Rattle.smt_terms.specs.Term.{symbol, Term, constant}
+use Rattle.smt_terms.specs.Sorts.{Sort, bool, free_sort, Symbol, Variable}
+use Rattle.smt_terms.specs.Term.{Term, constant}
 use Rattle.smt_terms.proofs.Equal.{Decides-sort_eq}
 use Rattle.smt_terms.proofs.Ranked.{le_true}
-use Rattle.smt_terms.proofs.Tests.{and_true, both_true, left_true, right_true, both_false, true_or_false}
+use Rattle.smt_terms.proofs.Tests.{and_true, both_true, left_true, right_true, both_false}
 use Rattle.script_read.specs.declared.causes.Cause.{Cause}
 use Rattle.script_read.specs.declared.causes.Cause.TheVariants.{BadForm, Redeclared, ReservedName, PopTooFar, NumberLimit, SortArity, UnsupportedOption}
-use Rattle.script_read.specs.Commands.{Command, passed, declare_sort, declare, assert, check, check_assuming, push, pop, reset, reset_assertions, globals, exit, Level, State, empty_level, start, levels_popped, levels_emptied, throughout, on_latest, with_sort, with_symbol, with_assertion, after, sorts_of_state, symbols_of_state}
+use Rattle.script_read.specs.Commands.{Command, declare_sort, check_assuming, pop, reset, reset_assertions, globals, exit, Level, State, empty_level, start, levels_popped, levels_emptied, throughout, on_latest, with_sort, with_symbol, with_assertion, after, sorts_of_state, symbols_of_state}
 use Rattle.script_read.specs.Laws.{ReadScriptsArePrintable}
 use Rattle.script_read.specs.Outlines.{At, Outline, passing, global_option, sort_declaration, sort_definition, symbol_declaration, symbol_definition, assertion, checking, assuming, pushing, popping, resetting, resetting_assertions, ending, levels_written, outline, is_passed_text}
 use Rattle.script_read.specs.Parts.{place_of, symbol_in, is_name}
-use Rattle.script_read.specs.Printable.{is_writable, is_usable, sort_is_live, all_within, symbols_are_live, is_printable_term, is_live_constant, is_live_literal, open_levels as levels_open, is_new_sort, is_new_symbol, may_stand, fixes, may_be_followed, printable_from, printable}
+use Rattle.script_read.specs.Printable.{is_writable, is_usable, sort_is_live, all_within, symbols_are_live, is_printable_term, is_live_constant, is_live_literal, open_levels as levels_open, may_stand, fixes, may_be_followed, printable_from, printable}
 use Rattle.script_read.specs.Read.{is_of_sort, has_sort, read}
-use Rattle.script_read.specs.Reading.{ReadBinding, sort_known, function_known, definition_as, level_known, is_level_known, live_sorts, Entry, symbol_entry, definition_entry, term_entry, entry_of}
+use Rattle.script_read.specs.Reading.{ReadBinding, sort_known, is_level_known, live_sorts, Entry, symbol_entry, definition_entry, term_entry, entry_of}
 use Rattle.script_read.specs.Refusals.{Refused, and_then, unless, mapped, given}
 use Rattle.script_read.specs.Scenes.{seen_command}
-use Rattle.script_read.specs.Scope.{opened, popped, emptied}
+use Rattle.script_read.specs.Scope.{popped, emptied}
 use Rattle.script_read.specs.Script.{Standing, Step, live_of, begun_with, declarable, sort_declarable, declares_sort, without_parameters, defines_sort, declares, symbol_of_sorts, declares_symbol, body_context, defined_with, of_sort, read_body, defines_symbol, no_context, asserted_with, asserts, boolean_constant, constant_entry, declared_constant, literal, literals_in, assumes, most_levels, open_levels, place_or, pushed_unless, pops, truth_in, sets_globals, step, read_command, numbered, behind, read_commands, first_standing, names_with_all, read_forms}
 use Rattle.script_read.specs.SortForms.{sort_in, sorts_in}
 use Rattle.script_read.specs.Variables.{definition_binder, variables_in}
 use Rattle.script_read.proofs.Agreement.{numbered_ok, read_ok}
-use Rattle.script_read.proofs.ClearBuilt.{ClearTerm}
 use Rattle.script_read.proofs.ClearReads.{AllClear, declared_apart, ClearRead, form_clear}
 use Rattle.script_read.proofs.ClearScript.{StepClear, command_clear, nothing_clear}
 use Rattle.script_read.proofs.ClearTerms.{Apart, free_distinct}

@@ -1,11 +1,11 @@
 -- Live bindings whose sorts and terms have declared sorts that are live behind them, and quantified names that may be
 -- quantified.
-use Rattle.std.proofs.Common.{◌≡◌, ◌∙◌, sym, ap, subst, refl, ℕ, zero, suc, inl, inr, Bool, true, false, List, [], ◌∷◌, ◌++◌, Option, Some, None}
+use Rattle.std.proofs.Common.{◌≡◌, ◌∙◌, sym, ap, subst, refl, ℕ, zero, suc, inl, inr, Bool, true, false, List, [], ◌∷◌, ◌++◌, Option, Some}
 use Rattle.std.specs.Prelude.{⊤, ◌&&◌}
 use Rattle.std.specs.List.{list_all}
 use Rattle.smt_lex.specs.Names.{Name, is_among}
 use Rattle.smt_terms.specs.Equal.{name_eq}
-use Rattle.smt_terms.specs.Sorts.{Sort, bool, int, bit_vector, array, free_sort, Symbol, Variable}
+use Rattle.smt_terms.specs.Sorts.{Sort, bool, int, bit_vector, array, free_sort, Variable}
 use Rattle.smt_terms.specs.Term.{symbol, Term, apply, quantified, Terms, none, ◌⨾◌}
 use Rattle.smt_terms.proofs.Tests.{and_true, both_true, either_true, left_true, right_true}
 use Rattle.script_read.specs.Printable.{is_usable, sort_is_live, head_sorts, all_within, all_within_each}

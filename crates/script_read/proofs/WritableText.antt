@@ -1,5 +1,5 @@
 -- The forms of a text can be written again, and its names can stand between bars.
-use Rattle.std.proofs.Common.{◌≡◌, ℕ, zero, suc, ◌+◌, ◌-◌, ◌<◌, ◌≤◌, inl, inr, Bool, true, false, eqb, not, cond, Option, Some, None, List, [], ◌∷◌, ◌++◌, length, take, Result, Ok, Err, refl, ap, sym, ◌∙◌, subst, arith, length-append}
+use Rattle.std.proofs.Common.{◌≡◌, ℕ, zero, suc, ◌+◌, ◌-◌, ◌≤◌, inl, inr, Bool, true, false, eqb, not, cond, Option, Some, None, List, [], ◌∷◌, ◌++◌, length, take, Result, Ok, Err, refl, ap, sym, ◌∙◌, subst, arith, length-append}
 use Rattle.std.specs.Prelude.{⊤, ◌&&◌, nat_lt, if◌then◌else◌}
 use Rattle.std.specs.List.{list_all}
 use Rattle.std.proofs.lemmas.List.{length-take-le, take_all, take_at}
@@ -19,7 +19,7 @@ use Rattle.smt_terms.proofs.Tests.{true_or_false, both_true, and_true, either_tr
 use Rattle.smt_terms.proofs.Cuts.{name_among-append}
 use Rattle.script_read.specs.Script.{with_name, names_with, names_with_all}
 use Rattle.smt_lex.specs.Names.{is_among}
-use Rattle.script_read.proofs.FormTexts.{IsInner, IsWritten, AreWritten}
+use Rattle.script_read.proofs.FormTexts.{IsInner, AreWritten}
 use Rattle.script_read.proofs.NameFacts.{name_same}
 
 -- ---- bytes
