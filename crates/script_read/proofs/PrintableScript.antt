@@ -350,12 +350,16 @@ module _ (ns : List Name) (fit : NamesFit ns) (f : Form) (begun : Bool) (st : St
 
   pushed_led : (test : Bool) (place n : ℕ) → (test ≡ false → (nat_le n most_levels && nat_le (levels_open st + n) most_levels) ≡ true) → StepLed f begun st (pushed_unless test place n s)
   pushed_led true place n few = tt
-  pushed_led false place n few = (few refl, (λ same. absurd cc), record {
-    levels = bare_pushed n st.levels ∙ ap (λ ls. replicate n empty_level ++ ls) tracked.levels ∙ sym (levels_opened n live_before);
-    global = tracked.global;
-    begun_too = λ k. refl;
-    usable = usable_opened n live_before tracked.usable;
-  })
+  pushed_led false place n few = (
+    few refl,
+    (λ same. absurd cc),
+    record {
+      levels = bare_pushed n st.levels ∙ ap (λ ls. replicate n empty_level ++ ls) tracked.levels ∙ sym (levels_opened n live_before);
+      global = tracked.global;
+      begun_too = λ k. refl;
+      usable = usable_opened n live_before tracked.usable;
+    },
+  )
 
   pushes_led : (place n : ℕ) → StepLed f begun st (pushed_unless (nat_lt most_levels n || nat_lt most_levels (open_levels s + n)) place n s)
   pushes_led place n =
@@ -391,12 +395,16 @@ module _ (ns : List Name) (fit : NamesFit ns) (f : Form) (begun : Bool) (st : St
   reset_led = (refl, (λ same. absurd cc), record { levels = refl; global = refl; begun_too = λ k. k; usable = tt })
 
   emptied_led : Led f begun st (reset_assertions ∷ []) (record { sofar = record { live = emptied is_level_known s.global (live_of s); supply = s.sofar.supply }; global = s.global; begun = s.begun; asserted = s.asserted })
-  emptied_led = (refl, (λ same. absurd cc), record {
-    levels = ap (λ b. bare_levels (levels_emptied b st.levels)) tracked.global ∙ bare_emptied s.global st.levels ∙ ap (levels_emptied s.global) tracked.levels ∙ sym (levels_of_emptied s.global live_before);
-    global = tracked.global;
-    begun_too = tracked.begun_too;
-    usable = usable_emptied s.global live_before tracked.usable;
-  })
+  emptied_led = (
+    refl,
+    (λ same. absurd cc),
+    record {
+      levels = ap (λ b. bare_levels (levels_emptied b st.levels)) tracked.global ∙ bare_emptied s.global st.levels ∙ ap (levels_emptied s.global) tracked.levels ∙ sym (levels_of_emptied s.global live_before);
+      global = tracked.global;
+      begun_too = tracked.begun_too;
+      usable = usable_emptied s.global live_before tracked.usable;
+    },
+  )
 
   -- ---- any command
 
