@@ -1,6 +1,6 @@
 //! The laws of reading, each the contract of a function that does nothing.
 
-ghost use Rattle.script_read.specs.Laws.{PrintedSymbolsAreRead, WrittenTokensAreRead, ReadingNames, SameCommands, PointsAgree, ReadingAnswers, WrittenMeaning, ReadingKeepsMeaning, ReadTermsAreClear, NamesLeftAreNew};
+ghost use Rattle.script_read.specs.Laws.{PrintedSymbolsAreRead, WrittenTokensAreRead, ReadingNames, SameCommands, PointsAgree, ReadingAnswers, WrittenMeaning, ReadingKeepsMeaning, ReadTermsAreClear, NamesLeftAreNew, ReadScriptsArePrintable};
 
 /// A symbol, as it is printed, is read as that one symbol; and the tokens of a text's forms, written one after the other
 /// with a space behind each, are read as the same tokens.
@@ -49,4 +49,9 @@ pub fn read_terms_are_clear()
 /// declared, or that stands in an assertion or a literal, quantified variables included.
 pub fn names_left_are_new()
     ensures { NamesLeftAreNew }
+{}
+
+/// What reading gives can be printed: nothing that reading would refuse is among the commands of an accepted text.
+pub fn reading_gives_a_printable_script()
+    ensures { ReadScriptsArePrintable }
 {}
