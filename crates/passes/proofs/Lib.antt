@@ -1,6 +1,6 @@
 mod Assertions
 mod Kept
-mod Literals
+pub mod Literals
 mod ModelsCarried
 mod ModelsStay
 mod Numbered
@@ -8,7 +8,7 @@ mod Outlines
 mod ReadsInside
 mod Rows
 mod Standing
-mod Truths
+pub mod Truths
 mod Walked
 mod WithinForms
 mod WithinPrenex

@@ -1,15 +1,13 @@
 -- Models of the commands behind passes are models of those before them, and the other way round.
-use Rattle.std.proofs.Common.{◌≡◌, ◌∙◌, sym, ap, refl, ℕ, Bool, true, false, ◌&&◌, List, [], ◌∷◌, IsTrue, subst}
+use Rattle.std.proofs.Common.{◌≡◌, ◌∙◌, sym, ℕ, false, ◌&&◌, List, subst}
 use Rattle.std.specs.List.{list_all}
 use Rattle.smt_terms.specs.Fresh.{Supply}
 use Rattle.smt_terms.specs.Models.{Model, IsModel, IsModelOver}
 use Rattle.smt_terms.specs.Term.{Term}
-use Rattle.script_read.specs.Commands.{Command, Signature, start, live, literals, signature}
+use Rattle.script_read.specs.Commands.{Command, Signature, start, live, signature}
 use Rattle.script_read.specs.Satisfied.{is_true_in, sat}
-use Rattle.smt_print.proofs.LikePoints.{Alike, alike}
-use Rattle.passes.specs.declared.names.Pass.{Pass}
-use Rattle.passes.specs.Carry.{back, forth}
-use Rattle.passes.specs.Laws.{IsReady, AreEquivalent, PassesKeepCommands, PassesLeaveModels, IsModelOf, CarriesModels, PassesCarryModels}
+use Rattle.smt_print.proofs.LikePoints.{alike}
+use Rattle.passes.specs.Laws.{IsReady, AreEquivalent, PassesKeepCommands, PassesLeaveModels, IsModelOf, PassesCarryModels}
 use Rattle.passes.specs.Passed.{passed}
 use Rattle.passes.proofs.Literals.{IsFormula}
 use Rattle.passes.proofs.Truths.{AreFormulas, truths_kept}

@@ -1,5 +1,5 @@
 -- Formulas of one value are true in the same models.
-use Rattle.std.proofs.Common.{◌≡◌, ◌∙◌, sym, ap, refl, Bool, true, ◌&&◌, List, [], ◌∷◌, Some}
+use Rattle.std.proofs.Common.{◌≡◌, ◌∙◌, sym, ap, refl, true, ◌&&◌, List, [], ◌∷◌, Some}
 use Rattle.std.specs.List.{list_all}
 use Rattle.smt_terms.specs.Keeps.{Keeps}
 use Rattle.smt_terms.specs.Models.{Model, IsModel}

@@ -2,7 +2,10 @@
 //! a law rests on those of single forms, its function names them.
 
 ghost use Rattle.passes.specs.Laws.{
-    PassKeepsCommands, PassesKeepCommands, PassesLeaveModels, PassesCarryModels
+  PassKeepsCommands,
+  PassesKeepCommands,
+  PassesLeaveModels,
+  PassesCarryModels,
 };
 
 use array_forms::laws::reads_keep_values;

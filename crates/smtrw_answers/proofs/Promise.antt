@@ -1,33 +1,33 @@
 -- Rewriting keeps its promise: reading keeps meaning, passes keep values, and printing reads back.
-use Rattle.std.proofs.Common.{◌≡◌, ◌∙◌, sym, ap, refl, ℕ, suc, Bool, true, ◌&&◌, List, [], ◌∷◌, ◌++◌, map, length, Option, Some, None, Result, Ok, Err, IsTrue, subst}
+use Rattle.std.proofs.Common.{◌≡◌, ◌∙◌, sym, ap, refl, ℕ, suc, Bool, true, ◌&&◌, List, [], ◌∷◌, ◌++◌, map, length, Result, Ok, Err, subst}
 use Rattle.std.specs.Prelude.{is_ok}
 use Rattle.std.specs.List.{list_all}
 use Rattle.smt_terms.specs.Fresh.{Supply}
 use Rattle.smt_terms.specs.Keeps.{Keeps}
 use Rattle.smt_terms.specs.Models.{Model, IsModel, IsModelOver}
 use Rattle.smt_terms.specs.Rank.{sort_of}
-use Rattle.smt_terms.specs.Sorts.{Sort, bool}
+use Rattle.smt_terms.specs.Sorts.{bool}
 use Rattle.smt_terms.specs.Term.{Term}
-use Rattle.smt_terms.specs.Val.{no_variables, val}
-use Rattle.smt_terms.specs.Values.{Value, truth, Sizes, is_true, is_value}
-use Rattle.smt_terms.proofs.Equal.{Decides-sort_eq}
-use Rattle.smt_terms.proofs.Respects.{truths_alike}
+use Rattle.smt_terms.specs.Val.{no_variables}
 use Rattle.smt_terms.proofs.Tests.{both_true, and_true}
-use Rattle.smt_terms.proofs.Valid.{val_valid}
-use Rattle.script_read.specs.Commands.{Command, Signature, live, literals}
-use Rattle.script_read.specs.Laws.{PointsAgree, SamePoints, ReadingAnswers, denoted, form_denoted, SameMeaning, ReadingKeepsMeaning}
+use Rattle.script_read.specs.Commands.{Command, Signature, live, literals, signature}
+use Rattle.script_read.specs.Laws.{PointsAgree, SamePoints, ReadingAnswers, denoted, form_denoted, SameMeaning, ReadingKeepsMeaning, ReadScriptsArePrintable, NamesLeftAreNew}
 use Rattle.script_read.specs.Mean.{Denoted, is_true_of}
-use Rattle.script_read.specs.Read.{is_of_sort, has_sort}
+use Rattle.script_read.specs.Read.{has_sort}
 use Rattle.script_read.specs.Refusals.{Unaccepted}
-use Rattle.script_read.specs.Satisfied.{is_true_in}
+use Rattle.script_read.specs.Satisfied.{is_true_in, sat}
 use Rattle.script_read.specs.Scenes.{Asserted, forms_script, means_true, holds}
 use Rattle.script_read.specs.Script.{script}
 use Rattle.smt_print.specs.declared.layout.Layout.{Layout}
 use Rattle.smt_print.specs.Laws.{Each, MeansTheSame, ReadsBack, PrintingReadsBack}
 use Rattle.passes.specs.declared.names.Pass.{Pass}
-use Rattle.passes.specs.Laws.{keeps_values, IsReady, AreEquivalent, KeepsCommands, PassesKeepCommands, PassesLeaveModels}
+use Rattle.passes.specs.Carry.{back, forth}
+use Rattle.passes.specs.Laws.{keeps_values, IsReady, AreEquivalent, KeepsCommands, PassesKeepCommands, IsModelOf, CarriesModels, PassesCarryModels}
 use Rattle.passes.specs.Passed.{passed}
-use Rattle.smtrw_answers.specs.Headline.{signature_at, IsModelAt, MeanTheSame, IsRewriting}
+use Rattle.passes.proofs.Literals.{sort_is_bool}
+use Rattle.passes.proofs.Truths.{same_truth}
+use Rattle.smtrw_answers.specs.Carrying.{translated, extended}
+use Rattle.smtrw_answers.specs.Headline.{signature_at, IsModelAt, MeanTheSame, IsEquivalentAt, IsRewriting}
 use Rattle.smtrw_answers.specs.Laws.{RewritingKeepsItsPromise}
 use Rattle.smtrw_answers.specs.Outputs.{read_or_none, commands, names_left, rewritten_commands, rewritten}
 
@@ -45,27 +45,10 @@ all_first test (t ∷ ts) us all =
     let parts = both_true (test t) (list_all test (ts ++ us)) all in
     and_true (test t) (list_all test ts) parts.0 (all_first test ts us parts.1)
 
--- ---- truth values
-
-exactly : (v : Value) (sizes : Sizes) → is_value bool sizes v ≡ true → v ≡ truth (is_true v)
-exactly (truth b) sizes e = refl
-exactly _ sizes e = absurd cc
-
-sort_is_bool : (o : Option Sort) → is_of_sort bool o ≡ true → o ≡ Some bool
-sort_is_bool None e = absurd cc
-sort_is_bool (Some s) e = ap Some ((Decides-sort_eq s bool).0 e)
-
-same_truth : (m : Model) → IsModel m → (t u : Term) → has_sort bool t ≡ true → Keeps t u → val m t no_variables ≡ val m u no_variables
-same_truth m model t u formula keeps =
-    let has : sort_of t ≡ Some bool = sort_is_bool (sort_of t) formula in
-    exactly (val m t no_variables) m.sizes (val_valid t bool m no_variables model (λ f. tt) has)
-    ∙ ap truth (truths_alike m.sizes (val m t no_variables) (val m u no_variables) (keeps.value m no_variables bool model (λ f. tt) has))
-    ∙ sym (exactly (val m u no_variables) m.sizes (val_valid u bool m no_variables model (λ f. tt) (keeps.sort ∙ has)))
+-- ---- assertions of the text, of its commands, of those behind the passes, and of the text that is printed of them
 
 same_denoted : (m : Model) → IsModel m → (t u : Term) → has_sort bool t ≡ true → Keeps t u → denoted m no_variables t ≡ denoted m no_variables u
-same_denoted m model t u formula keeps = λ i. (same_truth m model t u formula keeps i, sym keeps.sort i)
-
--- ---- assertions of the text, of its commands, of those behind the passes, and of the text that is printed of them
+same_denoted m model t u formula keeps = λ i. (same_truth m model t u (sort_is_bool (sort_of t) formula) keeps i, sym keeps.sort i)
 
 head_same : (d e : Denoted) (ds es : List Denoted) → ◌≡◌ {A = List Denoted} (d ∷ ds) (e ∷ es) → (d ≡ e) × (ds ≡ es)
 head_same d e ds es h = (cc, cc)
@@ -84,14 +67,6 @@ meanings_same m model [] [] [] (c ∷ as_printed) read formulas keeps means = ab
 meanings_same m model (a ∷ as_read) (t ∷ ts) [] as_printed read formulas keeps means = absurd keeps
 meanings_same m model (a ∷ as_read) (t ∷ ts) (u ∷ us) [] read formulas keeps means = absurd means
 
-truths_kept : (m : Model) → IsModel m → (ts us : List Term) → list_all (has_sort bool) ts ≡ true → Each Keeps ts us → list_all (is_true_in m) ts ≡ list_all (is_true_in m) us
-truths_kept m model [] [] formulas keeps = refl
-truths_kept m model (t ∷ ts) (u ∷ us) formulas keeps =
-    let parts = both_true (has_sort bool t) (list_all (has_sort bool) ts) formulas in
-    λ i. is_true (same_truth m model t u parts.0 keeps.0 i) && truths_kept m model ts us parts.1 keeps.1 i
-truths_kept m model [] (u ∷ us) formulas keeps = absurd keeps
-truths_kept m model (t ∷ ts) [] formulas keeps = absurd keeps
-
 truths_meant : (m : Model) (us : List Term) (as_printed : List Asserted) → Each MeansTheSame us as_printed → list_all (means_true m) as_printed ≡ list_all (is_true_in m) us
 truths_meant m [] [] means = refl
 truths_meant m (u ∷ us) (c ∷ as_printed) means = λ i. is_true_of (means.0 m i) && truths_meant m us as_printed means.1 i
@@ -108,11 +83,16 @@ pub record TextLaws : Type 0 where
   pub answers : ReadingAnswers
   pub points : PointsAgree
   pub meaning : ReadingKeepsMeaning
-  pub printed : PrintingReadsBack
+  pub printable : ReadScriptsArePrintable
+  pub names : NamesLeftAreNew
   pub kept : PassesKeepCommands
-  pub models : PassesLeaveModels
+  pub models : PassesCarryModels
+  pub printed : PrintingReadsBack
 
-module _ (laws : TextLaws) (b : List ℕ) (ps : List Pass) (layout : Layout) (all : list_all keeps_values ps ≡ true) (reads : script b ≡ Ok (read_or_none (script b))) (ready : IsReady (commands b) (names_left b)) where
+over_same : (m : Model) (g h : Signature) → g ≡ h → IsModelOver g.sorts g.symbols m → IsModelOver h.sorts h.symbols m
+over_same m g h same over = subst (λ (f : Signature). IsModelOver f.sorts f.symbols m) same over
+
+module _ (laws : TextLaws) (b : List ℕ) (ps : List Pass) (layout : Layout) (all : list_all keeps_values ps ≡ true) (reads : script b ≡ Ok (read_or_none (script b))) where
   abbrev cs : List (Command Term)
   cs = commands b
 
@@ -122,14 +102,7 @@ module _ (laws : TextLaws) (b : List ℕ) (ps : List Pass) (layout : Layout) (al
   abbrev w : List ℕ
   w = rewritten b ps layout
 
-  behind : KeepsCommands (commands b) (passed ps (commands b) (names_left b))
-  behind = laws.kept ps (commands b) (names_left b) all ready
-
-  same : AreEquivalent (commands b) (rewritten_commands b ps)
-  same = behind.equivalent
-
-  text : ReadsBack layout (rewritten_commands b ps)
-  text = laws.printed layout (rewritten_commands b ps) behind.ready.printable
+  -- ---- the text and its commands
 
   points : SamePoints b (commands b)
   points = laws.points b (read_or_none (script b)) reads
@@ -137,41 +110,59 @@ module _ (laws : TextLaws) (b : List ℕ) (ps : List Pass) (layout : Layout) (al
   means : (m : Model) (k : ℕ) → SameMeaning b (commands b) m k
   means m k = laws.meaning b (read_or_none (script b)) reads m k
 
-  formulas : (m : Model) (k : ℕ) → list_all (has_sort bool) (live (commands b) k) ≡ true
-  formulas m k = all_first (has_sort bool) (live cs k) (literals cs k) (means m k).truth_values
+  read_model : (m : Model) (k : ℕ) → IsModelAt b k m → holds m b k ≡ true → IsModelOf (commands b) k m
+  read_model m k over held = record { over = over_same m (signature_at b k) (signature cs k) (sym (points.signatures k)) over; sat = sym (means m k).satisfied ∙ held }
 
-  signatures : (k : ℕ) → signature_at (rewritten b ps layout) k ≡ signature_at b k
-  signatures k = text.signatures k ∙ same.signatures k ∙ points.signatures k
+  model_read : (m : Model) (k : ℕ) → IsModelOf (commands b) k m → IsModelAt b k m × (holds m b k ≡ true)
+  model_read m k is = (over_same m (signature cs k) (signature_at b k) (points.signatures k) is.over, (means m k).satisfied ∙ is.sat)
 
-  holds_alike : (m : Model) (k : ℕ) → IsModel m → holds m b k ≡ holds m (rewritten b ps layout) k
-  holds_alike m k model =
-      (means m k).satisfied
-      ∙ ap (λ x. x && list_all (is_true_in m) (literals cs k)) (truths_kept m model (live cs k) (live ds k) (formulas m k) (same.live k))
-      ∙ ap (λ ls. list_all (is_true_in m) (live ds k) && list_all (is_true_in m) ls) (sym (same.literals k))
-      ∙ (λ i. sym (truths_meant m (live ds k) (live (forms_script w) k) (text.live k)) i && sym (truths_meant m (literals ds k) (literals (forms_script w) k) (text.literals k)) i)
+  -- ---- the passes
 
-  over_alike : (m : Model) (k : ℕ) → IsModelAt (rewritten b ps layout) k m → IsModelAt b k m
-  over_alike m k over = subst (λ (g : Signature). IsModelOver g.sorts g.symbols m) (signatures k) over
+  ready : IsReady (commands b) (names_left b)
+  ready = record { printable = laws.printable b (read_or_none (script b)) reads; names = laws.names b (read_or_none (script b)) reads }
 
-  over_back : (m : Model) (k : ℕ) → IsModelAt b k m → IsModelAt (rewritten b ps layout) k m
-  over_back m k over = subst (λ (g : Signature). IsModelOver g.sorts g.symbols m) (sym (signatures k)) over
+  behind : KeepsCommands (commands b) (passed ps (commands b) (names_left b))
+  behind = laws.kept ps (commands b) (names_left b) all ready
 
-  pub promise : IsRewriting b ps (rewritten b ps layout)
-  promise = record {
-    accepted = text.accepted;
-    same_points = text.kinds ∙ same.kinds ∙ points.kinds;
-    equivalence = λ equal k is. record {
-      signatures = signatures k;
-      count = sym (each_length MeansTheSame (live ds k) (live (forms_script w) k) (text.live k)) ∙ sym (each_length Keeps (live cs k) (live ds k) (same.live k)) ∙ points.live k;
-      meanings = λ m over. meanings_same m over.valid (live (forms_script b) k) (live cs k) (live ds k) (live (forms_script w) k) (means m k).asserted (formulas m k) (same.live k) (text.live k);
-    };
-    translation = λ k is m over yes.
-        subst (λ n. IsModelAt b k n × IsTrue (holds n b k)) (sym (laws.models ps cs (names_left b) all k m).0) (over_alike m k over, holds_alike m k over.valid ∙ yes);
-    extension = λ k is m over yes.
-        subst (λ n. IsModelAt w k n × IsTrue (holds n w k)) (sym (laws.models ps cs (names_left b) all k m).1) (over_back m k over, sym (holds_alike m k over.valid) ∙ yes);
+  same : AreEquivalent (commands b) (rewritten_commands b ps)
+  same = behind.equivalent
+
+  carried : CarriesModels (commands b) (rewritten_commands b ps) (back ps (commands b) (names_left b)) (forth ps (commands b) (names_left b))
+  carried = laws.models ps (commands b) (names_left b) all ready
+
+  -- ---- the commands behind them and the text that is printed
+
+  text : ReadsBack layout (rewritten_commands b ps)
+  text = laws.printed layout (rewritten_commands b ps) behind.ready.printable
+
+  holds_printed : (m : Model) (k : ℕ) → holds m (rewritten b ps layout) k ≡ sat m (rewritten_commands b ps) k
+  holds_printed m k i = truths_meant m (live ds k) (live (forms_script w) k) (text.live k) i && truths_meant m (literals ds k) (literals (forms_script w) k) (text.literals k) i
+
+  printed_model : (m : Model) (k : ℕ) → IsModelAt (rewritten b ps layout) k m → holds m (rewritten b ps layout) k ≡ true → IsModelOf (rewritten_commands b ps) k m
+  printed_model m k over held = record { over = over_same m (signature_at w k) (signature ds k) (text.signatures k) over; sat = sym (holds_printed m k) ∙ held }
+
+  model_printed : (m : Model) (k : ℕ) → IsModelOf (rewritten_commands b ps) k m → IsModelAt (rewritten b ps layout) k m × (holds m (rewritten b ps layout) k ≡ true)
+  model_printed m k is = (over_same m (signature ds k) (signature_at w k) (sym (text.signatures k)) is.over, holds_printed m k ∙ is.sat)
+
+  -- ---- all together
+
+  equivalent_at : (k : ℕ) → IsEquivalentAt b (rewritten b ps layout) k
+  equivalent_at k = record {
+    signatures = text.signatures k ∙ same.signatures k ∙ points.signatures k;
+    count = sym (each_length MeansTheSame (live ds k) (live (forms_script w) k) (text.live k)) ∙ sym (each_length Keeps (live cs k) (live ds k) (same.live k)) ∙ points.live k;
+    meanings = λ m over.
+        let formulas : list_all (has_sort bool) (live cs k) ≡ true = all_first (has_sort bool) (live cs k) (literals cs k) (means m k).truth_values in
+        meanings_same m over.valid (live (forms_script b) k) (live cs k) (live ds k) (live (forms_script w) k) (means m k).asserted formulas (same.live k) (text.live k);
   }
 
--- ---- the law
+  promise : IsRewriting b ps (rewritten b ps layout)
+  promise = record {
+    accepted = text.accepted;
+    same_points = text.kinds ∙ carried.kinds ∙ points.kinds;
+    equivalence = λ equal k is. equivalent_at k;
+    translation = λ k is m over held. model_read (translated b ps k m) k (carried.back k m (printed_model m k over held));
+    extension = λ k is m over held. model_printed (extended b ps k m) k (carried.forth k m (read_model m k over held));
+  }
 
 pub keeps_promise : TextLaws → RewritingKeepsItsPromise
-keeps_promise laws b ps layout accepted ready all = promise laws b ps layout all (read_found (script b) ((laws.answers b).1 accepted)) ready
+keeps_promise laws b ps layout accepted all = promise laws b ps layout all (read_found (script b) ((laws.answers b).1 accepted))
