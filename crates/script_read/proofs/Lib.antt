@@ -11,10 +11,10 @@ mod ClearTerms
 mod Defining
 mod Expanding
 mod Fitting
-mod FormTexts
+pub mod FormTexts
 mod LastExit
 mod Literals
-mod LiveSorts
+pub mod LiveSorts
 mod Meanings
 mod NameFacts
 mod Naming
@@ -29,7 +29,7 @@ mod RegularStanding
 mod RegularTerms
 mod Rows
 mod Shown
-mod ShownLevels
+pub mod ShownLevels
 mod SortFacts
 mod Sources
 mod SparedScript
@@ -38,5 +38,5 @@ mod SubstClear
 mod TermsMean
 mod UsableBindings
 mod UsableReads
-mod UsableTerms
+pub mod UsableTerms
 mod WritableText

@@ -3,7 +3,6 @@ use Rattle.std.proofs.Common.{◌≡◌, sym, ap, subst as carry, refl, ℕ, suc
 use Rattle.std.specs.Prelude.{⊤}
 use Rattle.std.specs.List.{list_all}
 use Rattle.smt_terms.specs.declared.op.Op.TheVariants.{Whole, Neg}
-use Rattle.smt_terms.specs.declared.op.Op.{Op}
 use Rattle.smt_terms.specs.Equal.{symbol_eq, term_eq}
 use Rattle.smt_terms.specs.Free.{name_among, without, free}
 use Rattle.smt_terms.specs.Fresh.{Supply, numbered_name, next_number, after_draw, fresh_for}
@@ -37,12 +36,9 @@ module _ (sorts : Sort → Bool) (names : Name → Bool) where
   minus_fine (apply (op (Whole n)) none) h = refl
   minus_fine t h = and_true (all_within sorts names t) true h refl
 
-  made_fine : (h : Head) (ts : Terms) → list_all sorts (head_sorts h) ≡ true → AllFine ts → Fine (made h ts)
+  pub made_fine : (h : Head) (ts : Terms) → list_all sorts (head_sorts h) ≡ true → all_within_each sorts names ts ≡ true → all_within sorts names (made h ts) ≡ true
   made_fine (op Neg) (t ⨾ none) head operands = minus_fine t (both_true (all_within sorts names t) true operands).0
   made_fine h ts head operands = over_fine h ts head operands
-
-  pub negated_fine : (o : Op) (ts : Terms) → all_within_each sorts names ts ≡ true → all_within sorts names (made (op o) ts) ≡ true
-  negated_fine o ts operands = made_fine (op o) ts refl operands
 
   -- ---- written operators
 
@@ -184,7 +180,7 @@ module _ (sorts : Sort → Bool) (names : Name → Bool) where
             kept = rest.kept;
           }
 
-    subst_fine : (f : Map) (t : Term) (s : Supply) → Fine t → MapFine f → Fine (subst f t s).0
+    pub subst_fine : (f : Map) (t : Term) (s : Supply) → all_within sorts names t ≡ true → ((g : Symbol) (u : Term) → image f g ≡ Some u → all_within sorts names u ≡ true) → all_within sorts names (subst f t s).0 ≡ true
     unfolding KeptFine
     subst_fine f t s fine images = (subst_outcome t f (record { names = s; chosen = [] }) fine images tt).fine
 

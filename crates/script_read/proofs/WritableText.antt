@@ -8,17 +8,16 @@ use Rattle.std.proofs.lemmas.Bool.Decides.{eqb_tells}
 use Rattle.smt_lex.specs.declared.items.Item.{Item}
 use Rattle.smt_lex.specs.declared.items.Item.TheVariants.{Left, Right, Numeral, Decimal, Hex, Bin, Text, Word, Quoted, Keyword}
 use Rattle.smt_lex.specs.Lexicon.{space, left_parenthesis, right_parenthesis, semicolon, bar, backslash, quote, is_blank, is_run_byte, is_word, is_numeral, is_keyword, is_decimal, is_hexadecimal, is_binary, length_while, run_item}
-use Rattle.smt_lex.specs.Names.{Name, IsName, is_reserved}
+use Rattle.smt_lex.specs.Names.{Name, IsName, is_among, is_reserved}
 use Rattle.smt_lex.specs.Lex.{Token, Fault, bad_byte, bad_token, open_text, Lexed, ended, faulty, next, literal_length, literal_by, literal_front, quoted_front, run_by, run_front, front, front_length, lexed, lex_from, lex, symbol_by, symbol_of}
 use Rattle.smt_lex.specs.Forms.{Form, atom, node, Forms, none, ◌⨾◌, is_right, depth_after, with_token, balanced, first_tokens, begins_with_exit, to_exit, as_forms, before, rest, forms_to_exit}
 use Rattle.smt_lex.proofs.Joining.{IsLexeme}
 use Rattle.smt_lex.proofs.Rereading.{lexeme_of_front}
-use Rattle.smt_terms.specs.Free.{name_among}
 use Rattle.smt_terms.specs.Equal.{name_eq}
-use Rattle.smt_terms.proofs.Tests.{true_or_false, both_true, and_true, either_true}
+use Rattle.smt_terms.specs.Free.{name_among}
 use Rattle.smt_terms.proofs.Cuts.{name_among-append}
+use Rattle.smt_terms.proofs.Tests.{true_or_false, both_true, and_true, either_true}
 use Rattle.script_read.specs.Script.{with_name, names_with, names_with_all}
-use Rattle.smt_lex.specs.Names.{is_among}
 use Rattle.script_read.proofs.FormTexts.{IsInner, AreWritten}
 use Rattle.script_read.proofs.NameFacts.{name_same}
 
