@@ -3,7 +3,6 @@ mod Kept
 pub mod Literals
 mod ModelsCarried
 mod ModelsStay
-mod Numbered
 mod Outlines
 mod ReadsInside
 mod Rows
@@ -13,4 +12,3 @@ mod Walked
 mod WithinForms
 mod WithinPrenex
 mod WithinQuantifiers
-mod WithinSubst

@@ -1,6 +1,6 @@
 -- States without what they assert: a command leads from states that declare the same to states that declare the same, and
 -- whether a command may stand hangs on what is declared alone.
-use Rattle.std.proofs.Common.{◌≡◌, ◌∙◌, sym, ap, refl, ℕ, zero, suc, ◌+◌, ◌-◌, Bool, true, false, not, ◌&&◌, List, [], ◌∷◌, ◌++◌, map, length, replicate, drop}
+use Rattle.std.proofs.Common.{◌≡◌, ◌∙◌, sym, ap, refl, ℕ, ◌+◌, ◌-◌, Bool, true, false, not, ◌&&◌, List, [], ◌∷◌, ◌++◌, length, replicate}
 use Rattle.std.specs.Prelude.{nat_le, ◌==◌}
 use Rattle.std.specs.List.{list_all}
 use Rattle.std.proofs.lemmas.List.{length-map}
@@ -9,100 +9,55 @@ use Rattle.smt_terms.specs.declared.op.Op.TheVariants.{Not}
 use Rattle.smt_terms.specs.Free.{is_among as is_among_symbols, names_of}
 use Rattle.smt_terms.specs.Rank.{is_sort}
 use Rattle.smt_terms.specs.Shapes.{is_bool}
-use Rattle.smt_terms.specs.Sorts.{Name, Symbol}
 use Rattle.smt_terms.specs.Term.{op, symbol, const_array, Term, apply, quantified, none, ◌⨾◌}
-use Rattle.script_read.specs.Commands.{Command, passed, declare_sort, declare, assert, check, check_assuming, push, pop, reset, reset_assertions, globals, exit, Level, State, empty_level, throughout, on_latest, with_sort, with_symbol, with_assertion, with_declarations, folded, levels_popped, levels_emptied, after, sorts_of_state, symbols_of_state}
+use Rattle.script_read.specs.Commands.{Command, passed, declare_sort, declare, assert, check, check_assuming, push, pop, reset, reset_assertions, globals, exit, Level, State, empty_level, start, throughout, on_latest, with_sort, with_symbol, with_assertion, levels_popped, levels_emptied, with_levels, after, sorts_of_state, symbols_of_state}
 use Rattle.script_read.specs.Printable.{is_writable, is_usable, sort_is_live, is_live_constant, is_live_literal, may_stand}
 use Rattle.script_read.specs.Script.{most_levels}
-
-abbrev pub level_outline : Level Term → Level Term
-level_outline l = record { sorts = l.sorts; symbols = l.symbols; asserted = [] }
-
-abbrev outlines : List (Level Term) → List (Level Term)
-outlines ls = map level_outline ls
-
-abbrev pub outline : State Term → State Term
-outline s = record { levels = map level_outline s.levels; global = s.global }
+use Rattle.script_read.proofs.ShownLevels.{bare_level, bare_levels, bare_sort, bare_symbol, bare_pushed, bare_popped, bare_sorts, bare_symbols, bare_emptied}
 
 abbrev pub asserts_nothing : Command Term → Bool
 asserts_nothing (assert i t) = false
 asserts_nothing _ = true
 
--- ---- levels
+-- ---- states without what they assert
 
-twice : (ls : List (Level Term)) → outlines ls ≡ outlines (outlines ls)
-twice [] = refl
-twice (l ∷ ls) = ap (λ ks. level_outline l ∷ ks) (twice ls)
+abbrev pub Outline : Type 0
+Outline = State (Unit {0})
 
-pushed : (n : ℕ) (ls : List (Level Term)) → outlines (replicate n empty_level ++ ls) ≡ outlines (replicate n empty_level ++ outlines ls)
-pushed zero ls = twice ls
-pushed (suc n) ls = ap (λ ks. empty_level ∷ ks) (pushed n ls)
+abbrev pub outline : State Term → Outline
+outline s = record { levels = bare_levels s.levels; global = s.global }
 
-dropped : (n : ℕ) (ls : List (Level Term)) → outlines (drop n ls) ≡ outlines (drop n (outlines ls))
-dropped zero ls = twice ls
-dropped (suc n) [] = refl
-dropped (suc n) (l ∷ ls) = dropped n ls
+-- an assertion opens a level where there is none, and that is all
+abbrev outline_after : Command Term → Outline → Outline
+outline_after (declare_sort n) s = with_levels s (on_latest (with_sort n) s.levels)
+outline_after (declare f) s = with_levels s (on_latest (with_symbol f) s.levels)
+outline_after (assert i a) s = with_levels s (on_latest (λ l. l) s.levels)
+outline_after (push n) s = with_levels s (replicate n empty_level ++ s.levels)
+outline_after (pop n) s = with_levels s (levels_popped s.global n s.levels)
+outline_after reset_assertions s = with_levels s (levels_emptied s.global s.levels)
+outline_after reset s = start
+outline_after (globals b) s = record { levels = s.levels; global = b }
+outline_after _ s = s
 
-closed : (n : ℕ) (ls : List (Level Term)) → outlines (folded n ls) ≡ outlines (folded n (outlines ls))
-closed zero ls = twice ls
-closed (suc n) [] = refl
-closed (suc n) (l ∷ []) = refl
-closed (suc n) (above ∷ l ∷ ls) = closed n (with_declarations above l ∷ ls)
+bare_assertion : (a : Term) (ls : List (Level Term)) → bare_levels (on_latest (with_assertion a) ls) ≡ on_latest (λ l. l) (bare_levels ls)
+bare_assertion a [] = refl
+bare_assertion a (l ∷ ls) = refl
 
-popped : (global : Bool) (n : ℕ) (ls : List (Level Term)) → outlines (levels_popped global n ls) ≡ outlines (levels_popped global n (outlines ls))
-popped true n ls = closed n ls
-popped false n ls = dropped n ls
-
-sorts_same : (ls : List (Level Term)) → throughout (λ l. l.sorts) ls ≡ throughout (λ l. l.sorts) (outlines ls)
-sorts_same [] = refl
-sorts_same (l ∷ ls) = ap (λ ns. ns ++ l.sorts) (sorts_same ls)
-
-symbols_same : (ls : List (Level Term)) → throughout (λ l. l.symbols) ls ≡ throughout (λ l. l.symbols) (outlines ls)
-symbols_same [] = refl
-symbols_same (l ∷ ls) = ap (λ fs. fs ++ l.symbols) (symbols_same ls)
-
-emptied : (global : Bool) (ls : List (Level Term)) → outlines (levels_emptied global ls) ≡ outlines (levels_emptied global (outlines ls))
-emptied true ls = λ i. record { sorts = sorts_same ls i; symbols = symbols_same ls i; asserted = [] } ∷ []
-emptied false ls = refl
-
-latest_sort : (n : Name) (ls : List (Level Term)) → outlines (on_latest (with_sort n) ls) ≡ outlines (on_latest (with_sort n) (outlines ls))
-latest_sort n [] = refl
-latest_sort n (l ∷ ls) = ap (λ ks. level_outline (with_sort n l) ∷ ks) (twice ls)
-
-latest_symbol : (f : Symbol) (ls : List (Level Term)) → outlines (on_latest (with_symbol f) ls) ≡ outlines (on_latest (with_symbol f) (outlines ls))
-latest_symbol f [] = refl
-latest_symbol f (l ∷ ls) = ap (λ ks. level_outline (with_symbol f l) ∷ ks) (twice ls)
-
--- whatever is asserted
-latest_assertion : (a b : Term) (ls : List (Level Term)) → outlines (on_latest (with_assertion a) ls) ≡ outlines (on_latest (with_assertion b) (outlines ls))
-latest_assertion a b [] = refl
-latest_assertion a b (l ∷ ls) = ap (λ ks. level_outline l ∷ ks) (twice ls)
-
--- ---- commands
-
-abbrev state_of : Bool → List (Level Term) → State Term
-state_of global ls = record { levels = ls; global = global }
-
-after_outline : (c : Command Term) (s : State Term) → outline (after c s) ≡ outline (after c (outline s))
-after_outline (declare_sort n) s = ap (state_of s.global) (latest_sort n s.levels)
-after_outline (declare f) s = ap (state_of s.global) (latest_symbol f s.levels)
-after_outline (assert i a) s = ap (state_of s.global) (latest_assertion a a s.levels)
-after_outline (push n) s = ap (state_of s.global) (pushed n s.levels)
-after_outline (pop n) s = ap (state_of s.global) (popped s.global n s.levels)
-after_outline reset_assertions s = ap (state_of s.global) (emptied s.global s.levels)
-after_outline reset s = refl
-after_outline (globals b) s = ap (state_of b) (twice s.levels)
-after_outline (passed text) s = ap (state_of s.global) (twice s.levels)
-after_outline check s = ap (state_of s.global) (twice s.levels)
-after_outline (check_assuming ls) s = ap (state_of s.global) (twice s.levels)
-after_outline exit s = ap (state_of s.global) (twice s.levels)
+after_outline : (c : Command Term) (s : State Term) → outline (after c s) ≡ outline_after c (outline s)
+after_outline (declare_sort n) s = ap (with_levels (outline s)) (bare_sort n s.levels)
+after_outline (declare f) s = ap (with_levels (outline s)) (bare_symbol f s.levels)
+after_outline (assert i a) s = ap (with_levels (outline s)) (bare_assertion a s.levels)
+after_outline (push n) s = ap (with_levels (outline s)) (bare_pushed n s.levels)
+after_outline (pop n) s = ap (with_levels (outline s)) (bare_popped s.global n s.levels)
+after_outline reset_assertions s = ap (with_levels (outline s)) (bare_emptied s.global s.levels)
+after_outline _ s = refl
 
 pub same_after : (c : Command Term) (s t : State Term) → outline s ≡ outline t → outline (after c s) ≡ outline (after c t)
-same_after c s t h = after_outline c s ∙ ap (λ r. outline (after c r)) h ∙ sym (after_outline c t)
+same_after c s t h = after_outline c s ∙ ap (outline_after c) h ∙ sym (after_outline c t)
 
+-- whatever is asserted
 pub asserted_after : (i : ℕ) (a b : Term) (s t : State Term) → outline s ≡ outline t → outline (after (assert i a) s) ≡ outline (after (assert i b) t)
-asserted_after i a b s t h =
-    ap (state_of s.global) (latest_assertion a b s.levels) ∙ ap (λ r. outline (after (assert i b) r)) h ∙ sym (ap (state_of t.global) (latest_assertion b b t.levels))
+asserted_after i a b s t h = after_outline (assert i a) s ∙ ap (outline_after (assert i a)) h ∙ sym (after_outline (assert i b) t)
 
 -- ---- what may stand
 
@@ -114,9 +69,9 @@ pub record DeclareTheSame (s t : State Term) : Type 0 where
 
 pub declare_the_same : (s t : State Term) → outline s ≡ outline t → DeclareTheSame s t
 declare_the_same s t h = record {
-  sorts = sorts_same s.levels ∙ ap (λ r. throughout (λ l. l.sorts) r.levels) h ∙ sym (sorts_same t.levels);
-  symbols = symbols_same s.levels ∙ ap (λ r. throughout (λ l. l.symbols) r.levels) h ∙ sym (symbols_same t.levels);
-  levels = sym (length-map s.levels level_outline) ∙ ap (λ r. length r.levels) h ∙ length-map t.levels level_outline;
+  sorts = sym (bare_sorts s.levels) ∙ ap (λ r. throughout (λ l. l.sorts) r.levels) h ∙ bare_sorts t.levels;
+  symbols = sym (bare_symbols s.levels) ∙ ap (λ r. throughout (λ l. l.symbols) r.levels) h ∙ bare_symbols t.levels;
+  levels = sym (length-map s.levels bare_level) ∙ ap (λ r. length r.levels) h ∙ length-map t.levels bare_level;
 }
 
 module _ (s t : State Term) (h : DeclareTheSame s t) where

@@ -12,8 +12,8 @@ use Rattle.smt_terms.proofs.Tests.{both_true, and_true, either_true, left_true, 
 use Rattle.script_read.specs.Commands.{State, assert, sorts_of_state, symbols_of_state}
 use Rattle.script_read.specs.Printable.{sort_is_live, all_within, is_usable, symbols_are_live, is_printable_term, may_stand}
 use Rattle.script_read.specs.Read.{is_of_sort, has_sort}
+use Rattle.script_read.proofs.LiveSorts.{drawn_usable}
 use Rattle.passes.proofs.Assertions.{Kept}
-use Rattle.passes.proofs.Numbered.{numbered_usable}
 use Rattle.passes.proofs.Outlines.{DeclareTheSame}
 
 -- what a test says of symbols it says of each
@@ -61,5 +61,5 @@ stands_still begun s r same i t u kept h = may begun r i u (record {
   sorted = kept.keeps.sorted;
   clear = kept.clear h.clear;
   symbols = of_all (λ f. is_among (symbols_of_state r) f) (free u) (λ g among. of_each (λ f. is_among (symbols_of_state r) f) (free t) g (ap (λ fs. list_all (λ f. is_among fs f) (free t)) (sym same.symbols) ∙ h.symbols) (kept.symbols g among));
-  within = kept.within (sort_is_live (sorts_of_state r)) is_usable numbered_usable (ap (λ ns. all_within (sort_is_live ns) is_usable t) (sym same.sorts) ∙ h.within);
+  within = kept.within (sort_is_live (sorts_of_state r)) is_usable drawn_usable (ap (λ ns. all_within (sort_is_live ns) is_usable t) (sym same.sorts) ∙ h.within);
 })

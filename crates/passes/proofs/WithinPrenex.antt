@@ -1,21 +1,23 @@
 -- Prenex form keeps the tests of sorts and quantified names, where drawn names pass.
-use Rattle.std.proofs.Common.{◌≡◌, ℕ, zero, suc, Bool, true, false, ◌&&◌, [], map, Option, Some, None, refl}
+use Rattle.std.proofs.Common.{◌≡◌, ℕ, zero, suc, Bool, true, false, ◌&&◌, List, [], ◌∷◌, map, Option, Some, None, refl}
 use Rattle.std.specs.List.{list_all}
 use Rattle.std.specs.Prelude.{⊤}
 use Rattle.smt_terms.specs.Sorts.{Name, Sort, Variable}
-use Rattle.smt_terms.specs.Term.{Head, Term, apply, quantified, Terms, none, ◌⨾◌}
+use Rattle.smt_terms.specs.Term.{Head, Term, apply, quantified, Terms, none, ◌⨾◌, constant_of, variable}
 use Rattle.smt_terms.specs.Equal.{term_eq}
-use Rattle.smt_terms.specs.Fresh.{Supply, numbered_name}
+use Rattle.smt_terms.specs.Free.{name_among}
+use Rattle.smt_terms.specs.Fresh.{Supply, numbered_name, next_number, after_draw, fresh_for}
 use Rattle.smt_terms.specs.Connectives.{Kind, conjunction, disjunction, kind_of}
 use Rattle.smt_terms.proofs.Tests.{both_true, and_true}
 use Rattle.normal_forms.specs.Nnf.{nnf}
 use Rattle.normal_forms.specs.Prenex.{Quantified, whole, leftmost, through_or, by_if, replaced, replaced_each, quantifiers, pulled, prenex_turns, prenex}
+use Rattle.smt_terms.specs.Subst.{Map, bind, renaming}
 use Rattle.normal_forms.proofs.Drawn.{drawn, renamed_body}
 use Rattle.normal_forms.proofs.Replaced.{leftmost-inherits}
 use Rattle.normal_forms.proofs.Substituted.{ImagesHave, renamed-have}
 use Rattle.script_read.specs.Printable.{head_sorts, all_within, all_within_each}
+use Rattle.script_read.proofs.UsableTerms.{variable_fine, subst_fine}
 use Rattle.passes.proofs.WithinForms.{nnf-within}
-use Rattle.passes.proofs.WithinSubst.{renamed-pass, sorts-pass, variable-within, subst-within}
 
 module _ (sorts : Sort → Bool) (names : Name → Bool) (numbered : (i : ℕ) → names (numbered_name i) ≡ true) where
   abbrev within : Term → Bool
@@ -26,6 +28,27 @@ module _ (sorts : Sort → Bool) (names : Name → Bool) (numbered : (i : ℕ) �
 
   abbrev passes : Variable → Bool
   passes x = sorts x.sort && names x.name
+
+  -- ---- renamed variables
+
+  renamed-pass : (c : List Name) (xs : List Variable) (f : Map) (s : Supply) → list_all passes xs ≡ true → list_all passes (renaming c xs f s).variables ≡ true
+  renamed-pass c [] f s all = refl
+  renamed-pass c (x ∷ xs) f s all =
+      let parts = both_true (passes x) (list_all passes xs) all in
+      go parts.0 (name_among c x.name) (λ g t. renamed-pass c xs g t parts.1)
+    where
+      go : passes x ≡ true → (b : Bool) → ((g : Map) (t : Supply) → list_all passes (renaming c xs g t).variables ≡ true) → list_all passes (bind b x f s (λ g t. renaming c xs g t)).variables ≡ true
+      go here true below =
+          let sort : sorts x.sort ≡ true = (both_true (sorts x.sort) (names x.name) here).0 in
+          and_true (passes (fresh_for x s)) (list_all passes (renaming c xs ((constant_of x, variable (fresh_for x s)) ∷ f) (after_draw s)).variables)
+          (and_true (sorts x.sort) (names (fresh_for x s).name) sort (numbered (next_number s))) (below ((constant_of x, variable (fresh_for x s)) ∷ f) (after_draw s))
+      go here false below = and_true (passes x) (list_all passes (renaming c xs f s).variables) here (below f s)
+
+  sorts-pass : (xs : List Variable) → list_all passes xs ≡ true → list_all (λ x. sorts x.sort) xs ≡ true
+  sorts-pass [] all = refl
+  sorts-pass (x ∷ xs) all =
+      let parts = both_true (passes x) (list_all passes xs) all in
+      and_true (sorts x.sort) (list_all (λ y. sorts y.sort) xs) (both_true (sorts x.sort) (names x.name) parts.0).0 (sorts-pass xs parts.1)
 
   -- ---- another formula in the place of the leftmost one
 
@@ -58,11 +81,11 @@ module _ (sorts : Sort → Bool) (names : Name → Bool) (numbered : (i : ℕ) �
   body-within : (f : Quantified) (s : Supply) → Within (whole f) → Within (renamed_body f s).0
   body-within f s given =
       let parts = both_true (list_all passes f.variables) (within f.body) given in
-      subst-within sorts names numbered f.body (drawn f s).map (drawn f s).names parts.1
-      (renamed-have Within sorts (variable-within sorts names numbered) (map (λ x. x.name) f.variables) f.variables [] s (sorts-pass sorts names numbered f.variables parts.0) no-images)
+      subst_fine sorts names numbered (drawn f s).map f.body (drawn f s).names parts.1
+      (renamed-have Within sorts (variable_fine sorts names) (map (λ x. x.name) f.variables) f.variables [] s (sorts-pass f.variables parts.0) no-images)
 
   variables-within : (f : Quantified) (s : Supply) → Within (whole f) → list_all passes (drawn f s).variables ≡ true
-  variables-within f s given = renamed-pass sorts names numbered (map (λ x. x.name) f.variables) f.variables [] s (both_true (list_all passes f.variables) (within f.body) given).0
+  variables-within f s given = renamed-pass (map (λ x. x.name) f.variables) f.variables [] s (both_true (list_all passes f.variables) (within f.body) given).0
 
   abbrev AllOf : Terms → Type 0
   AllOf none = ⊤

@@ -14,7 +14,7 @@ use Rattle.smt_terms.proofs.Equal.{Decides-term_eq}
 use Rattle.normal_forms.specs.Quantifiers.{over_left, not_bool, at_head, unless_bound, at_truth, at_truth_each, expanded, expand_bool, expand_each, shannon, shannon_each, witness, substitute_bool, substitute_each, Solved, Solving, solved_for, solved_or, solve, selfsub_from, selfsubs_from, selfsub}
 use Rattle.normal_forms.proofs.Substituted.{front-have}
 use Rattle.script_read.specs.Printable.{head_sorts, all_within, all_within_each}
-use Rattle.passes.proofs.WithinSubst.{subst-within}
+use Rattle.script_read.proofs.UsableTerms.{subst_fine}
 
 module _ (sorts : Sort → Bool) (names : Name → Bool) where
   abbrev within : Term → Bool
@@ -142,7 +142,7 @@ module _ (sorts : Sort → Bool) (names : Name → Bool) where
   module _ (numbered : (i : ℕ) → names (numbered_name i) ≡ true) where
     bool-within : (s : Sort) (q : Quantifier) (x : Variable) (r : Term × Supply) → Within r.0 → Within (substitute_bool s q x r).0
     bool-within bool q x r a =
-        subst-within sorts names numbered r.0 ((constant_of x, witness q x r.0) ∷ []) r.1 a (front-have Within x (witness q x r.0) [] (witness-within q x r.0 a) (λ g u found. absurd cc))
+        subst_fine sorts names numbered ((constant_of x, witness q x r.0) ∷ []) r.0 r.1 a (front-have Within x (witness q x r.0) [] (witness-within q x r.0 a) (λ g u found. absurd cc))
     bool-within int q x r a = a
     bool-within (bit_vector w) q x r a = a
     bool-within (array i e) q x r a = a
