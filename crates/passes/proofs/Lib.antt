@@ -1,4 +1,5 @@
 mod Assertions
+mod InForm
 mod Kept
 pub mod Literals
 mod ModelsCarried
@@ -6,6 +7,7 @@ mod ModelsStay
 mod Outlines
 mod ReadsInside
 mod Rows
+mod Rewritable
 mod Standing
 pub mod Truths
 mod Walked
