@@ -1,1 +1,16 @@
+mod Assertions
+mod InForm
+mod Kept
+pub mod Literals
+mod ModelsCarried
+mod ModelsStay
+mod Outlines
+mod ReadsInside
 mod Rows
+mod Rewritable
+mod Standing
+pub mod Truths
+mod Walked
+mod WithinForms
+mod WithinPrenex
+mod WithinQuantifiers

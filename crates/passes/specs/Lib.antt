@@ -2,3 +2,5 @@ pub mod Lists
 pub mod Passed
 pub mod Led
 pub mod Carry
+pub mod Laws
+pub mod Behind

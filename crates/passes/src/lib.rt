@@ -3,6 +3,8 @@
 
 #![tactic(auto)]
 
+mod laws;
 mod names;
 
+pub use laws::{passes_carry_models, passes_keep_commands, passes_leave_models};
 pub use names::{ListFault, Pass};

@@ -59,7 +59,7 @@ plain ps = map (with_asserted (λ p. p.0)) ps
 abbrev ClearCommands : List (Command Term) → Type 0
 ClearCommands cs = (ps : List (Command ClearOne)) × (plain ps ≡ cs)
 
-abbrev StepClear : Step → Type 0
+abbrev pub StepClear : Step → Type 0
 StepClear (Ok r) = ClearCommands r.0 × AllClear r.1.sofar.live
 StepClear (Err e) = ⊤
 
@@ -187,7 +187,7 @@ only_parameters xs fs g among = go (in_either (local_constants (parameters_read 
     go (inl e) = first (parameter_or_before 0 xs [] g e)
     go (inr e) = in_right (parameters_from 0 xs) fs g e
 
-nothing_clear : (fs : List Symbol) → Apart fs → LocalsClear fs []
+pub nothing_clear : (fs : List Symbol) → Apart fs → LocalsClear fs []
 nothing_clear fs apart = record { terms = λ n t h. no_term n t h; apart = apart }
   where
     no_term : (n : Name) (t : Term) → None ≡ Some t → ClearTerm fs t
@@ -356,7 +356,7 @@ outlined_clear : (ns : List Name) (f : Form) (s : Standing) (o : Result Outline 
 outlined_clear ns f s (Ok o) stands all within = step_clear ns s stands all (place_of f) (form_text f) o (within o refl)
 outlined_clear ns f s (Err e) stands all within = tt
 
-command_clear : (ns : List Name) (f : Form) (s : Standing) → Stands ns s → AllClear s.sofar.live → Within ns f → StepClear (read_command f s)
+pub command_clear : (ns : List Name) (f : Form) (s : Standing) → Stands ns s → AllClear s.sofar.live → Within ns f → StepClear (read_command f s)
 command_clear ns f s stands all within = outlined_clear ns f s (outline f) stands all (λ o h. outline_within ns f o within h)
 
 commands_clear : (ns : List Name) (i : ℕ) (fs : Forms) (s : Standing) (r : List (Command Term) × Supply) → Stands ns s → AllClear s.sofar.live → AllWithin ns fs → read_commands i fs s ≡ Ok r → ClearCommands r.0

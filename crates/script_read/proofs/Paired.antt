@@ -197,7 +197,7 @@ outline_within ns (node place (f ⨾ fs)) o within e = by_word (word_in f) e
 
 -- ---- terms that commands read
 
-of_sort_sorted : (to : Sort) (place : ℕ) (r : Result (Term × Sofar) Refused) (p : Term × Sofar) → of_sort to place r ≡ Ok p → sort_of p.0 ≡ Some to
+pub of_sort_sorted : (to : Sort) (place : ℕ) (r : Result (Term × Sofar) Refused) (p : Term × Sofar) → of_sort to place r ≡ Ok p → sort_of p.0 ≡ Some to
 of_sort_sorted to place (Ok q) p h =
     let (sorted, last) = unless_passed (not (has_sort to q.0)) WrongSort place (Ok q) p h in
     let same : q ≡ p = ok_same q p (Ok q) refl last in

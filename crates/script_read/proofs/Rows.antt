@@ -3,6 +3,7 @@ mod Cases
 mod CommandsRefused
 mod Given
 mod Meanings
+mod NamesLeft
 mod Printing
 mod Scripts
 mod SortsRefused

@@ -1,5 +1,5 @@
 -- Statements of the laws of reading.
-use Rattle.std.specs.Prelude.{◌≡◌, ◌↔◌, ℕ, List, ◌++◌, map, length, None, Result, Ok, Err, is_ok, IsTrue, ⊤}
+use Rattle.std.specs.Prelude.{◌≡◌, ◌↔◌, ℕ, List, [], ◌∷◌, ◌++◌, map, flat_map, length, None, Result, Ok, Err, is_ok, IsTrue, ⊤}
 use Rattle.std.specs.List.{list_all}
 use Rattle.smt_lex.specs.declared.items.Until.{Until}
 use Rattle.smt_lex.specs.Forms.{Form, tokens_of}
@@ -10,13 +10,15 @@ use Rattle.smt_terms.specs.Fresh.{Supply}
 use Rattle.smt_terms.specs.Models.{Model}
 use Rattle.smt_terms.specs.Rank.{sort_of, is_well_sorted}
 use Rattle.smt_terms.specs.Sorts.{bool}
+use Rattle.smt_terms.specs.SubstLaws.{names_within, GivesNone}
 use Rattle.smt_terms.specs.Term.{Term}
 use Rattle.smt_terms.specs.Val.{Env, no_variables, val}
 use Rattle.smt_terms.specs.Written.{Written, build}
 use Rattle.smt_terms.specs.Shapes.{is_clear}
-use Rattle.script_read.specs.Commands.{Command, with_asserted, kinds, live, literals, signature}
+use Rattle.script_read.specs.Commands.{Command, declare, assert, check_assuming, with_asserted, kinds, live, literals, signature}
 use Rattle.script_read.specs.Heads.{term_algebra}
 use Rattle.script_read.specs.Mean.{Denoted, value_algebra, mean, meaning}
+use Rattle.script_read.specs.Printable.{printable}
 use Rattle.script_read.specs.Refusals.{Refused}
 use Rattle.script_read.specs.Read.{Context, has_sort, read}
 use Rattle.script_read.specs.Reading.{as_local, as_bindings, Sofar}
@@ -97,3 +99,25 @@ ReadingKeepsMeaning = (b : List ℕ) (r : List (Command Term) × Supply) → scr
 -- the terms of every point have clear names
 abbrev pub ReadTermsAreClear : Type 0
 ReadTermsAreClear = (b : List ℕ) (r : List (Command Term) × Supply) → script b ≡ Ok r → (k : ℕ) → IsTrue (list_all is_clear (live r.0 k ++ literals r.0 k))
+
+-- ---- what is read can be printed, and its names aren't drawn again
+
+-- the commands of an accepted text can be printed and read again
+abbrev pub ReadScriptsArePrintable : Type 0
+ReadScriptsArePrintable = (b : List ℕ) (r : List (Command Term) × Supply) → script b ≡ Ok r → IsTrue (printable r.0)
+
+-- the names of the symbols of a command: of the one that it declares, and of those in its term or its literals, quantified
+-- variables included
+abbrev pub names_in_command : Command Term → List Name
+names_in_command (declare f) = f.name ∷ []
+names_in_command (assert i t) = names_within t
+names_in_command (check_assuming ls) = flat_map names_within ls
+names_in_command _ = []
+
+-- the supply gives no name that stands in these commands
+abbrev pub GivesNoNameOf : Supply → List (Command Term) → Type 0
+GivesNoNameOf s cs = GivesNone s (flat_map names_in_command cs)
+
+-- the names that are left to draw are new in the commands of an accepted text
+abbrev pub NamesLeftAreNew : Type 0
+NamesLeftAreNew = (b : List ℕ) (r : List (Command Term) × Supply) → script b ≡ Ok r → GivesNoNameOf r.1 r.0

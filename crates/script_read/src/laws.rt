@@ -1,6 +1,6 @@
 //! The laws of reading, each the contract of a function that does nothing.
 
-ghost use Rattle.script_read.specs.Laws.{PrintedSymbolsAreRead, WrittenTokensAreRead, ReadingNames, SameCommands, PointsAgree, ReadingAnswers, WrittenMeaning, ReadingKeepsMeaning, ReadTermsAreClear};
+ghost use Rattle.script_read.specs.Laws.{PrintedSymbolsAreRead, WrittenTokensAreRead, ReadingNames, SameCommands, PointsAgree, ReadingAnswers, WrittenMeaning, ReadingKeepsMeaning, ReadTermsAreClear, NamesLeftAreNew, ReadScriptsArePrintable};
 
 /// A symbol, as it is printed, is read as that one symbol; and the tokens of a text's forms, written one after the other
 /// with a space behind each, are read as the same tokens.
@@ -43,4 +43,15 @@ pub fn reading_keeps_meaning()
 /// name there, or no quantifier above it binds its name, and no two free symbols of a term have one name.
 pub fn read_terms_are_clear()
     ensures { ReadTermsAreClear }
+{}
+
+/// The names that are left behind an accepted text are new: the supply gives, next or later, no name of a symbol that is
+/// declared, or that stands in an assertion or a literal, quantified variables included.
+pub fn names_left_are_new()
+    ensures { NamesLeftAreNew }
+{}
+
+/// What reading gives can be printed: nothing that reading would refuse is among the commands of an accepted text.
+pub fn reading_gives_a_printable_script()
+    ensures { ReadScriptsArePrintable }
 {}

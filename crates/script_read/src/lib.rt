@@ -8,6 +8,7 @@ mod laws;
 
 pub use causes::Cause;
 pub use laws::{
-    read_terms_are_clear, reading_answers, reading_binds_names, reading_keeps_meaning,
-    terms_and_forms_agree, written_operators_keep_meaning,
+    names_left_are_new, read_terms_are_clear, reading_answers, reading_binds_names,
+    reading_gives_a_printable_script, reading_keeps_meaning, terms_and_forms_agree,
+    written_operators_keep_meaning,
 };

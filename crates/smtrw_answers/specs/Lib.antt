@@ -4,3 +4,4 @@ pub mod Outputs
 pub mod Carrying
 pub mod Endings
 pub mod Headline
+pub mod Laws

@@ -1,0 +1,117 @@
+-- What passes put in the place of one assertion: a term of the same value, in which nothing is new but drawn names.
+use Rattle.std.proofs.Common.{◌≡◌, ℕ, Bool, true, [], ◌∷◌, refl}
+use Rattle.smt_terms.specs.Sorts.{Name, Sort, Symbol}
+use Rattle.smt_terms.specs.Term.{Term}
+use Rattle.smt_terms.specs.Free.{is_among, free}
+use Rattle.smt_terms.specs.Fresh.{Supply, numbered_name}
+use Rattle.smt_terms.specs.Groups.{Group}
+use Rattle.smt_terms.specs.Keeps.{Keeps, KeepsValues}
+use Rattle.smt_terms.specs.Rank.{IsWellSorted}
+use Rattle.smt_terms.specs.Shapes.{is_clear}
+use Rattle.smt_terms.specs.SubstLaws.{names_within, GivesNone, Later}
+use Rattle.smt_terms.proofs.Keeping.{keeps_itself}
+use Rattle.array_forms.specs.Reads.{reads}
+use Rattle.normal_forms.specs.Laws.{RewritesAlone, RewritesAs, RewritesFresh, RewritesWith}
+use Rattle.normal_forms.specs.Nnf.{nnf}
+use Rattle.normal_forms.specs.Aig.{aig}
+use Rattle.normal_forms.specs.Prenex.{prenex}
+use Rattle.normal_forms.specs.Quantifiers.{shannon, selfsub}
+use Rattle.script_read.specs.Commands.{declare}
+use Rattle.script_read.specs.Printable.{all_within}
+use Rattle.passes.specs.declared.names.Pass.{Pass}
+use Rattle.passes.specs.declared.names.Pass.TheVariants.{Simplify, Nnf, Aig, Prenex, Reads, Shannon, SelfSub, Rules, Ite, Cnf, Ackermann}
+use Rattle.passes.specs.Laws.{keeps_values}
+use Rattle.passes.specs.Passed.{Way, alone, rewritten, in_place, written}
+use Rattle.passes.proofs.ReadsInside.{reads-symbols, reads-names, reads-clear, reads-within}
+use Rattle.passes.proofs.WithinForms.{nnf-within, aig-within}
+use Rattle.passes.proofs.WithinPrenex.{prenex-within}
+use Rattle.passes.proofs.WithinQuantifiers.{shannon-within, selfsub-within}
+
+-- what passes tests of sorts and of quantified names passes them still, where drawn names do
+abbrev pub StaysWithin : Term → Term → Type 0
+StaysWithin t u = (sorts : Sort → Bool) (names : Name → Bool) → ((i : ℕ) → names (numbered_name i) ≡ true) → all_within sorts names t ≡ true → all_within sorts names u ≡ true
+
+-- u may take the place of the assertion t
+pub record Kept (t u : Term) : Type 0 where
+  pub keeps : Keeps t u
+  pub symbols : (g : Symbol) → is_among (free u) g ≡ true → is_among (free t) g ≡ true
+  pub clear : is_clear t ≡ true → is_clear u ≡ true
+  pub within : StaysWithin t u
+
+-- what stands in the place of t is one term, and the names that are left are none of its names
+pub record Replaces (t : Term) (before : Supply) (r : Group × Way) : Type 0 where
+  pub term : Term
+  pub group : r.0 ≡ alone term
+  pub kept : Kept t term
+  pub later : Later before r.1.names
+  pub names : GivesNone r.1.names (names_within term)
+
+-- of a pass
+pub record Rule (p : Pass) : Type 0 where
+  pub replaces : (t : Term) (w : Way) → IsWellSorted t → GivesNone w.names (names_within t) → Replaces t w.names (in_place p t w)
+  pub declares : (f : Symbol) → written p (declare f) ≡ declare f ∷ []
+
+-- ---- forms that draw no names, and forms that do
+
+as_form : (form : Term → Term) → RewritesAs form → ((t : Term) → StaysWithin t (form t)) → (t : Term) (w : Way) → IsWellSorted t → GivesNone w.names (names_within t) → Replaces t w.names (alone (form t), w)
+as_form form rewrites within t w fine given =
+    let r : RewritesAlone t (form t) = rewrites t fine in
+    record {
+      term = form t;
+      group = refl;
+      kept = record { keeps = r.rewrites.keeps; symbols = r.rewrites.symbols; clear = r.rewrites.clear; within = within t };
+      later = λ n never. never;
+      names = λ n among. given n (r.names n among);
+    }
+
+with_form : (form : Term → Supply → Term × Supply) → RewritesWith form → ((t : Term) (s : Supply) → StaysWithin t (form t s).0) → (t : Term) (w : Way) → IsWellSorted t → GivesNone w.names (names_within t) → Replaces t w.names (rewritten (form t w.names) w)
+with_form form rewrites within t w fine given =
+    let r : RewritesFresh t (form t w.names).0 w.names (form t w.names).1 = rewrites t w.names fine given in
+    record {
+      term = (form t w.names).0;
+      group = refl;
+      kept = record { keeps = r.rewrites.keeps; symbols = r.rewrites.symbols; clear = r.rewrites.clear; within = within t w.names };
+      later = r.later;
+      names = r.names;
+    }
+
+unchanged : (t : Term) (w : Way) → IsWellSorted t → GivesNone w.names (names_within t) → Replaces t w.names (alone t, w)
+unchanged t w fine given = record {
+  term = t;
+  group = refl;
+  kept = record { keeps = keeps_itself t fine; symbols = λ g among. among; clear = λ c. c; within = λ sorts names numbered all. all };
+  later = λ n never. never;
+  names = given;
+}
+
+-- ---- the passes
+
+reads_replaces : KeepsValues reads → (t : Term) (w : Way) → IsWellSorted t → GivesNone w.names (names_within t) → Replaces t w.names (alone (reads t), w)
+reads_replaces keeps t w fine given = record {
+  term = reads t;
+  group = refl;
+  kept = record { keeps = keeps t fine; symbols = reads-symbols t; clear = reads-clear t fine; within = λ sorts names numbered all. reads-within sorts names t all };
+  later = λ n never. never;
+  names = λ n among. given n (reads-names t n among);
+}
+
+pub record FormLaws : Type 0 where
+  pub nnf : RewritesAs nnf
+  pub aig : RewritesAs aig
+  pub prenex : RewritesWith prenex
+  pub reads : KeepsValues reads
+  pub shannon : RewritesAs shannon
+  pub selfsub : RewritesWith selfsub
+
+pub rule_of : FormLaws → (p : Pass) → keeps_values p ≡ true → Rule p
+rule_of laws Nnf is = record { replaces = as_form nnf laws.nnf (λ t sorts names numbered all. nnf-within sorts names t all); declares = λ f. refl }
+rule_of laws Aig is = record { replaces = as_form aig laws.aig (λ t sorts names numbered all. aig-within sorts names t all); declares = λ f. refl }
+rule_of laws Prenex is = record { replaces = with_form prenex laws.prenex (λ t s sorts names numbered all. prenex-within sorts names numbered t s all); declares = λ f. refl }
+rule_of laws Reads is = record { replaces = reads_replaces laws.reads; declares = λ f. refl }
+rule_of laws Shannon is = record { replaces = as_form shannon laws.shannon (λ t sorts names numbered all. shannon-within sorts names t all); declares = λ f. refl }
+rule_of laws SelfSub is = record { replaces = with_form selfsub laws.selfsub (λ t s sorts names numbered all. selfsub-within sorts names numbered t s all); declares = λ f. refl }
+rule_of laws Rules is = record { replaces = unchanged; declares = λ f. refl }
+rule_of laws Simplify is = absurd cc
+rule_of laws Ite is = absurd cc
+rule_of laws Cnf is = absurd cc
+rule_of laws Ackermann is = absurd cc

@@ -1,0 +1,46 @@
+-- Models of the commands behind passes are models of those before them, and the other way round.
+use Rattle.std.proofs.Common.{◌≡◌, ◌∙◌, sym, ℕ, false, ◌&&◌, List, subst}
+use Rattle.std.specs.List.{list_all}
+use Rattle.smt_terms.specs.Fresh.{Supply}
+use Rattle.smt_terms.specs.Models.{Model, IsModel, IsModelOver}
+use Rattle.smt_terms.specs.Term.{Term}
+use Rattle.script_read.specs.Commands.{Command, Signature, start, live, signature}
+use Rattle.script_read.specs.Satisfied.{is_true_in, sat}
+use Rattle.smt_print.proofs.LikePoints.{alike}
+use Rattle.passes.specs.Laws.{IsReady, AreEquivalent, PassesKeepCommands, PassesLeaveModels, IsModelOf, PassesCarryModels}
+use Rattle.passes.specs.Passed.{passed}
+use Rattle.passes.proofs.Literals.{IsFormula}
+use Rattle.passes.proofs.Truths.{AreFormulas, truths_kept}
+use Rattle.passes.proofs.Walked.{all_like}
+
+live_formulas : (cs : List (Command Term)) (s : Supply) → IsReady cs s → (k : ℕ) → AreFormulas (live cs k)
+live_formulas cs s ready = (alike Term Term (λ t u. IsFormula t) cs cs (all_like (λ t u. IsFormula t) (λ t fine. fine) cs false start ready.printable)).live
+
+sat_alike : (cs ds : List (Command Term)) (k : ℕ) → AreFormulas (live cs k) → AreEquivalent cs ds → (m : Model) → IsModel m → sat m cs k ≡ sat m ds k
+sat_alike cs ds k formulas same m model =
+    λ i. truths_kept m model (live cs k) (live ds k) formulas (same.live k) i && list_all (is_true_in m) (sym (same.literals k) i)
+
+over_same : (m : Model) (g h : Signature) → g ≡ h → IsModelOver g.sorts g.symbols m → IsModelOver h.sorts h.symbols m
+over_same m g h same over = subst (λ (f : Signature). IsModelOver f.sorts f.symbols m) same over
+
+backward : (cs ds : List (Command Term)) (k : ℕ) → AreFormulas (live cs k) → AreEquivalent cs ds → (m : Model) → IsModelOf ds k m → IsModelOf cs k m
+backward cs ds k formulas same m is = record {
+  over = over_same m (signature ds k) (signature cs k) (same.signatures k) is.over;
+  sat = sat_alike cs ds k formulas same m is.over.valid ∙ is.sat;
+}
+
+forward : (cs ds : List (Command Term)) (k : ℕ) → AreFormulas (live cs k) → AreEquivalent cs ds → (m : Model) → IsModelOf cs k m → IsModelOf ds k m
+forward cs ds k formulas same m is = record {
+  over = over_same m (signature cs k) (signature ds k) (sym (same.signatures k)) is.over;
+  sat = sym (sat_alike cs ds k formulas same m is.over.valid) ∙ is.sat;
+}
+
+pub passes_carry : PassesKeepCommands → PassesLeaveModels → PassesCarryModels
+passes_carry kept stay ps cs s all ready =
+    let ds : List (Command Term) = (passed ps cs s).0 in
+    let same : AreEquivalent cs (passed ps cs s).0 = (kept ps cs s all ready).equivalent in
+    record {
+      kinds = same.kinds;
+      back = λ k m is. subst (IsModelOf cs k) (sym (stay ps cs s all k m).0) (backward cs ds k (live_formulas cs s ready k) same m is);
+      forth = λ k m is. subst (IsModelOf ds k) (sym (stay ps cs s all k m).1) (forward cs ds k (live_formulas cs s ready k) same m is);
+    }

@@ -1,0 +1,77 @@
+-- Statements of the laws of passes that put one assertion in the place of each: what becomes of commands that can be printed,
+-- and of their models. SMT-LIB 2.6, section 4.2, for commands and section 5.3 for values.
+use Rattle.std.specs.Prelude.{◌≡◌, ℕ, Bool, true, false, List, IsTrue}
+use Rattle.std.specs.List.{list_all}
+use Rattle.smt_terms.specs.Fresh.{Supply}
+use Rattle.smt_terms.specs.Keeps.{Keeps}
+use Rattle.smt_terms.specs.Models.{Model, IsModelOver}
+use Rattle.smt_terms.specs.Term.{Term}
+use Rattle.script_read.specs.Commands.{Command, kinds, live, literals, signature}
+use Rattle.script_read.specs.Laws.{GivesNoNameOf}
+use Rattle.script_read.specs.Printable.{printable}
+use Rattle.script_read.specs.Satisfied.{sat}
+use Rattle.smt_print.specs.Laws.{Each}
+use Rattle.passes.specs.declared.names.Pass.{Pass}
+use Rattle.passes.specs.declared.names.Pass.TheVariants.{Nnf, Aig, Prenex, Reads, Shannon, SelfSub, Rules}
+use Rattle.passes.specs.Passed.{apply_pass, passed}
+use Rattle.passes.specs.Carry.{back, forth}
+
+-- the passes of these laws: all that put one assertion in the place of each, but `simplify`; stored rules count as changing
+-- nothing here
+abbrev pub keeps_values : Pass → Bool
+keeps_values Nnf = true
+keeps_values Aig = true
+keeps_values Prenex = true
+keeps_values Reads = true
+keeps_values Shannon = true
+keeps_values SelfSub = true
+keeps_values Rules = true
+keeps_values _ = false
+
+-- ---- commands that passes may be applied to
+
+-- the commands can be printed, and the supply gives none of their names
+pub record IsReady (cs : List (Command Term)) (s : Supply) : Type 0 where
+  pub printable : IsTrue (printable cs)
+  pub names : GivesNoNameOf s cs
+
+-- ---- commands in place of others
+
+-- the same checks; at each of them the same sorts, symbols and literals are live, and as many assertions, each of which is
+-- well sorted and has the sort and in every model the value of the one in its place
+pub record AreEquivalent (cs ds : List (Command Term)) : Type 0 where
+  pub kinds : kinds ds ≡ kinds cs
+  pub signatures : (k : ℕ) → signature ds k ≡ signature cs k
+  pub live : (k : ℕ) → Each Keeps (live cs k) (live ds k)
+  pub literals : (k : ℕ) → literals ds k ≡ literals cs k
+
+-- a model over what is declared at point k, in which all that is live there holds
+pub record IsModelOf (cs : List (Command Term)) (k : ℕ) (m : Model) : Type 0 where
+  pub over : IsModelOver (signature cs k).sorts (signature cs k).symbols m
+  pub sat : IsTrue (sat m cs k)
+
+-- the same checks; a model of ds, carried back, is one of cs, and a model of cs, carried forth, is one of ds
+pub record CarriesModels (cs ds : List (Command Term)) (to_first to_second : ℕ → Model → Model) : Type 0 where
+  pub kinds : kinds ds ≡ kinds cs
+  pub back : (k : ℕ) (m : Model) → IsModelOf ds k m → IsModelOf cs k (to_first k m)
+  pub forth : (k : ℕ) (m : Model) → IsModelOf cs k m → IsModelOf ds k (to_second k m)
+
+-- ---- the laws
+
+-- of commands and a supply of names, and those behind a pass
+pub record KeepsCommands (cs : List (Command Term)) (r : List (Command Term) × Supply) : Type 0 where
+  pub ready : IsReady r.0 r.1
+  pub equivalent : AreEquivalent cs r.0
+
+abbrev pub PassKeepsCommands : Type 0
+PassKeepsCommands = (p : Pass) (cs : List (Command Term)) (s : Supply) → IsTrue (keeps_values p) → IsReady cs s → KeepsCommands cs (apply_pass p cs s)
+
+abbrev pub PassesKeepCommands : Type 0
+PassesKeepCommands = (ps : List Pass) (cs : List (Command Term)) (s : Supply) → IsTrue (list_all keeps_values ps) → IsReady cs s → KeepsCommands cs (passed ps cs s)
+
+-- models stay as they are: there are no new symbols
+abbrev pub PassesLeaveModels : Type 0
+PassesLeaveModels = (ps : List Pass) (cs : List (Command Term)) (s : Supply) → IsTrue (list_all keeps_values ps) → (k : ℕ) (m : Model) → (back ps cs s k m ≡ m) × (forth ps cs s k m ≡ m)
+
+abbrev pub PassesCarryModels : Type 0
+PassesCarryModels = (ps : List Pass) (cs : List (Command Term)) (s : Supply) → IsTrue (list_all keeps_values ps) → IsReady cs s → CarriesModels cs (passed ps cs s).0 (back ps cs s) (forth ps cs s)

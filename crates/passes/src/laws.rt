@@ -1,0 +1,44 @@
+//! The laws of passes that put one assertion in the place of each, as the contracts of functions that do nothing. Where such
+//! a law rests on those of single forms, its function names them.
+
+ghost use Rattle.passes.specs.Laws.{
+  PassKeepsCommands,
+  PassesKeepCommands,
+  PassesLeaveModels,
+  PassesCarryModels,
+};
+
+use array_forms::laws::reads_keep_values;
+use normal_forms::laws::{
+    aig_keeps_values, nnf_keeps_values, prenex_keeps_values, selfsub_keeps_values,
+    shannon_keeps_values,
+};
+
+/// Behind each of these passes, and behind a list of them, printable commands are printable again, with the same checks; at
+/// each of them the same sorts, symbols and literals are live, and as many assertions, each of which has the sort of the one
+/// in its place, and its value in every model. The names that are left to draw are new among those of the commands.
+pub fn passes_keep_commands()
+    ensures pass { PassKeepsCommands }
+    ensures list { PassesKeepCommands }
+{
+    nnf_keeps_values();
+    aig_keeps_values();
+    prenex_keeps_values();
+    reads_keep_values();
+    shannon_keeps_values();
+    selfsub_keeps_values();
+}
+
+/// Models carried over a list of these passes, in either direction, stay as they are.
+pub fn passes_leave_models()
+    ensures { PassesLeaveModels }
+{}
+
+/// A model of the commands behind a list of these passes, carried back, is a model of those before it at the same point, and a
+/// model of those before it, carried forth, is one of those behind it.
+pub fn passes_carry_models()
+    ensures { PassesCarryModels }
+{
+    passes_keep_commands();
+    passes_leave_models();
+}

@@ -1,0 +1,14 @@
+use Rattle.smtrw_answers.proofs.Promise.{keeps_promise}
+use Rattle.smtrw_answers.proofs.laws.rewriting_keeps_its_promise.Goals as goal
+
+pub returns : goal.returns
+returns c = keeps_promise (record {
+  answers = c.reading_answers.ensures;
+  points = c.terms_and_forms_agree.ensures.points;
+  meaning = c.reading_keeps_meaning.ensures;
+  printable = c.reading_gives_a_printable_script.ensures;
+  names = c.names_left_are_new.ensures;
+  kept = c.passes_keep_commands.ensures.list;
+  models = c.passes_carry_models.ensures;
+  printed = c.printing_reads_back.ensures;
+})

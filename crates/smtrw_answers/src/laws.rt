@@ -1,0 +1,27 @@
+//! The law that rewriting keeps its promise, as the contract of a function that does nothing but name the laws on which it
+//! rests.
+
+ghost use Rattle.smtrw_answers.specs.Laws.{RewritingKeepsItsPromise};
+
+use passes::{passes_carry_models, passes_keep_commands};
+use script_read::{
+    names_left_are_new, reading_answers, reading_gives_a_printable_script, reading_keeps_meaning,
+    terms_and_forms_agree,
+};
+use smt_print::printing_reads_back;
+
+/// What rewriting writes of an accepted text, in either layout, is an accepted text with the same points; at each of them each
+/// live assertion has one of the same meaning in its place, every model of what is written, translated, is a model of the
+/// text, and every model of the text, extended, is a model of what is written.
+pub fn rewriting_keeps_its_promise()
+    ensures { RewritingKeepsItsPromise }
+{
+    reading_answers();
+    terms_and_forms_agree();
+    reading_keeps_meaning();
+    reading_gives_a_printable_script();
+    names_left_are_new();
+    passes_keep_commands();
+    passes_carry_models();
+    printing_reads_back();
+}
