@@ -1,0 +1,4 @@
+pub mod NamesHeld
+pub mod Images
+pub mod Digits
+pub mod Numbered

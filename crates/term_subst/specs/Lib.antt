@@ -1,0 +1,4 @@
+pub mod Counters
+pub mod Maps
+pub mod Names
+pub mod Substituting

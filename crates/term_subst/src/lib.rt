@@ -1,0 +1,17 @@
+//! Substitution of terms for constants, without capture, over the nodes of a table; and the fresh names that it draws,
+//! which stand nowhere yet.
+
+#![tactic(auto)]
+
+pub mod fresh;
+pub mod maps;
+pub mod names;
+pub mod substitution;
+
+pub use fresh::Fresh;
+pub use maps::{Definition, Group, SymMap, SymPairs};
+pub use names::NameSet;
+pub use substitution::{expand, substitute};
+
+#[cfg(test)]
+mod tests;
