@@ -1,4 +1,10 @@
-pub mod NamesHeld
-pub mod Images
+pub mod Alike
 pub mod Digits
+pub mod DoneLaws
+pub mod Images
+pub mod KeysHeld
+pub mod NamesHeld
+pub mod NodesFound
 pub mod Numbered
+pub mod SortsKept
+pub mod Turns

@@ -3,10 +3,13 @@
 
 #![tactic(auto)]
 
+mod by_node;
+mod chosen;
 pub mod fresh;
 pub mod maps;
 pub mod names;
 pub mod substitution;
+mod todo;
 
 pub use fresh::Fresh;
 pub use maps::{Definition, Group, SymMap, SymPairs};
