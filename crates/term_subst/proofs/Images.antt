@@ -1,5 +1,6 @@
 -- Images are read and set by the numbers of symbols.
-use Rattle.std.proofs.Common.{◌≡◌, ℕ, ◌==◌, Bool, true, false, cond, if◌then◌else◌, [], ◌∷◌, All, Option, Some, refl, ap, sym, ◌∙◌}
+use Rattle.std.proofs.Common.{◌≡◌, ℕ, suc, ◌-◌, ◌<◌, ◌≤◌, ◌==◌, Bool, true, false, cond, if◌then◌else◌, [], ◌∷◌, length, get_or, drop, All, Option, Some, refl, ap, sym, subst, ◌∙◌, arith}
+use Rattle.std.proofs.Math.Seq.{drop-cons}
 use Rattle.std.specs.Map.{lookup}
 use Rattle.std.proofs.lemmas.Bool.Decides.{Decides-eqb}
 use Rattle.std.proofs.lemmas.List.Elements.{All-nil, All-cons, All-head, All-tail}
@@ -57,3 +58,22 @@ image_in-lookup (p ∷ ps) f = by (image_in-lookup ps f) (f.0 == p.0.0)
     by : image_in ps f ≡ lookup (ghosts.eq f) ps → (b : Bool) → (if b then Some p.1 else image_in ps f) ≡ cond {A = Option NodeId} b (Some p.1) (lookup (ghosts.eq f) ps)
     by rest true = refl
     by rest false = rest
+
+-- ---- a list of pairs, put into a map from the last to the first
+
+module _ (pairs : Pairs) (place : ℕ) (d : SymId × NodeId) (old new : Pairs) (some : 0 < place) (room : place ≤ length pairs)
+    (set : new ≡ with_image old (get_or pairs (place - 1) d).0 (get_or pairs (place - 1) d).1) where
+  front : drop (place - 1) pairs ≡ get_or pairs (place - 1) d ∷ drop place pairs
+  front = drop-cons pairs (place - 1) d (omega arith) ∙ ap (λ i. get_or pairs (place - 1) d ∷ drop i pairs) (let e : suc (place - 1) ≡ place = omega arith in e)
+
+  pub images-set : ((f : SymId) → image_in old f ≡ image_in (drop place pairs) f) → (f : SymId) → image_in new f ≡ image_in (drop (place - 1) pairs) f
+  images-set images f =
+      let p = get_or pairs (place - 1) d in
+      ap (λ (ps : Pairs). image_in ps f) set ∙ image_in-with old p.0 p.1 f
+      ∙ ap (λ (o : Option NodeId). if f.0 == p.0.0 then Some p.1 else o) (images f)
+      ∙ ap (λ (ps : Pairs). image_in ps f) (sym front)
+
+  pub pairs-set : (P : SymId × NodeId → Type 0) → All P pairs → All P old → All P new
+  pairs-set P all before =
+      let p = get_or pairs (place - 1) d in
+      subst (All P) (sym set) (with_image-All P old p.0 p.1 (λ f e. subst P (let same : p ≡ (f, p.1) = (λ i. (record { 0 = sym e i }, p.1)) in same) (all (place - 1) d (omega arith))) before)

@@ -1,10 +1,14 @@
 pub mod Alike
 pub mod Digits
 pub mod DoneLaws
+pub mod Growing
 pub mod Images
+pub mod KeysAt
 pub mod KeysHeld
+pub mod MapsAt
 pub mod NamesHeld
 pub mod NodesFound
+pub mod NodesMade
 pub mod Numbered
 pub mod SortsKept
 pub mod Turns

@@ -4,5 +4,7 @@ pub mod Done
 pub mod Keys
 pub mod Maps
 pub mod Names
+pub mod Renaming
+pub mod State
 pub mod Steps
 pub mod Substituting

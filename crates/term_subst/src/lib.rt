@@ -5,9 +5,12 @@
 
 mod by_node;
 mod chosen;
+mod cut;
+mod findings;
 pub mod fresh;
 pub mod maps;
 pub mod names;
+mod nodes;
 pub mod substitution;
 mod todo;
 
