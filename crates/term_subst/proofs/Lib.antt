@@ -6,6 +6,7 @@ pub mod Images
 pub mod KeysAt
 pub mod KeysHeld
 pub mod MapsAt
+pub mod NamesFound
 pub mod NamesHeld
 pub mod NodesFound
 pub mod NodesMade
