@@ -1,6 +1,7 @@
 pub mod Alike
 pub mod Digits
 pub mod DoneLaws
+pub mod Gaining
 pub mod Growing
 pub mod Images
 pub mod KeysAt
@@ -11,5 +12,7 @@ pub mod NamesHeld
 pub mod NodesFound
 pub mod NodesMade
 pub mod Numbered
+pub mod Renamed
 pub mod SortsKept
+pub mod Turning
 pub mod Turns

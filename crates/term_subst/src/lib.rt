@@ -11,6 +11,7 @@ pub mod fresh;
 pub mod maps;
 pub mod names;
 mod nodes;
+mod renaming;
 pub mod substitution;
 mod todo;
 
