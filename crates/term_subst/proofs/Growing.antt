@@ -95,11 +95,11 @@ module _ (old new : Formulas) (grows : GrowsTo old new) where
   level-grows cs l level = record {
     map = is_map-grows l.map level.map;
     kept = λ k r found.
-    (let kept = level.kept k r found in
-    let m = map-grows l.map level.map in
-    let term = tree-grows k kept.node in
-    let image = tree-grows r kept.image in
-    record { node = node-grows k kept.node; image = node-grows r kept.image; known = (λ i. done (m i) cs (term i)) ∙ kept.known ∙ ap Some (sym image) });
+        (let kept = level.kept k r found in
+        let m = map-grows l.map level.map in
+        let term = tree-grows k kept.node in
+        let image = tree-grows r kept.image in
+        record { node = node-grows k kept.node; image = node-grows r kept.image; known = (λ i. done (m i) cs (term i)) ∙ kept.known ∙ ap Some (sym image) });
   }
 
   pub is_chosen-grows : (e : Key × NodeId) → IsChosen old e → IsChosen new e

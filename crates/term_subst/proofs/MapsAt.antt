@@ -137,3 +137,27 @@ cut-more t m fs i d f cut more lt is so step =
     step ∙ (λ j. so j ++ cut_to (symbol_at t (is j) ∷ []) m)
     ∙ sym (filter_map-append (λ g. option_map (λ u. (g, u)) (image m g)) (named t (take i fs)) (symbol_at t (get_or fs i d) ∷ []))
     ∙ ap (λ gs. cut_to gs m) (sym (ap (named t) (take_more fs i d lt) ∙ map-append (symbol_at t) (take i fs) (get_or fs i d ∷ [])))
+
+-- ---- maps that say the same by numbers
+
+key-found : (t : Formulas) (ps : Pairs) → IsMap t ps → (f : Symbol) (u : Term) → image (map_at t ps) f ≡ Some u → (g : SymId) × IsSymbol t g × (symbol_at t g ≡ f)
+key-found t [] pairs f u found = absurd cc
+key-found t (p ∷ ps) pairs f u found = by (symbol_eq (symbol_at t p.0) f) refl found (key-found t ps (All-tail (IsPair t) p ps pairs) f u)
+  where
+    by : (b : Bool) → symbol_eq (symbol_at t p.0) f ≡ b → cond b (Some (tree t p.1)) (image (map_at t ps) f) ≡ Some u
+        → (image (map_at t ps) f ≡ Some u → (g : SymId) × IsSymbol t g × (symbol_at t g ≡ f)) → (g : SymId) × IsSymbol t g × (symbol_at t g ≡ f)
+    by true e h rest = (p.0, (All-head (IsPair t) p ps pairs).symbol, (Decides-symbol_eq (symbol_at t p.0) f).0 e)
+    by false e h rest = rest h
+
+module _ (t : Formulas) (table : IsTable t) (ps qs : Pairs) (pairs : IsMap t ps) (others : IsMap t qs) (same : (f : SymId) → image_in ps f ≡ image_in qs f) where
+  at-number : (f : Symbol) (g : SymId) → IsSymbol t g → symbol_at t g ≡ f → image (map_at t ps) f ≡ image (map_at t qs) f
+  at-number f g within is =
+      ap (image (map_at t ps)) (sym is) ∙ image-at t table ps pairs g within ∙ ap (option_map (tree t)) (same g) ∙ sym (image-at t table qs others g within) ∙ ap (image (map_at t qs)) is
+
+  pub images-same : (f : Symbol) → image (map_at t ps) f ≡ image (map_at t qs) f
+  images-same f = by (image (map_at t ps) f) (image (map_at t qs) f) refl refl
+    where
+      by : (o p : Option Term) → image (map_at t ps) f ≡ o → image (map_at t qs) f ≡ p → image (map_at t ps) f ≡ image (map_at t qs) f
+      by (Some u) p a b = (let g = key-found t ps pairs f u a in at-number f g.0 g.1 g.2)
+      by None (Some v) a b = (let g = key-found t qs others f v b in at-number f g.0 g.1 g.2)
+      by None None a b = a ∙ sym b

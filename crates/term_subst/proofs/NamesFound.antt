@@ -37,7 +37,7 @@ pub names-more : (t : Formulas) (fs : List SymId) (i : ℕ) (d : SymId) (ns more
 names-more t fs i d ns more m lt so added is n =
     let f = get_or fs i d in
     let last : names_of (named t (take (i + 1) fs)) ≡ names_of (named t (take i fs)) ++ (symbol_at t f).name ∷ [] =
-        ap (λ gs. names_of (named t gs)) (take_more fs i d lt) ∙ ap names_of (map-append (symbol_at t) (take i fs) (f ∷ [])) ∙ map-append (λ g. g.name) (named t (take i fs)) (symbol_at t f ∷ []) in
+    ap (λ gs. names_of (named t gs)) (take_more fs i d lt) ∙ ap names_of (map-append (symbol_at t) (take i fs) (f ∷ [])) ∙ map-append (λ g. g.name) (named t (take i fs)) (symbol_at t f ∷ []) in
     ap (λ ms. name_among ms n) added ∙ with_name-among ns m n
     ∙ (λ j. so n j || name_eq (is j) n)
     ∙ ap (λ b. name_among (names_of (named t (take i fs))) n || b) (sym (or-nothing (name_eq (symbol_at t f).name n)))

@@ -225,7 +225,7 @@ module _ (t : Formulas) (p : Op) (u : Term) (term : u ≡ term_over t p (operand
   makes-binder fine has =
       let found = binder-kind (kind p) refl in
       let rank : rank_over t p (trees_at t ks) ≡ Ok bool =
-          ap (λ l. kind_rank t.symbols t.sorts l (trees_at t ks)) found.1 ∙ ap (λ us. rank_quantifier us (sorts_in us)) operands_are ∙ ranked ys v fine has in
+      ap (λ l. kind_rank t.symbols t.sorts l (trees_at t ks)) found.1 ∙ ap (λ us. rank_quantifier us (sorts_in us)) operands_are ∙ ranked ys v fine has in
       makes_ranked t p ks bool nodes (subst (λ l. IsKindOf t.symbols t.sorts l) (sym found.1) tt) (binder-other p found.0 found.1) (sym rank)
 
   pub made-binder : term_over t p (trees_at t ks) ≡ requantified u ys v

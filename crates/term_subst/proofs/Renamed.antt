@@ -162,8 +162,8 @@ pub renames-all : (old new : Formulas) (cut : Pairs) (ks ys : List NodeId) (n : 
 renames-all old new cut ks ys n after s left le some =
     let count : length (variables_at old ks) ≡ length ks = length-map (trees_at old ks) variable_of ∙ length-map ks (tree_in old.trees) in
     let whole : renamed_under (map_at old cut) (variables_at old ks) s ≡ record { variables = variables_at new ys; map = some.so_far; names = left } =
-        some.whole ∙ ap (λ xs. bound_all (variables_at new ys) (renaming (names_in (map_at old cut)) xs some.so_far left)) (drop_of_length-le (variables_at old ks) (omega (arith, count)))
-        ∙ bound_all-parts (variables_at new ys) some.so_far left in
+    some.whole ∙ ap (λ xs. bound_all (variables_at new ys) (renaming (names_in (map_at old cut)) xs some.so_far left)) (drop_of_length-le (variables_at old ks) (omega (arith, count)))
+    ∙ bound_all-parts (variables_at new ys) some.so_far left in
     record {
       variables = some.variables;
       renamed = ap (λ r. r.variables) (sym whole);

@@ -3,9 +3,9 @@ use Rattle.std.proofs.Common.{Vec, ◌≡◌, ℕ, suc, ◌+◌, ◌-◌, ◌<�
 use Rattle.std.specs.Prelude.{option_map}
 use Rattle.std.proofs.lemmas.Bool.Decides.{Decides-eqb}
 use Rattle.std.proofs.Math.ListN.{get_or-append}
-use Rattle.std.proofs.Math.Seq.{take-append_seam, drop-append_seam}
-use Rattle.std.proofs.lemmas.List.{map-append, length-map, take-map, drop-map}
-use Rattle.std.proofs.lemmas.List.Elements.{All-cons, All-head, All-tail, All-append, All-take, All-push}
+use Rattle.std.proofs.Math.Seq.{get_or-append_seam, take-append_seam, drop-append_seam, take-length}
+use Rattle.std.proofs.lemmas.List.{map-append, length-map, length-drop, take-map, drop-map}
+use Rattle.std.proofs.lemmas.List.Elements.{All-cons, All-head, All-tail, All-take, All-drop, All-push}
 use Rattle.smt_terms.specs.declared.ids.NodeId.{NodeId}
 use Rattle.smt_terms.specs.declared.ids.SymId.{SymId}
 use Rattle.smt_terms.specs.Sorts.{Name, Sort, bool, Symbol, Variable}
@@ -33,13 +33,14 @@ use Rattle.term_subst.specs.declared.todo.Frame.{Frame}
 use Rattle.term_subst.specs.declared.todo.Frame.TheVariants.{Visit, Build, Close}
 use Rattle.term_subst.specs.ByNode.{found_in}
 use Rattle.term_subst.specs.Done.{done, dones, KeepSorts}
-use Rattle.term_subst.specs.Keys.{chosen_in}
+use Rattle.term_subst.specs.Keys.{is_key, chosen_in}
 use Rattle.term_subst.specs.Maps.{Pairs, map_at}
 use Rattle.term_subst.specs.Renaming.{renamed_under, Renames}
 use Rattle.term_subst.specs.State.{Gains, SameImages, variables_at, AreVariables, chosen_at, opening_at, step_at, steps_at, IsKept, IsLevel, IsChosen, Spares, IsOpened, IsFrame, AreFrames, AreFindings, Going}
 use Rattle.term_subst.specs.Steps.{Opening, Step, visit, build, close, operands_of, body_of, bound_in, built, requantified, result_of, with_result, End, Leads, load}
 use Rattle.term_subst.specs.Substituting.{IsPair, IsMap, IsLater}
 use Rattle.term_subst.proofs.DoneLaws.{StaysChosen, both-some, done-stays, stays-new, chosen-first}
+use Rattle.term_subst.proofs.Gaining.{later-both}
 use Rattle.term_subst.proofs.Growing.{tree-grows, node-grows, going-grows, map-grows, is_map-grows, trees-grow, variables-grow, are_variables-grow}
 use Rattle.term_subst.proofs.KeysAt.{chosen-alike}
 use Rattle.term_subst.proofs.MapsAt.{have-sorts}
@@ -71,6 +72,18 @@ module _ (t : Formulas) (names first : Supply) (es : List (Key × NodeId)) (l : 
       leads =
           subst (λ us. Leads (map_at t l.map) (steps_at t fs) us (record { names = names; chosen = chosen_at t es }) end) (sym (values-push t vs r))
           (leads-known (map_at t l.map) (tree t k) (tree t r) (steps_at t fs) (trees_at t vs) (record { names = names; chosen = chosen_at t es }) end known going.leads);
+    }
+
+    pub found-going : (new : Findings) → AreFindings t new → Going t names first es l (Visit k ∷ fs) vs new end
+    found-going new findings = record {
+      chosen = going.chosen;
+      sorts = going.sorts;
+      level = going.level;
+      frames = going.frames;
+      values = going.values;
+      findings = findings;
+      later = going.later;
+      leads = going.leads;
     }
 
     pub kept-going : (r : NodeId) → found_in l.kept k ≡ Some r → Going t names first es l fs (vs ++ r ∷ []) f end
@@ -156,8 +169,8 @@ pub level-stays : (t : Formulas) (old new : List Chosen) → StaysChosen old new
 level-stays t old new stays l level = record {
   map = level.map;
   kept = λ k r found.
-  (let kept = level.kept k r found in
-  record { node = kept.node; image = kept.image; known = done-stays (map_at t l.map) old new stays (tree t k) (tree t r) kept.known });
+      (let kept = level.kept k r found in
+      record { node = kept.node; image = kept.image; known = done-stays (map_at t l.map) old new stays (tree t k) (tree t r) kept.known });
 }
 
 pub frames-stay : (t : Formulas) (old new : List Chosen) → StaysChosen old new → (s : Supply) (fs : List Frame) → AreFrames t old s fs → AreFrames t new s fs
@@ -176,6 +189,29 @@ frames-stay t old new stays s (f ∷ fs) frames = (one f frames.0, frames-stay t
       bindable = frame.bindable;
       outer = level-stays t old new stays o.outer frame.outer;
     }
+
+-- a level that keeps one result more
+pub put-going : (t : Formulas) (names first : Supply) (es : List (Key × NodeId)) (l new : Level) (fs : List Frame) (vs : List NodeId) (f : Findings) (end : End) (k r : NodeId)
+    → IsKept t (map_at t l.map) (chosen_at t es) k r → new.map ≡ l.map → ((n : NodeId) → found_in new.kept n ≡ (if n.0 == k.0 then Some r else found_in l.kept n))
+    → Going t names first es l fs vs f end → Going t names first es new fs vs f end
+put-going t names first es l new fs vs f end k r kept same put going = record {
+  chosen = going.chosen;
+  sorts = going.sorts;
+  level = level-put t (chosen_at t es) l new k r going.level kept same put;
+  frames = going.frames;
+  values = going.values;
+  findings = going.findings;
+  later = going.later;
+  leads = subst (λ ps. Leads (map_at t ps) (steps_at t fs) (trees_at t vs) (record { names = names; chosen = chosen_at t es }) end) (sym same) going.leads;
+}
+
+pub chosen-node : (t : Formulas) (es : List (Key × NodeId)) → All (IsChosen t) es → (k : NodeId) (ps : Pairs) (r : NodeId) → chosen_in es k ps ≡ Some r → IsNode t r
+chosen-node t [] all k ps r found = absurd cc
+chosen-node t (e ∷ es) all k ps r found = by (is_key e.0 k ps) found (chosen-node t es (All-tail (IsChosen t) e es all) k ps r)
+  where
+    by : (b : Bool) → (if b then Some e.1 else chosen_in es k ps) ≡ Some r → (chosen_in es k ps ≡ Some r → IsNode t r) → IsNode t r
+    by true h rest = (let same : e.1 ≡ r = cc in subst (IsNode t) same (All-head (IsChosen t) e es all).image)
+    by false h rest = rest h
 
 -- ---- a quantified node
 
@@ -267,6 +303,37 @@ module _ (t : Formulas) (names first : Supply) (es : List (Key × NodeId)) (l : 
               (subst (λ us. Leads (map_at t l.map) (steps_at t fs) us (record { names = names; chosen = chosen_at t es }) end) (sym values) going.leads.4);
         }
 
+-- the last values, as a slice of them
+pub last-slice : (vs ds : List NodeId) (start : ℕ) → ds ≡ vs → take (length ds - start) (drop start ds) ≡ drop start vs
+last-slice vs ds start same =
+    ap (λ js. take (length js - start) (drop start js)) same
+    ∙ ap (λ n. take n (drop start vs)) (sym (length-drop start vs)) ∙ take-length (drop start vs)
+
+module _ (old t : Formulas) (grows : GrowsTo old t) (names first : Supply) (es : List (Key × NodeId)) (l : Level) (fs : List Frame) (vs : List NodeId) (f : Findings) (end : End) (k : NodeId)
+    (going : Going old names first es l (Build k ∷ fs) vs f end) (kids : List NodeId) (start : ℕ) (from : start ≡ length vs - length (operands (tree old k))) (last : kids ≡ drop start vs)
+    (r : NodeId) (node : IsNode t r) (term : tree t r ≡ built (map_at old l.map) (tree old k) (terms (trees_at old kids)))
+    (new : Level) (same : new.map ≡ l.map) (put : (n : NodeId) → found_in new.kept n ≡ (if n.0 == k.0 then Some r else found_in l.kept n)) where
+  grown : Going t names first es l (Build k ∷ fs) vs f end
+  grown = going-grows old t grows names first es l (Build k ∷ fs) vs f end going
+
+  node-same : tree t k ≡ tree old k
+  node-same = tree-grows old t grows k going.frames.0.0
+
+  from-now : start ≡ length vs - length (operands (tree t k))
+  from-now = from ∙ ap (λ u. length vs - length (operands u)) (sym node-same)
+
+  kids-same : trees_at old kids ≡ trees_at t (drop (length vs - length (operands (tree t k))) vs)
+  kids-same =
+      ap (trees_at old) (last ∙ ap (λ n. drop n vs) from-now)
+      ∙ sym (trees-grow old t grows (drop (length vs - length (operands (tree t k))) vs) (All-drop (IsNode old) (length vs - length (operands (tree t k))) vs going.values))
+
+  pub build-after : Going t names first es new fs (take start vs ++ r ∷ []) f end
+  build-after =
+      let m = sym (map-grows old t grows l.map going.level.map) in
+      let u = sym node-same in
+      let now = term ∙ (λ i. built (m i) (u i) (terms (kids-same i))) in
+      subst (λ n. Going t names first es new fs (take n vs ++ r ∷ []) f end) (sym from-now) (build-going t names first es l fs vs f end k grown r node now new same put)
+
 -- ---- a quantifier over its body's result
 
 requantified-sort : (u : Term) (ys : List Variable) (b : Term) → is_quantified u ≡ true → (r : Sort) → sort_of u ≡ Some r → sort_of b ≡ sort_of (body_of u) → are_bindable ys ≡ true → sort_of (requantified u ys b) ≡ sort_of u
@@ -312,6 +379,13 @@ module _ (t : Formulas) (table : IsTable t) (names first : Supply) (es : List (K
   close-sort =
       ap sort_of close-values.1
       ∙ done-sort (map_at t l.map) (chosen_at t es) (have-sorts t l.map going.level.map) going.sorts (body_of (tree t o.key.node)) going.leads.1 going.leads.3
+
+  pub close-unknown : chosen_in es o.key.node o.key.cut.items ≡ None
+  close-unknown = by (chosen_in es o.key.node o.key.cut.items) (sym (chosen-alike t table es going.chosen o.key.node going.frames.0.node o.key.cut.items going.frames.0.cut) ∙ going.leads.4)
+    where
+      by : (r : Option NodeId) → option_map (tree t) r ≡ None → r ≡ None
+      by None e = refl
+      by (Some r) e = absurd cc
 
   -- where the node r is made of it
   module _ (r : NodeId) (node : IsNode t r) (term : tree t r ≡ requantified (tree t o.key.node) (variables_at t o.variables.items) (tree t b))
@@ -380,13 +454,14 @@ body-spared : (s : Supply) (u : Term) → Spares s u → Spares s (body_of u)
 body-spared s (apply h ts) spare = spare
 body-spared s (quantified p xs b) spare = gives-second s (map (λ x. x.name) xs) (names_within b) spare
 
+pub load-binder : (u : Term) (o : Opening) (steps : List Step) → is_quantified u ≡ true → load (visit (body_of u) ∷ close o ∷ steps) < load (visit u ∷ steps)
+load-binder (apply h ts) o steps q = absurd cc
+load-binder (quantified p xs b) o steps q = load-open p xs b o steps
+
 pub spares-later : (s t : Supply) (u : Term) → IsLater s t → Spares s u → Spares t u
 spares-later s t u later spare n among i le same =
     let number = later.number in
     subst (λ ns. name_among ns n ≡ true) (sym later.taken) (spare n among i (omega arith) same)
-
-pub later-both : (r s t : Supply) → IsLater r s → IsLater s t → IsLater r t
-later-both r s t a b = record { taken = b.taken ∙ a.taken; number = (let x = a.number in let y = b.number in omega arith) }
 
 module _ (old t : Formulas) (grows : GrowsTo old t) (table : IsTable t) (names left first : Supply) (es : List (Key × NodeId)) (fs : List Frame) (vs : List NodeId) (before f : Findings) (end : End)
     (o : Opened) (b : NodeId) (after : Pairs) (ks : List NodeId) (going : Going old names first es o.outer (Visit o.key.node ∷ fs) vs before end)
@@ -455,7 +530,7 @@ module _ (old t : Formulas) (grows : GrowsTo old t) (table : IsTable t) (names l
   open-leads =
       let made = binder-leads (map_at t o.outer.map) (map_at t after) (tree t o.key.node) (steps_at t fs) (trees_at t vs) (record { names = names; chosen = chosen_at t es }) end binder-now open-unknown open-images now.leads in
       let opening : record { term = tree t o.key.node; cut = cut_to (free (tree t o.key.node)) (map_at t o.outer.map); renamed = wanted.variables; outer = map_at t o.outer.map } ≡ opening_at t o =
-          (λ i. record { term = tree t o.key.node; cut = sym fits-now i; renamed = sym variables-same i; outer = map_at t o.outer.map }) in
+      (λ i. record { term = tree t o.key.node; cut = sym fits-now i; renamed = sym variables-same i; outer = map_at t o.outer.map }) in
       let drawn : wanted.names ≡ left = sym (renames.names ∙ ap (λ r. r.names) renamed-same) in
       subst (λ s. Leads (map_at t after) (visit (tree t b) ∷ close (opening_at t o) ∷ steps_at t fs) (trees_at t vs) (record { names = s; chosen = chosen_at t es }) end) drawn
       (subst (λ p. Leads (map_at t after) (visit (tree t b) ∷ close p ∷ steps_at t fs) (trees_at t vs) (record { names = wanted.names; chosen = chosen_at t es }) end) opening
@@ -476,3 +551,45 @@ module _ (old t : Formulas) (grows : GrowsTo old t) (table : IsTable t) (names l
       later = later-both first names left now.later later;
       leads = subst (λ ps. Leads (map_at t ps) (visit (tree t b) ∷ close (opening_at t o) ∷ steps_at t fs) (trees_at t vs) (record { names = left; chosen = chosen_at t es }) end) (sym map_is) open-leads;
     }
+
+-- ---- a quantifier that is made anew, over a table that gained its node
+
+module _ (old t : Formulas) (grows : GrowsTo old t) (table : IsTable t) (names first : Supply) (es : List (Key × NodeId)) (l : Level) (fs : List Frame) (vs rest : List NodeId) (b : NodeId) (f : Findings) (end : End)
+    (o : Opened) (last : vs ≡ rest ++ b ∷ []) (going : Going old names first es l (Close o ∷ fs) vs f end) where
+  closing : Going old names first es l (Close o ∷ fs) (rest ++ b ∷ []) f end
+  closing = subst (λ us. Going old names first es l (Close o ∷ fs) us f end) last going
+
+  closing-now : Going t names first es l (Close o ∷ fs) (rest ++ b ∷ []) f end
+  closing-now = going-grows old t grows names first es l (Close o ∷ fs) (rest ++ b ∷ []) f end closing
+
+  pub close-none : chosen_in es o.key.node o.key.cut.items ≡ None
+  close-none = close-unknown t table names first es l fs rest b f end o closing-now
+
+  last-node : IsNode old b
+  last-node =
+      subst (IsNode old) (get_or-append_seam rest b [] b)
+      (closing.values (length rest) b (let many = length-append rest (b ∷ []) in omega (arith, many)))
+
+  -- the result has the node r
+  module _ (r : NodeId) (node : IsNode t r) (term : tree t r ≡ requantified (tree old o.key.node) (variables_at old o.variables.items) (tree old b))
+      (more : List (Key × NodeId)) (added : more ≡ (o.key, r) ∷ es) (new : Level) (same : new.map ≡ o.outer.map) (put : (n : NodeId) → found_in new.kept n ≡ (if n.0 == o.key.node.0 then Some r else found_in o.outer.kept n))
+      (us : List NodeId) (pushed : us ≡ rest ++ r ∷ []) where
+    pub close-after : Going t names first more new fs us f end
+    close-after =
+        let whole = sym (tree-grows old t grows o.key.node closing.frames.0.node) in
+        let vars = sym (variables-grow old t grows o.variables.items closing.frames.0.variables.nodes) in
+        let inner = sym (tree-grows old t grows b last-node) in
+        let now = term ∙ (λ i. requantified (whole i) (vars i) (inner i)) in
+        subst (λ ds. Going t names first ds new fs us f end) (sym added)
+        (subst (λ ws. Going t names first ((o.key, r) ∷ es) new fs ws f end) (sym pushed) (close-going t table names first es l fs rest b f end o closing-now r node now new same put))
+
+-- the body's result is a truth value
+pub close-truth : (t : Formulas) (table : IsTable t) (names first : Supply) (es : List (Key × NodeId)) (l : Level) (fs : List Frame) (vs rest : List NodeId) (b : NodeId) (f : Findings) (end : End) (o : Opened)
+    → vs ≡ rest ++ b ∷ [] → Going t names first es l (Close o ∷ fs) vs f end → sort_of (tree t b) ≡ Some bool
+close-truth t table names first es l fs vs rest b f end o last going =
+    let now = subst (λ us. Going t names first es l (Close o ∷ fs) us f end) last going in
+    close-sort t table names first es l fs rest b f end o now ∙ truth (tree t o.key.node) now.frames.0.binder (table.sorted o.key.node.0 now.frames.0.node)
+  where
+    truth : (u : Term) → is_quantified u ≡ true → IsWellSorted u → sort_of (body_of u) ≡ Some bool
+    truth (apply h ts) q sorted = absurd cc
+    truth (quantified p xs c) q sorted = (let has = has-sort (quantified p xs c) sorted in (quantified_sort p xs c has.0 has.1).body)

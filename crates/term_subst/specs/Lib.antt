@@ -5,6 +5,7 @@ pub mod Keys
 pub mod Maps
 pub mod Names
 pub mod Renaming
+pub mod Running
 pub mod State
 pub mod Steps
 pub mod Substituting

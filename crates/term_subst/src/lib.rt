@@ -8,6 +8,7 @@ mod chosen;
 mod cut;
 mod findings;
 pub mod fresh;
+mod machine;
 pub mod maps;
 pub mod names;
 mod nodes;

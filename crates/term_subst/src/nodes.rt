@@ -17,6 +17,13 @@ use smt_values::Op;
 use std::alloc::{AllocError, Global};
 use term_table::Table;
 
+// What holds of every table.
+pub(crate) fn know_table(table: &Table)
+    ensures { IsTable table.now }
+{
+    let _ = table.len();
+}
+
 #[tactic(auto, unfolding(term_table::specs::Formulas::kind))]
 pub(crate) fn is_binder(table: &Table, node: NodeId) -> bool
     requires { IsNode table.now node }
@@ -50,6 +57,7 @@ pub(crate) fn split(table: &Table, node: NodeId) -> (&[NodeId], NodeId)
     ensures bound { variables_at table.now result.0.now ≡ bound_in (tree table.now node) }
     ensures node { IsNode table.now result.1 }
     ensures body { tree table.now result.1 ≡ body_of (tree table.now node) }
+    ensures table { IsTable table.now }
 {
     let kids = table.kids(node);
     let last = kids.len() - 1;

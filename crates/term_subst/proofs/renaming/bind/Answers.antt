@@ -37,9 +37,9 @@ pub returns-clause-bound : goal.returns-clause-bound
 returns-clause-bound c =
     let old = c.args.table.now in
     let gains =
-        gains-both old c.next.new.table c.intern.new.self c.args.fresh.now c.next.new.self c.next.new.self
-        (gains-draw old c.next.new.table c.args.fresh.now c.next.new.self (sort_at old.sorts c.sort_of-sort.result) c.in_ok-drawn.ensures.added c.in_ok-drawn.ensures.trees c.in_ok-drawn.ensures.sorts c.in_ok-drawn.ensures.left)
-        (gains-nodes c.next.new.table c.intern.new.self c.next.new.self c.in_ok-renamed.ensures.grows.grows c.in_ok-renamed.ensures.symbols c.in_ok-renamed.ensures.sorts) in
+    gains-both old c.next.new.table c.intern.new.self c.args.fresh.now c.next.new.self c.next.new.self
+    (gains-draw old c.next.new.table c.args.fresh.now c.next.new.self (sort_at old.sorts c.sort_of-sort.result) c.in_ok-drawn.ensures.added c.in_ok-drawn.ensures.trees c.in_ok-drawn.ensures.sorts c.in_ok-drawn.ensures.left)
+    (gains-nodes c.next.new.table c.intern.new.self c.next.new.self c.in_ok-renamed.ensures.grows.grows c.in_ok-renamed.ensures.symbols c.in_ok-renamed.ensures.sorts) in
     binds-fresh old c.next.new.table c.args.given (sort_at old.sorts c.sort_of-sort.result) (variable_of (tree old c.args.given)) c.symbol_of-symbol.result c.in_ok-drawn.drawn c.args.fresh.now c.requires.variable c.sort_of-sort.ensures.sort c.symbol_of-symbol.ensures.symbol
     c.in_ok-drawn.ensures.symbol c.in_ok-drawn.ensures.within
     c.intern.new.self gains.grows c.len.ensures.table c.in_ok-renamed.renamed c.in_ok-renamed.ensures.node c.in_ok-renamed.ensures.term c.symbol_of-symbol.ensures.within c.args.map.now c.set.new.self c.requires.map c.in_ok-set.ensures.set c.next.new.self c.in_ok-drawn.ensures.left
