@@ -1,11 +1,11 @@
 -- A step that is done leaves a substitution on its way.
-use Rattle.std.proofs.Common.{Vec, ◌≡◌, ℕ, suc, ◌+◌, ◌-◌, ◌<◌, ◌≤◌, ◌==◌, ◌&&◌, Bool, true, false, cond, if◌then◌else◌, List, [], ◌∷◌, ◌++◌, map, length, take, drop, All, Option, Some, None, is_some, refl, ap, sym, subst, ◌∙◌, arith, length-append}
+use Rattle.std.proofs.Common.{Vec, ◌≡◌, ℕ, suc, ◌+◌, ◌-◌, ◌<◌, ◌≤◌, ◌==◌, ◌&&◌, Bool, true, false, cond, if◌then◌else◌, List, [], ◌∷◌, ◌++◌, map, length, get_or, take, drop, All, Option, Some, None, is_some, refl, ap, sym, subst, ◌∙◌, arith, length-append}
 use Rattle.std.specs.Prelude.{option_map}
 use Rattle.std.proofs.lemmas.Bool.Decides.{Decides-eqb}
 use Rattle.std.proofs.Math.ListN.{get_or-append}
 use Rattle.std.proofs.Math.Seq.{get_or-append_seam, take-append_seam, drop-append_seam, take-length}
 use Rattle.std.proofs.lemmas.List.{map-append, length-map, length-drop, take-map, drop-map}
-use Rattle.std.proofs.lemmas.List.Elements.{All-cons, All-head, All-tail, All-take, All-drop, All-push}
+use Rattle.std.proofs.lemmas.List.Elements.{All-nil, All-cons, All-head, All-tail, All-take, All-drop, All-push}
 use Rattle.smt_terms.specs.declared.ids.NodeId.{NodeId}
 use Rattle.smt_terms.specs.declared.ids.SymId.{SymId}
 use Rattle.smt_terms.specs.Sorts.{Name, Sort, bool, Symbol, Variable}
@@ -13,7 +13,7 @@ use Rattle.smt_terms.specs.Term.{Quantifier, Head, Term, apply, quantified, Term
 use Rattle.smt_terms.specs.Free.{free, without, name_among, names_of, head_symbols}
 use Rattle.smt_terms.specs.Fresh.{Supply}
 use Rattle.smt_terms.specs.Rank.{sort_of, sort_bound, sorts_of, are_bindable, is_regular, IsWellSorted}
-use Rattle.smt_terms.specs.Subst.{Map, image, cut_to, names_in, Renamed, renaming, Chosen, Choices, chosen_for, map_eq, rebuilt}
+use Rattle.smt_terms.specs.Subst.{Map, image, cut_to, names_in, Renamed, renaming, Chosen, Choices, chosen_for, map_eq, rebuilt, subst_from, subst as subst_by}
 use Rattle.smt_terms.specs.Equal.{term_eq}
 use Rattle.smt_terms.specs.SubstLaws.{HaveSorts, GivesNone, names_within, names_within_each}
 use Rattle.smt_terms.proofs.Cuts.{name_among-append}
@@ -36,15 +36,16 @@ use Rattle.term_subst.specs.Done.{done, dones, KeepSorts}
 use Rattle.term_subst.specs.Keys.{is_key, chosen_in}
 use Rattle.term_subst.specs.Maps.{Pairs, map_at}
 use Rattle.term_subst.specs.Renaming.{renamed_under, Renames}
+use Rattle.term_subst.specs.Running.{end_of}
 use Rattle.term_subst.specs.State.{Gains, SameImages, variables_at, AreVariables, chosen_at, opening_at, step_at, steps_at, IsKept, IsLevel, IsChosen, Spares, IsOpened, IsFrame, AreFrames, AreFindings, Going}
 use Rattle.term_subst.specs.Steps.{Opening, Step, visit, build, close, operands_of, body_of, bound_in, built, requantified, result_of, with_result, End, Leads, load}
 use Rattle.term_subst.specs.Substituting.{IsPair, IsMap, IsLater}
-use Rattle.term_subst.proofs.DoneLaws.{StaysChosen, both-some, done-stays, stays-new, chosen-first}
-use Rattle.term_subst.proofs.Gaining.{later-both}
-use Rattle.term_subst.proofs.Growing.{tree-grows, node-grows, going-grows, map-grows, is_map-grows, trees-grow, variables-grow, are_variables-grow}
+use Rattle.term_subst.proofs.DoneLaws.{StaysChosen, both-some, done-stays, done-after, stays-new, chosen-first}
+use Rattle.term_subst.proofs.Gaining.{later-both, later-same}
+use Rattle.term_subst.proofs.Growing.{tree-grows, node-grows, going-grows, map-grows, is_map-grows, trees-grow, steps-grow, variables-grow, are_variables-grow}
 use Rattle.term_subst.proofs.KeysAt.{chosen-alike}
 use Rattle.term_subst.proofs.MapsAt.{have-sorts}
-use Rattle.term_subst.proofs.NodesMade.{terms-list, has-sort}
+use Rattle.term_subst.proofs.NodesMade.{terms-list, has-sort, one-term}
 use Rattle.term_subst.proofs.SortsKept.{done-sort, dones-sorts}
 use Rattle.term_subst.proofs.Turns.{append-nothing, leads-known, leads-apply, leads-open, load-apply, load-open, load-some}
 
@@ -593,3 +594,61 @@ close-truth t table names first es l fs vs rest b f end o last going =
     truth : (u : Term) → is_quantified u ≡ true → IsWellSorted u → sort_of (body_of u) ≡ Some bool
     truth (apply h ts) q sorted = absurd cc
     truth (quantified p xs c) q sorted = (let has = has-sort (quantified p xs c) sorted in (quantified_sort p xs c has.0 has.1).body)
+
+-- ---- what is left once a node is made
+
+module _ (old t : Formulas) (grows : GrowsTo old t) (names first : Supply) (es : List (Key × NodeId)) (l : Level) (frame : Frame) (fs : List Frame) (vs : List NodeId) (f : Findings) (end : End)
+    (going : Going old names first es l (frame ∷ fs) vs f end) (left : List Frame) (same : left ≡ fs) where
+  rest-same : steps_at t left ≡ steps_at old fs
+  rest-same = ap (steps_at t) same ∙ steps-grow old t grows (chosen_at old es) first fs going.frames.1
+
+  pub built-nearer : (k : NodeId) → frame ≡ Build k → load (steps_at t left) < load (steps_at old (frame ∷ fs))
+  built-nearer k is =
+      let less : load (steps_at old fs) < 1 + load (steps_at old fs) = omega arith in
+      subst (λ g. load (steps_at t left) < load (step_at old g ∷ steps_at old fs)) (sym is) (subst (λ ss. load ss < 1 + load (steps_at old fs)) (sym rest-same) less)
+
+  pub closed-nearer : (o : Opened) → frame ≡ Close o → load (steps_at t left) < load (steps_at old (frame ∷ fs))
+  closed-nearer o is =
+      let less : load (steps_at old fs) < 1 + load (steps_at old fs) = omega arith in
+      subst (λ g. load (steps_at t left) < load (step_at old g ∷ steps_at old fs)) (sym is) (subst (λ ss. load ss < 1 + load (steps_at old fs)) (sym rest-same) less)
+
+-- ---- from the start to the end
+
+pub starting : (t : Formulas) (s : Supply) (root : NodeId) (ps : Pairs) (l : Level) (f : Findings) (es : List (Key × NodeId)) (fs : List Frame) (vs : List NodeId)
+    → IsNode t root → IsMap t ps → Spares s (tree t root) → l.map ≡ ps → l.kept ≡ [] → es ≡ [] → fs ≡ Visit root ∷ [] → vs ≡ [] → AreFindings t f → Going t s s es l fs vs f (end_of t ps root s)
+starting t s root ps l f es fs vs node pairs spare map_is none_kept none_chosen one_frame no_values findings =
+    subst (λ ds. Going t s s ds l fs vs f (end_of t ps root s)) (sym none_chosen)
+    (subst (λ gs. Going t s s [] l gs vs f (end_of t ps root s)) (sym one_frame)
+    (subst (λ us. Going t s s [] l (Visit root ∷ []) us f (end_of t ps root s)) (sym no_values) (record {
+      chosen = All-nil (IsChosen t);
+      sorts = λ m u r found. absurd cc;
+      level = record { map = subst (IsMap t) (sym map_is) pairs; kept = λ k r found. (let none : found_in l.kept k ≡ None = ap (λ (qs : List (NodeId × NodeId)). found_in qs k) none_kept in absurd cc) };
+      frames = ((node, spare), tt);
+      values = All-nil (IsNode t);
+      findings = findings;
+      later = later-same s;
+      leads =
+          subst (λ qs. Leads (map_at t qs) (visit (tree t root) ∷ []) [] (record { names = s; chosen = [] }) (end_of t ps root s)) (sym map_is) (refl, refl);
+    })))
+
+module _ (old t : Formulas) (s names : Supply) (root : NodeId) (ps : Pairs) (pairs : IsMap old ps) (l : Level) (f : Findings) (es : List (Key × NodeId)) (fs : List Frame) (vs : List NodeId)
+    (done_all : fs ≡ []) (going : Going t names s es l fs vs f (end_of old ps root s)) where
+  last-leads : (trees_at t vs ≡ (subst_from (map_at old ps) (tree old root) (record { names = s; chosen = [] })).0 ∷ [])
+      × (record { names = names; chosen = chosen_at t es } ≡ (subst_from (map_at old ps) (tree old root) (record { names = s; chosen = [] })).1)
+  last-leads = subst (λ gs. Leads (map_at t l.map) (steps_at t gs) (trees_at t vs) (record { names = names; chosen = chosen_at t es }) (end_of old ps root s)) done_all going.leads
+
+  pub end-some : 0 < length vs
+  end-some = (one-term t vs (subst_from (map_at old ps) (tree old root) (record { names = s; chosen = [] })).0 last-leads.0).0
+
+  pub end-term : (d : NodeId) → tree t (get_or vs 0 d) ≡ (subst_by (map_at old ps) (tree old root) s).0
+  end-term = (one-term t vs (subst_from (map_at old ps) (tree old root) (record { names = s; chosen = [] })).0 last-leads.0).1
+
+  pub end-left : names ≡ (subst_by (map_at old ps) (tree old root) s).1
+  end-left = ap (λ r. r.names) last-leads.1
+
+  pub end-sort : (d : NodeId) → sort_of (tree t (get_or vs 0 d)) ≡ sort_of (tree old root)
+  end-sort d =
+      let start : Choices = record { names = s; chosen = [] } in
+      let r = subst_from (map_at old ps) (tree old root) start in
+      let keeps = subst (λ c. KeepSorts c.chosen) last-leads.1 going.sorts in
+      ap sort_of (end-term d) ∙ done-sort (map_at old ps) r.1.chosen (have-sorts old ps pairs) keeps (tree old root) r.0 (done-after (map_at old ps) (tree old root) start)

@@ -215,4 +215,52 @@ impl Machine {
         self.chosen.put(key, result)?;
         Ok(())
     }
+
+    // Does a step that was taken off.
+    fn turn(&mut self, table: &mut Table, frame: Frame, fresh: &mut Fresh) -> Result<(), AllocError>
+        requires going { (first : Supply) × (end : End) × Runs table.old fresh.old first self.old (frame ∷ self.old.todo) end }
+        ensures going { (first : Supply) (end : End) → Runs table.old fresh.old first self.old (frame ∷ self.old.todo) end → OnOk result (Runs table.new fresh.new first self.new self.new.todo end) }
+        ensures nearer { OnOk result (load (steps_at table.new self.new.todo) < load (steps_at table.old (frame ∷ self.old.todo))) }
+        ensures gains { Gains table.old table.new fresh.old fresh.new }
+    {
+        match frame {
+            Frame::Visit(node) => {
+                self.visit(table, node, fresh)?;
+                Ok(())
+            }
+            Frame::Build(node) => {
+                self.build(table, node)?;
+                Ok(())
+            }
+            Frame::Close(opened) => {
+                self.close(table, opened)?;
+                Ok(())
+            }
+        }
+    }
+}
+
+// The result of a node under a map, as `subst` has it.
+pub(crate) fn run(
+    alloc: Global,
+    table: &mut Table,
+    map: SymMap,
+    root: NodeId,
+    fresh: &mut Fresh,
+) -> Result<NodeId, AllocError>
+    requires root { IsNode table.old root }
+    requires map { IsMap table.old map }
+    requires names { Spares fresh.old (tree table.old root) }
+    ensures node { IfOk result (λ k. IsNode table.new k) }
+    ensures term { IfOk result (λ k. tree table.new k ≡ (subst (map_at table.old map) (tree table.old root) fresh.old).0) }
+    ensures left { OnOk result (fresh.new ≡ (subst (map_at table.old map) (tree table.old root) fresh.old).1) }
+    ensures sort { IfOk result (λ k. sort_of (tree table.new k) ≡ sort_of (tree table.old root)) }
+    ensures gains { Gains table.old table.new fresh.old fresh.new }
+{
+    let mut machine = Machine::new(alloc, map);
+    machine.todo.push(Frame::Visit(root))?;
+    while let Some(frame) = machine.todo.pop() {
+        machine.turn(table, frame, fresh)?;
+    }
+    Ok(machine.values[0])
 }
