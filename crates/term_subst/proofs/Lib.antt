@@ -12,6 +12,7 @@ pub mod NamesHeld
 pub mod NodesFound
 pub mod NodesMade
 pub mod Numbered
+pub mod Paired
 pub mod Renamed
 pub mod SortsKept
 pub mod Turning

@@ -1,6 +1,6 @@
 //! Maps from symbols to terms, and what is made of them.
 
-ghost use Rattle.std.specs.Prelude.{◌≡◌, ◌<◌, ◌++◌, ◌∷◌, [], length, Some, slice_get, OnOk, OnErr};
+ghost use Rattle.std.specs.Prelude.{◌≡◌, ◌<◌, ◌++◌, ◌∷◌, [], length, Some, slice_get, IfOk, OnOk, OnErr};
 ghost use Rattle.term_subst.specs.Maps.{image_in, with_image};
 
 use indexmap::IndexMap;
@@ -42,6 +42,15 @@ impl SymMap {
     {
         self.images.insert(from, to)?;
         Ok(())
+    }
+
+    // A second map with the same images.
+    pub(crate) fn copy(&self) -> Result<SymMap, AllocError>
+        ensures { IfOk result (λ m. m ≡ self.now) }
+    {
+        Ok(SymMap {
+            images: self.images.clone()?,
+        })
     }
 
     /// The image of a symbol.

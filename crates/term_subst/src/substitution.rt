@@ -10,10 +10,13 @@ ghost use Rattle.term_walk.specs.Walking.{GrowsTo};
 ghost use Rattle.term_subst.specs.Maps.{map_at};
 ghost use Rattle.term_subst.specs.Substituting.{IsMap, IsLater, NeverGivesGained};
 
+use crate::cut::as_map;
+use crate::machine::run;
+use crate::nodes::know_table;
 use crate::{Definition, Fresh, SymMap};
-use smt_terms::NodeId;
+use smt_terms::{NodeId, SymId};
 use std::alloc::{AllocError, Global};
-use term_table::Table;
+use term_table::{Syms, Table};
 
 /// Replaces free constants of a node by terms of their sorts, all at once and without capture (SMT-LIB 2.6, section 5.3):
 /// a bound name that is free in the image of a symbol that is free below its quantifier becomes a fresh one. One
@@ -41,7 +44,9 @@ pub fn substitute(
     ensures grows { GrowsTo table.old table.new }
     ensures sorts { table.new.sorts ≡ table.old.sorts }
 {
-    Err(AllocError)
+    let copy = map.copy()?;
+    let result = run(alloc, table, copy, root, fresh)?;
+    Ok(result)
 }
 
 /// The body of a definition with arguments for its parameters, by substitution. The parameters are symbols without
@@ -68,5 +73,25 @@ pub fn expand(
     ensures grows { GrowsTo table.old table.new }
     ensures sorts { table.new.sorts ≡ table.old.sorts }
 {
-    Err(AllocError)
+    let pairs = paired(alloc, &definition.params, arguments)?;
+    let map = as_map(alloc, &pairs)?;
+    know_table(table);
+    let result = run(alloc, table, map, definition.body, fresh)?;
+    Ok(result)
+}
+
+// Parameters with their arguments.
+fn paired(
+    alloc: Global,
+    params: &Syms,
+    arguments: &[NodeId],
+) -> Result<Vec<(SymId, NodeId)>, AllocError>
+    requires { length arguments.now ≡ length params.now }
+    ensures { IfOk result (λ ps. ps.items ≡ zip params.now arguments.now) }
+{
+    let mut pairs = Vec::with_capacity(alloc, arguments.len())?;
+    for (i, argument) in arguments.iter().enumerate() {
+        pairs.push((params.get(i), *argument))?;
+    }
+    Ok(pairs)
 }
