@@ -1,0 +1,11 @@
+pub mod ByNode
+pub mod Counters
+pub mod Done
+pub mod Keys
+pub mod Maps
+pub mod Names
+pub mod Renaming
+pub mod Running
+pub mod State
+pub mod Steps
+pub mod Substituting

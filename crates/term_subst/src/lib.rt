@@ -1,0 +1,25 @@
+//! Substitution of terms for constants, without capture, over the nodes of a table; and the fresh names that it draws,
+//! which stand nowhere yet.
+
+#![tactic(auto)]
+
+mod by_node;
+mod chosen;
+mod cut;
+mod findings;
+pub mod fresh;
+mod machine;
+pub mod maps;
+pub mod names;
+mod nodes;
+mod renaming;
+pub mod substitution;
+mod todo;
+
+pub use fresh::Fresh;
+pub use maps::{Definition, Group, SymMap, SymPairs};
+pub use names::NameSet;
+pub use substitution::{expand, substitute};
+
+#[cfg(test)]
+mod tests;
