@@ -1,52 +1,107 @@
-// A formula that shares its subterms.
+//! Each line of the tables of negation normal form and and-inverter form, and formulas that are far larger as trees than
+//! as nodes. Expected forms were worked out by hand.
 
-ghost use Rattle.std.specs.Prelude.{◌≡◌, ◌<◌, IfOk};
-ghost use Rattle.normal_forms.specs.Nodes.{IsFormula};
+mod terms;
 
-use crate::making::{both, either, negation, truth};
-use crate::negation_normal_form::nnf;
-use smt_terms::NodeId;
-use smt_values::Op;
-use std::alloc::{AllocError, Global};
-use std::marker::Brand;
-use std::sync::ledger::{Blank, Ledger};
 use std::test::Fail;
-use term_table::Table;
-use term_walk::Steps;
+use terms::{Tower, nodes_after};
 
-fn normal_form<L: Ledger>(
-    alloc: Global,
-    table: &mut Table,
-    id: NodeId,
-    blank: Blank,
-) -> Result<NodeId, AllocError>
-    requires formula { IsFormula table.old id }
-    requires name { blank.name ≡ L.name }
-    requires parts { blank.parts ≡ L.parts }
-    requires some { 0 < L.parts }
-    ensures formula { IfOk result (IsFormula table.new) }
-{
-    let mut steps: Steps<L> = Steps::new(blank);
-    let id = nnf(alloc, table, id, &mut steps)?;
-    Ok(id)
+/// No terms to begin with.
+const NONE: Tower<'static> = Tower {
+    start: b"",
+    turn: b"",
+    turns: 0,
+};
+
+#[test]
+fn lines_of_negation_normal_form(rt: HostRuntime) -> Result<(), Fail> {
+    let lines = b"
+N T T               N ~T F
+N F F               N ~F T
+N a a               N ~a ~a
+N =nm =nm           N ~=nm ~=nm
+N #3nmn #3nmn       N ~#3nmn ~#3nmn
+N ~~a a             N ~~~a ~a
+N &3a~~bc &3abc     N ~&3a~bc |3~ab~c
+N |3a~~bc |3abc     N ~|3a~bc &3~ab~c
+N >ab |~ab          N ~>ab &a~b
+N ^ab |&a~b&~ab     N ~^ab &|~ab|a~b
+N =ab &|~ab|a~b     N ~=ab |&a~b&~ab
+N ?abc &|~ab|ac     N ~?abc &|~a~b|a~c
+N #ab |&a~b&~ab     N ~#ab &|~ab|a~b
+N #3abc F           N ~#3abc T
+N Ap>ap Ap|~ap      N ~Ap>ap Ep&a~p
+N E3pq>pq E3pq|~pq  N ~E3pq>pq A3pq&p~q
+";
+    nodes_after(&rt, rt.alloc(), NONE, lines)?;
+    Ok(())
 }
 
 #[test]
-fn shares_what_is_shared(rt: HostRuntime) -> Result<(), Fail> {
-    let alloc = rt.alloc();
-    let mut table = Table::new(alloc);
-    let yes = truth(&mut table, true)?;
-    let no = truth(&mut table, false)?;
-    let mut formula = yes;
-    for _ in 0..100 {
-        let left = either(&mut table, formula, yes)?;
-        let right = either(&mut table, formula, no)?;
-        formula = both(&mut table, left, right)?;
-    }
-    let opposite = negation(&mut table, formula)?;
-    assert!(rt; table.len() < 310);
-    let normal = normal_form::<Brand>(alloc, &mut table, opposite, Blank::new(1))?;
-    assert!(rt; table.len() < 620);
-    assert!(rt; table.op(normal).is(Op::Or));
+fn lines_of_and_inverter_form(rt: HostRuntime) -> Result<(), Fail> {
+    let lines = b"
+G T T                       G F F
+G a a                       G ~=nm ~=nm
+G ~a ~a                     G ~~a a
+G &3a~~bc &3abc             G ~&ab ~&ab
+G |3~abT ~&3a~b~T           G ~|ab &~a~b
+G >ab ~&a~b                 G >a~b ~&ab
+G =ab &~&a~b~&~ab           G ~=ab ~&~&a~b~&~ab
+G ^ab ~&~&a~b~&~ab          G ~^ab &~&a~b~&~ab
+G ?abc &~&a~b~&~a~c         G ?~ab~c &~&~a~b~&ac
+G #ab ~&~&a~b~&~ab          G #3abc F
+G Ap|ap Ap~&~a~p            G ~E3pq~~p ~E3pqp
+";
+    nodes_after(&rt, rt.alloc(), NONE, lines)?;
+    Ok(())
+}
+
+#[test]
+fn pairs_under_negation_normal_form(rt: HostRuntime) -> Result<(), Fail> {
+    let pairs = Tower {
+        start: b"x ~x",
+        turn: b"&|Xa|Xb |&Y~a&Y~b",
+        turns: 100,
+    };
+    assert!(rt; nodes_after(&rt, rt.alloc(), pairs, b"NXX N~XY")? == 607);
+    Ok(())
+}
+
+#[test]
+fn pairs_under_and_inverter_form(rt: HostRuntime) -> Result<(), Fail> {
+    let pairs = Tower {
+        start: b"x x",
+        turn: b"&|Xa|Xb &~&~Y~a~&~Y~b",
+        turns: 100,
+    };
+    assert!(rt; nodes_after(&rt, rt.alloc(), pairs, b"GXY G~X~Y")? == 907);
+    Ok(())
+}
+
+#[test]
+fn a_chain_of_exclusive_or(rt: HostRuntime) -> Result<(), Fail> {
+    let normal = Tower {
+        start: b"x x ~x",
+        turn: b"^Xa |&Y~a&Za &|Za|Y~a",
+        turns: 1000,
+    };
+    assert!(rt; nodes_after(&rt, rt.alloc(), normal, b"NXY N~XZ")? == 7005);
+    let inverted = Tower {
+        start: b"x x ~x",
+        turn: b"^Xa ~&~&Y~a~&Za &~&Y~a~&Za",
+        turns: 1000,
+    };
+    assert!(rt; nodes_after(&rt, rt.alloc(), inverted, b"GXY G~XZ")? == 7005);
+    Ok(())
+}
+
+#[test]
+fn a_million_nested_negations(rt: HostRuntime) -> Result<(), Fail> {
+    let negations = Tower {
+        start: b"a",
+        turn: b"~X",
+        turns: 1_000_000,
+    };
+    assert!(rt; nodes_after(&rt, rt.alloc(), negations, b"NXa N~X~a GXa G~X~a")? == 1_000_002);
     Ok(())
 }
