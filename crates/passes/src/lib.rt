@@ -3,6 +3,8 @@
 
 #![tactic(auto)]
 
+mod list;
 mod names;
 
+pub use list::{Passes, parse_list};
 pub use names::{ListFault, Pass};
