@@ -1,1 +1,4 @@
 mod Rows
+pub mod ClapRows
+pub mod ClapWalk
+pub mod ClapWords

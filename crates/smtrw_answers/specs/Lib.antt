@@ -1,4 +1,5 @@
 pub mod Words
+pub mod Asking
 pub mod Answers
 pub mod Outputs
 pub mod Carrying
