@@ -79,10 +79,10 @@ pub record Next (g : Given) (from : Walk) (w : Word) : Type 0 where
 
 -- ---- what the definition makes of a word
 
-ok_same : (a b : Given) → ◌≡◌ {A = Result Given Usage} (Ok a) (Ok b) → a ≡ b
+pub ok_same : (a b : Given) → ◌≡◌ {A = Result Given Usage} (Ok a) (Ok b) → a ≡ b
 ok_same a b e = cc
 
-else_taken : {A E : Type 0} (b : Bool) (fault : E) (r : Result A E) (a : A) → cond b (Err fault) r ≡ Ok a → (b ≡ false) × (r ≡ Ok a)
+pub else_taken : {A E : Type 0} (b : Bool) (fault : E) (r : Result A E) (a : A) → cond b (Err fault) r ≡ Ok a → (b ≡ false) × (r ≡ Ok a)
 else_taken true fault r a e = absurd cc
 else_taken false fault r a e = (refl, e)
 
@@ -322,7 +322,7 @@ next_at i w g h rows p (Some of_check) awaits stands e = absurd stands
 next_along : (i : ℕ) (w : Word) (g h : Given) (walk : Walk) → Along g walk → word_behind can_run rewriting i w g g.awaited ≡ Ok h → Next h walk w
 next_along i w g h walk a e = subst (λ x. Next h x w) (sym a.stand) (next_at i w g h a.rows a.pending g.awaited refl a.holds e)
 
-and_then_ok : {A B : Type 0} (next : A → Result B Usage) (r : Result A Usage) (b : B) → and_then next r ≡ Ok b → (a : A) × (r ≡ Ok a) × (next a ≡ Ok b)
+pub and_then_ok : {A B : Type 0} (next : A → Result B Usage) (r : Result A Usage) (b : B) → and_then next r ≡ Ok b → (a : A) × (r ≡ Ok a) × (next a ≡ Ok b)
 and_then_ok next (Ok a) b e = (a, refl, e)
 and_then_ok next (Err fault) b e = absurd cc
 

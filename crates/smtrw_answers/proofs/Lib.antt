@@ -2,3 +2,4 @@ mod Rows
 pub mod ClapRows
 pub mod ClapWalk
 pub mod ClapWords
+pub mod ClapMatches
