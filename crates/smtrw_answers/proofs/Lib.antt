@@ -3,3 +3,4 @@ pub mod ClapRows
 pub mod ClapWalk
 pub mod ClapWords
 pub mod ClapMatches
+pub mod GrammarWords

@@ -1,8 +1,9 @@
-//! What the program `smtrw` answers, as definitions: which words it takes, what it writes at each end, and the sentence that
-//! its rewriting keeps. The code is only the types of its answers.
+//! What the program `smtrw` answers: which words it takes and what they ask for, how it ends, and what it says on its error
+//! stream; and, as definitions, what it writes at each end, and the sentence that its rewriting keeps.
 
 #![tactic(auto)]
 
+mod grammar;
 mod status;
 
 pub use status::{Refusal, Status, Usage, Why};
