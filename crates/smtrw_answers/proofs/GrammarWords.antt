@@ -7,7 +7,7 @@ use Rattle.passes.specs.Lists.{can_run}
 use Rattle.smtrw_answers.specs.declared.status.Usage.{Usage}
 use Rattle.smtrw_answers.specs.declared.grammar.Seen.{Seen}
 use Rattle.smtrw_answers.specs.declared.grammar.Plan.{Plan}
-use Rattle.smtrw_answers.specs.Words.{Word, Command, Given, nothing_given, word_behind, words_from, and_then, at_end, asked_of, asked, command_if, command_named, stands}
+use Rattle.smtrw_answers.specs.Words.{Word, Command, Given, nothing_given, word_behind, words_from, and_then, at_end, asked_of, Asked, asked, command_if, command_named, stands}
 use Rattle.smtrw_answers.specs.Asking.{Agrees, EndFits, StepFits, most_words, one_if}
 
 -- the first k words were accepted
@@ -79,3 +79,7 @@ pub placed_word : {S : Type 0} (text : S → Word) (xs : List S) (k : ℕ) (x : 
 placed_word text xs k x w lt at is =
     let count = length-map xs text in
     (omega (arith, count), is ∙ ap text at ∙ sym (get_or-map text xs k x (text x) lt) ∙ ap (get_or (map text xs) k) (sym is))
+
+pub fault_of : (u : Usage) (r : Result Asked Usage) → EndFits (Err u) r → r ≡ Err u
+fault_of u (Ok a) e = absurd e
+fault_of u (Err v) e = ap Err (sym e)

@@ -3,4 +3,5 @@ pub mod ClapRows
 pub mod ClapWalk
 pub mod ClapWords
 pub mod ClapMatches
+pub mod ClapCalls
 pub mod GrammarWords

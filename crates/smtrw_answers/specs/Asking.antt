@@ -1,6 +1,8 @@
 -- What the program's code makes of its words.
-use Rattle.std.specs.Prelude.{◌≡◌, ℕ, ◌+◌, ◌*◌, ◌≤◌, Bool, true, false, Result, Ok, Err, Option, Some, None, is_some, option_map, List, [], ◌∷◌}
+use Rattle.std.specs.Prelude.{◌≡◌, ℕ, ◌+◌, ◌*◌, ◌≤◌, Bool, true, false, Result, Ok, Err, Option, Some, None, is_some, option_map, List, [], ◌∷◌, codes}
 use Rattle.std.specs.Borrow.{Bor}
+use Rattle.clap.specs.Matches.{first_value}
+use Rattle.clap.specs.declared.parser.matches.Found.{Found}
 use Rattle.smt_print.specs.declared.layout.Layout.{Layout}
 use Rattle.smt_print.specs.declared.layout.Layout.TheVariants.{Tree}
 use Rattle.passes.specs.declared.names.Pass.{Pass}
@@ -89,3 +91,24 @@ passes_in (Some text) = pass_list text
 abbrev pub layout_in : Option Word → Option Layout
 layout_in None = Some Tree
 layout_in (Some name) = layout_named name
+
+-- ---- what `clap` finds in words without a fault
+
+abbrev pub IsRewriting : Result Asked Usage → Type 0
+IsRewriting (Ok (rewrite ps l f)) = Unit {0}
+IsRewriting _ = ⊥
+
+abbrev pub IsCounting : Result Asked Usage → Type 0
+IsCounting (Ok (stats f)) = Unit {0}
+IsCounting _ = ⊥
+
+abbrev pub GivesRewriting : Result Asked Usage → Found → Type 0
+GivesRewriting (Ok (rewrite ps l f)) found =
+    (passes_in (first_value found (codes "passes")) ≡ Ok ps)
+    × (layout_in (first_value found (codes "layout")) ≡ Some l)
+    × (first_value found (codes "file") ≡ Some f.word)
+GivesRewriting _ found = ⊥
+
+abbrev pub GivesCounting : Result Asked Usage → Found → Type 0
+GivesCounting (Ok (stats f)) found = first_value found (codes "file") ≡ Some f.word
+GivesCounting _ found = ⊥

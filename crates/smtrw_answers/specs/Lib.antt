@@ -1,5 +1,6 @@
 pub mod Words
 pub mod Asking
+pub mod Asked
 pub mod Answers
 pub mod Outputs
 pub mod Carrying

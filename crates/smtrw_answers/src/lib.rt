@@ -4,6 +4,9 @@
 #![tactic(auto)]
 
 mod grammar;
+mod matches;
 mod status;
+mod words;
 
 pub use status::{Refusal, Status, Usage, Why};
+pub use words::{Asked, File, WordsFault, parse_words};
