@@ -5,3 +5,5 @@ pub mod ClapWords
 pub mod ClapMatches
 pub mod ClapCalls
 pub mod GrammarWords
+pub mod Numerals
+pub mod ErrorLines

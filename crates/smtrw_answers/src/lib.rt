@@ -4,9 +4,11 @@
 #![tactic(auto)]
 
 mod grammar;
+mod lines;
 mod matches;
 mod status;
 mod words;
 
+pub use lines::complain;
 pub use status::{Refusal, Status, Usage, Why};
 pub use words::{Asked, File, WordsFault, parse_words};
