@@ -8,3 +8,6 @@ mod names;
 
 pub use list::{Passes, parse_list};
 pub use names::{ListFault, Pass};
+
+#[cfg(test)]
+mod tests;

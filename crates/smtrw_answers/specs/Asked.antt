@@ -1,5 +1,5 @@
 -- What the program's code answers to its words.
-use Rattle.std.specs.Prelude.{◌≡◌, Result, Ok, Err}
+use Rattle.std.specs.Prelude.{◌≡◌, Result, Ok, Err, IsOk}
 use Rattle.smtrw_answers.specs.declared.status.Usage.{Usage as UsageFault}
 use Rattle.smtrw_answers.specs.declared.words.File.{File}
 use Rattle.smtrw_answers.specs.declared.words.Asked.{Asked}
@@ -17,8 +17,8 @@ abbrev pub asked_seen : Asked → AskedFor
 asked_seen (Rewrite ps l f) = rewrite ps l (numbered f)
 asked_seen (Stats f) = stats (numbered f)
 
--- exactly what is asked for, or exactly the first fault; want of memory tells nothing
+-- exactly what is asked for, or exactly the first fault; memory may be wanting only where there is no fault
 abbrev pub Answers : Result AskedFor UsageFault → Result Asked WordsFault → Type 0
 Answers r (Ok a) = r ≡ Ok (asked_seen a)
 Answers r (Err (Usage u)) = r ≡ Err u
-Answers r (Err Memory) = Unit {0}
+Answers r (Err Memory) = IsOk r

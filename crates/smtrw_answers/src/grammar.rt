@@ -1,6 +1,6 @@
 //! The grammar of the program's words: their first fault, met from the left, or what they name.
 
-ghost use Rattle.std.specs.Prelude.{◌≡◌, ◌+◌, ◌≤◌, ◌<◌, ◌^◌, false, None, map, option_map, string_bytes, is_some};
+ghost use Rattle.std.specs.Prelude.{◌≡◌, false, None, map, option_map, string_bytes};
 ghost use Rattle.passes.specs.Lists.{can_run};
 ghost use Rattle.smtrw_answers.specs.Words.{asked, at_end as end_of, command_if, command_named, is_dashed, layout_named, option_word, plain_word, setting_among, settings_of, stands, value_word, with_value, word_behind, Given as WordsGiven};
 ghost use Rattle.smtrw_answers.specs.Asking.{Agrees, EndFits, StepFits, command_of, has_setting, option_seen, setting_of};
@@ -10,7 +10,7 @@ use passes::{ListFault, parse_list};
 use smt_print::Layout;
 
 /// A command that the program has.
-#[derive(Clone, Copy, Debug, PartialEq, Eq)]
+#[derive(Clone, Copy)]
 pub(crate) enum Name {
     Rewrite,
     Stats,
@@ -34,6 +34,17 @@ struct Seen {
     file: Option<u32>,
     /// The option whose value is the next word.
     awaited: Option<Setting>,
+}
+
+impl Seen {
+    fn has(&self, setting: Setting) -> bool
+        ensures { result ≡ has_setting setting self.now }
+    {
+        match setting {
+            Setting::Passes => self.passes,
+            Setting::Layout => self.layout,
+        }
+    }
 }
 
 /// What words without a fault name: the command, and the number of the word that names its file.
@@ -169,17 +180,6 @@ fn option_met(command: Name, seen: Seen, number: u32, word: &str) -> Result<Seen
             ..seen
         }),
         Some((setting, Some(value))) => value_given(setting, seen, number, value),
-    }
-}
-
-impl Seen {
-    fn has(&self, setting: Setting) -> bool
-        ensures { result ≡ has_setting setting self.now }
-    {
-        match setting {
-            Setting::Passes => self.passes,
-            Setting::Layout => self.layout,
-        }
     }
 }
 

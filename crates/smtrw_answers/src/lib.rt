@@ -12,3 +12,6 @@ mod words;
 pub use lines::complain;
 pub use status::{Refusal, Status, Usage, Why};
 pub use words::{Asked, File, WordsFault, parse_words};
+
+#[cfg(test)]
+mod tests;

@@ -30,10 +30,7 @@ pub(crate) fn rewrite_matches<'a>(
 }
 
 /// The values of the words of `stats`.
-pub(crate) fn stats_matches<'a>(
-    alloc: Global,
-    words: &'a [String],
-) -> Result<ArgMatches<'a>, Error>
+pub(crate) fn stats_matches<'a>(alloc: Global, words: &'a [String]) -> Result<ArgMatches<'a>, Error>
     requires { IsCounting (asked (map string_bytes words.now)) }
     ensures values { IfOk result (λ m. GivesCounting (asked (map string_bytes words.entry.now)) (found_of m)) }
     ensures memory { IfErr result (λ e. kind_of e ≡ ErrorKind.OutOfMemory) }

@@ -35,7 +35,9 @@ pub enum Asked<'a> {
         file: File<'a>,
     },
     /// `stats`: the numbers of a script.
-    Stats { file: File<'a> },
+    Stats {
+        file: File<'a>,
+    },
 }
 
 /// Why the words ask for nothing.
