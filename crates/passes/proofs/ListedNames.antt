@@ -1,5 +1,5 @@
 -- A list of names, taken one after the other.
-use Rattle.std.proofs.Common.{◌≡◌, ℕ, suc, ◌+◌, ◌<◌, ◌≤◌, ◌&&◌, Bool, true, false, cond, eqb, nat_lt, List, [], ◌∷◌, ◌++◌, map, drop, length, get_or, Option, Some, None, Result, Ok, Err, refl, sym, ap, ◌∙◌, arith, add-one, append-nil, append_assoc, true≢false}
+use Rattle.std.proofs.Common.{◌≡◌, ℕ, suc, ◌+◌, ◌<◌, ◌≤◌, ◌&&◌, Bool, true, false, cond, eqb, nat_lt, List, [], ◌∷◌, ◌++◌, map, drop, length, get_or, Option, Some, None, Ok, Err, refl, sym, ap, ◌∙◌, arith, add-one, append-nil, append_assoc, true≢false}
 use Rattle.std.specs.Str.{bytes_eq}
 use Rattle.std.specs.List.{list_all, slice_split, onto_first as first_onto}
 use Rattle.std.proofs.Math.Seq.{drop-cons}
@@ -9,7 +9,6 @@ use Rattle.smt_terms.specs.Sorts.{Name}
 use Rattle.passes.specs.Lists.{all_known, between_commas, can_run, groups_after_rules, in_order, listed, onto_first, pass_among, pass_named, passes_named, with_pass}
 use Rattle.passes.specs.declared.names.Pass.{Pass}
 use Rattle.passes.specs.declared.names.Pass.TheVariants.{Simplify, Nnf, Aig, Prenex, Reads, Shannon, SelfSub, Rules, Ite, Cnf, Ackermann}
-use Rattle.passes.specs.declared.names.ListFault.{ListFault}
 use Rattle.passes.specs.declared.names.ListFault.TheVariants.{BadPass, AfterRules}
 
 -- ---- what stands between commas, in the words of `split`

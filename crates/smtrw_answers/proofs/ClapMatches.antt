@@ -1,23 +1,21 @@
 -- The matches of `clap` on words that the definition accepts.
-use Rattle.std.proofs.Common.{◌≡◌, ◌≤◌, ℕ, zero, suc, ◌&&◌, ◌||◌, not, Bool, true, false, cond, nat_eq, nat_le, List, [], ◌∷◌, ◌++◌, length, drop, map, fold, ◌⊎◌, inl, inr, Option, Some, None, Result, Ok, Err, refl, sym, ap, ◌∙◌, subst, codes, arith}
+use Rattle.std.proofs.Common.{◌≡◌, ℕ, suc, ◌&&◌, Bool, true, false, cond, nat_le, List, [], ◌∷◌, length, Option, Some, None, Result, Ok, Err, refl, sym, ap, ◌∙◌, subst, codes}
 use Rattle.std.specs.Str.{bytes_eq}
-use Rattle.clap.specs.Walk.{Held, Row, Rule, Text, Waiting, Walk, idle, first_of, finished, settled_rows, walked, walk, with_default, nothing_held}
-use Rattle.clap.specs.Simple.{App, built, matches_of}
-use Rattle.clap.specs.Takes.{built_takes, level_passes, settle_passes, takes, walk_passes}
+use Rattle.clap.specs.Walk.{Row, Text, Walk, idle, first_of, finished, settled_rows, walk, nothing_held}
+use Rattle.clap.specs.Simple.{built, matches_of}
+use Rattle.clap.specs.Takes.{level_passes, settle_passes, takes, walk_passes}
 use Rattle.clap.proofs.TakesLemmas.{leaf_takes}
 use Rattle.smt_print.specs.declared.layout.Layout.{Layout}
 use Rattle.smt_print.specs.declared.layout.Layout.TheVariants.{Tree}
 use Rattle.passes.specs.declared.names.Pass.{Pass}
-use Rattle.passes.specs.declared.names.ListFault.{ListFault}
 use Rattle.passes.specs.Lists.{can_run}
 use Rattle.smtrw_answers.specs.declared.status.Usage.{Usage}
-use Rattle.smtrw_answers.specs.declared.status.Why.{Why}
-use Rattle.smtrw_answers.specs.declared.status.Why.TheVariants.{Missing, BadOption, BadValue, Extra, TwoInputs}
-use Rattle.smtrw_answers.specs.Words.{Word, Numbered, Command, rewriting, counting, Setting, is_dashed, Given, nothing_given, at, with_plain, file_word, passes_of, layout_of, plain_word, word_behind, words_from, Asked, rewrite, stats, asked_with, asked_or_missing, at_end, asked_of}
+use Rattle.smtrw_answers.specs.declared.status.Why.TheVariants.{BadOption, Extra, TwoInputs}
+use Rattle.smtrw_answers.specs.Words.{Word, Numbered, rewriting, counting, Setting, is_dashed, Given, nothing_given, at, with_plain, file_word, passes_of, layout_of, plain_word, word_behind, words_from, Asked, rewrite, stats, asked_with, asked_or_missing, at_end, asked_of}
 use Rattle.smtrw_answers.specs.Asking.{passes_in, layout_in}
 use Rattle.smtrw_answers.proofs.ClapRows.{rewrite_app, stats_app, first_of-none}
-use Rattle.smtrw_answers.proofs.ClapWalk.{IsPlainWord, plain_word_is, rules, rewrite_shape, stats_shape, held_at, walk_at, passes_used, layout_used, file_used, only_file_met, only_file_met_turn}
-use Rattle.smtrw_answers.proofs.ClapWords.{PassesIn, LayoutIn, FileIn, Holds, Along, Stands, waiting_of, AlongAll, along_all, nothing_along, and_then_ok, else_taken, ok_same}
+use Rattle.smtrw_answers.proofs.ClapWalk.{IsPlainWord, plain_word_is, rules, rewrite_shape, stats_shape, held_at, walk_at, only_file_met, only_file_met_turn}
+use Rattle.smtrw_answers.proofs.ClapWords.{PassesIn, LayoutIn, FileIn, Stands, waiting_of, along_all, nothing_along, and_then_ok, else_taken, ok_same}
 
 -- ---- without defaults
 

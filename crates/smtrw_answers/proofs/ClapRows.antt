@@ -1,12 +1,11 @@
 -- What `clap` keeps of the words: its commands, and the rows of arguments that are used once.
-use Rattle.std.proofs.Common.{◌≡◌, ℕ, suc, ◌||◌, Bool, true, false, cond, List, [], ◌∷◌, ◌++◌, length, Option, Some, None, refl, sym, ap, ◌∙◌, subst, codes}
+use Rattle.std.proofs.Common.{◌≡◌, ◌||◌, Bool, true, false, cond, List, [], ◌∷◌, ◌++◌, Some, None, refl, sym, ap, ◌∙◌, subst, codes}
 use Rattle.std.specs.Prelude.{slice_get, option_and_then, find}
-use Rattle.std.specs.List.{list_any}
 use Rattle.std.specs.Str.{bytes_eq}
-use Rattle.clap.specs.Walk.{Row, Rule, Text, Waiting, Walk, idle, at_row, more_values, without, with_values, used, has_row, first_of, reading_by, rows_after, settled_rows, walked}
+use Rattle.clap.specs.Walk.{Row, Rule, Text, at_row, more_values, without, with_values, has_row, first_of}
 use Rattle.clap.specs.declared.builder.value_parser.Reading.{Reading}
 use Rattle.clap.specs.declared.parser.matches.ValueSource.TheVariants.{CommandLine}
-use Rattle.clap.specs.Simple.{App, Shape, on_top, new_app, new_rule, with_rule, built, is_simple, names_of, matches_of}
+use Rattle.clap.specs.Simple.{App, on_top, new_app, new_rule, with_rule, is_simple}
 
 -- ---- the two commands
 

@@ -1,24 +1,22 @@
 -- The words that the definition accepts are taken by `clap`, and its matches are what they give.
-use Rattle.std.proofs.Common.{◌≡◌, ◌≤◌, ℕ, zero, suc, ◌&&◌, ◌||◌, not, Bool, true, false, cond, nat_eq, nat_le, List, [], ◌∷◌, ◌++◌, length, drop, map, fold, ◌⊎◌, inl, inr, Option, Some, None, Result, Ok, Err, refl, sym, ap, ◌∙◌, subst, codes, arith}
+use Rattle.std.proofs.Common.{◌≡◌, ◌≤◌, ℕ, suc, ◌&&◌, Bool, true, false, cond, nat_eq, nat_le, List, [], ◌∷◌, ◌++◌, length, drop, fold, ◌⊎◌, inl, inr, Option, Some, None, Result, Ok, Err, refl, sym, ap, ◌∙◌, subst, codes, arith}
 use Rattle.std.specs.List.{starts_with, list_any}
 use Rattle.std.specs.Str.{bytes_eq}
 use Rattle.std.specs.Option.{is_some}
 use Rattle.std.proofs.lemmas.Slice.Eq.{bytes_eq-Decides, starts_is}
 use Rattle.std.proofs.lemmas.Bool.Decides.{Decides-eqb, nat_tests}
 use Rattle.std.proofs.lemmas.List.{length-append}
-use Rattle.clap.specs.Walk.{Held, Row, Rule, Text, Waiting, Walk, idle, option, used, has_row, first_of, settled_rows, walked}
+use Rattle.clap.specs.Walk.{Row, Text, Waiting, Walk, idle, option, used, has_row, first_of, settled_rows, walked}
 use Rattle.clap.specs.Takes.{settle_passes, turn_passes, walk_passes}
 use Rattle.smt_print.specs.declared.layout.Layout.{Layout}
 use Rattle.passes.specs.declared.names.Pass.{Pass}
 use Rattle.passes.specs.declared.names.ListFault.{ListFault}
 use Rattle.passes.specs.declared.names.ListFault.TheVariants.{BadPass as UnknownPass, AfterRules as GroupsAfterRules}
-use Rattle.passes.specs.Lists.{pass_list, pass_list_of, can_run}
+use Rattle.passes.specs.Lists.{pass_list, can_run}
 use Rattle.smtrw_answers.specs.declared.status.Usage.{Usage}
-use Rattle.smtrw_answers.specs.declared.status.Why.{Why}
-use Rattle.smtrw_answers.specs.declared.status.Why.TheVariants.{Missing, BadOption, Repeated, BadValue, BadPass, AfterRules, Extra, TwoInputs}
-use Rattle.smtrw_answers.specs.Words.{Word, Numbered, Command, rewriting, counting, Setting, of_passes, of_layout, of_check, settings_of, setting_among, is_dashed, Given, nothing_given, is_given, at, layout_named, with_passes, with_layout, with_value, value_word, with_setting, option_word, with_plain, file_word, plain_word, word_behind, words_from, and_then}
+use Rattle.smtrw_answers.specs.Words.{Word, Numbered, rewriting, Setting, of_passes, of_layout, of_check, settings_of, setting_among, is_dashed, Given, nothing_given, is_given, layout_named, with_passes, with_layout, value_word, with_setting, option_word, with_plain, file_word, plain_word, word_behind, words_from, and_then}
 use Rattle.smtrw_answers.proofs.ClapRows.{RowAdded, row_added}
-use Rattle.smtrw_answers.proofs.ClapWalk.{IsPlainWord, plain_word_is, rules, rewrite_shape, stats_shape, held_at, walk_at, passes_used, layout_used, file_used, passes_attached, layout_attached, passes_begun, layout_begun, passes_attached_turn, layout_attached_turn, passes_begun_turn, layout_begun_turn, passes_value, layout_value, passes_value_turn, layout_value_turn, file_met, file_met_turn, only_file_met, only_file_met_turn}
+use Rattle.smtrw_answers.proofs.ClapWalk.{plain_word_is, rules, rewrite_shape, held_at, walk_at, passes_used, layout_used, file_used, passes_attached, layout_attached, passes_begun, layout_begun, passes_attached_turn, layout_attached_turn, passes_begun_turn, layout_begun_turn, passes_value, layout_value, passes_value_turn, layout_value_turn, file_met, file_met_turn}
 
 -- ---- what was given, in rows
 

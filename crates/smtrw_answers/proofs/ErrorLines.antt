@@ -1,7 +1,7 @@
 -- Lines on the error stream, sent whole or in parts.
-use Rattle.std.proofs.Common.{◌≡◌, ◌⊎◌, inl, inr, ℕ, List, [], ◌∷◌, ◌++◌, take, Option, Result, Ok, Err, OnOk, OnErr, refl, sym, ap, ◌∙◌, subst, append_assoc, codes}
+use Rattle.std.proofs.Common.{◌≡◌, ◌⊎◌, ℕ, List, [], ◌∷◌, ◌++◌, Option, Result, Ok, Err, OnOk, OnErr, refl, sym, ap, ◌∙◌, subst, append_assoc, codes}
 use Rattle.smt_io.specs.Told.{with_bytes}
-use Rattle.smt_io.proofs.Prefixes.{OnErr-from, SentPrefix, SentPrefix-front, SentPrefix-behind, SentPrefix-whole, sent_both}
+use Rattle.smt_io.proofs.Prefixes.{SentPrefix, SentPrefix-front, SentPrefix-behind, SentPrefix-whole, sent_both}
 use Rattle.smtrw_answers.specs.Answers.{program_line}
 use Rattle.smtrw_answers.specs.Said.{GotPrefix}
 

@@ -1,13 +1,10 @@
-use Rattle.std.proofs.Common.{◌≡◌, ◌<◌, ℕ, List, length, get_or, ◌∙◌, sym, ap, lit<, arith, eqb, Err, subst}
-use Rattle.std.specs.List.{slice_split}
-use Rattle.std.proofs.lemmas.Iterator.{YieldsList}
+use Rattle.std.proofs.Common.{◌<◌, length, ◌∙◌, ap, lit<, arith, Err}
 use Rattle.std.proofs.lemmas.Iterator.Splits.{YieldsList-from_str_split}
 use Rattle.std.proofs.lemmas.Iterator.Consumers.{YieldsList-turn, YieldsList-end}
 use Rattle.std.proofs.lemmas.List.{length_push}
 use Rattle.std.proofs.lemmas.Result.{err_from_is_err_and}
-use Rattle.smt_terms.specs.Sorts.{Name}
 use Rattle.passes.specs.Lists.{between_commas}
-use Rattle.passes.proofs.ListedNames.{Taken, turn_at, none_taken, one_taken, no_such_pass, too_many_names, all_taken_at}
+use Rattle.passes.proofs.ListedNames.{turn_at, none_taken, one_taken, no_such_pass, too_many_names, all_taken_at}
 use Rattle.passes.proofs.list.parse_list.Goals as goal
 
 pub loop-name-init : goal.loop-name-init

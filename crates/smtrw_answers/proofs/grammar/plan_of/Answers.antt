@@ -1,10 +1,10 @@
-use Rattle.std.proofs.Common.{◌≡◌, ◌+◌, ◌<◌, ℕ, List, ◌∷◌, map, length, string_bytes, Result, Ok, Err, refl, sym, ap, ◌∙◌, subst, arith}
+use Rattle.std.proofs.Common.{◌≡◌, List, map, length, string_bytes, Ok, Err, refl, ap, subst, arith}
 use Rattle.std.proofs.lemmas.List.{length-map}
 use Rattle.std.proofs.lemmas.Result.{err_from_is_err_and}
 use Rattle.passes.specs.Lists.{can_run}
-use Rattle.smtrw_answers.specs.Words.{Word, asked, at_end, word_behind}
+use Rattle.smtrw_answers.specs.Words.{Word, at_end, word_behind}
 use Rattle.smtrw_answers.specs.Asking.{EndFits, StepFits, command_of}
-use Rattle.smtrw_answers.proofs.GrammarWords.{Met, none_met, word_met_is, fault_is, all_met, asked_behind, placed_word}
+use Rattle.smtrw_answers.proofs.GrammarWords.{none_met, word_met_is, fault_is, all_met, asked_behind, placed_word}
 use Rattle.smtrw_answers.proofs.grammar.plan_of.Goals as goal
 
 pub loop-word-init : goal.loop-word-init

@@ -1,6 +1,5 @@
-use Rattle.std.proofs.Common.{◌∙◌, ◌++◌, List, map, ap, sym, codes, string_bytes}
-use Rattle.smtrw_answers.specs.Answers.{err_line, program_line}
-use Rattle.smtrw_answers.specs.declared.status.Status.{Status}
+use Rattle.std.proofs.Common.{◌∙◌, List, map, ap, sym, string_bytes}
+use Rattle.smtrw_answers.specs.Answers.{err_line}
 use Rattle.smtrw_answers.specs.Words.{Word}
 use Rattle.smtrw_answers.proofs.ErrorLines.{got_line, whole_line, unread_line}
 use Rattle.smtrw_answers.proofs.lines.complain.Goals as goal

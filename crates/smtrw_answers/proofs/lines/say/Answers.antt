@@ -1,4 +1,3 @@
-use Rattle.smt_io.specs.Told.{with_bytes}
 use Rattle.smtrw_answers.proofs.ErrorLines.{sent_prefix, got_line}
 use Rattle.smtrw_answers.proofs.lines.say.Goals as goal
 
