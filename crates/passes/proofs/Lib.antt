@@ -14,3 +14,4 @@ mod Walked
 mod WithinForms
 mod WithinPrenex
 mod WithinQuantifiers
+pub mod ListedNames

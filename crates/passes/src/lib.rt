@@ -4,7 +4,12 @@
 #![tactic(auto)]
 
 mod laws;
+mod list;
 mod names;
 
 pub use laws::{passes_carry_models, passes_keep_commands, passes_leave_models};
+pub use list::{Passes, parse_list};
 pub use names::{ListFault, Pass};
+
+#[cfg(test)]
+mod tests;

@@ -1,4 +1,7 @@
 pub mod Words
+pub mod Asking
+pub mod Asked
+pub mod Said
 pub mod Answers
 pub mod Outputs
 pub mod Carrying

@@ -1,6 +1,6 @@
 -- The words of the program: a command's name, and behind it its options and its file names or numbers, in any order. The
 -- words are read from the left, and the first fault counts.
-use Rattle.std.specs.Prelude.{ℕ, suc, Bool, false, not, ◌&&◌, nat_eq, nat_le, if◌then◌else◌, List, [], ◌∷◌, ◌++◌, length, drop, codes, bytes_eq, Result, Ok, Err, Option, Some, None, is_some}
+use Rattle.std.specs.Prelude.{ℕ, suc, Bool, true, false, not, ◌&&◌, nat_eq, nat_le, if◌then◌else◌, List, [], ◌∷◌, ◌++◌, length, drop, codes, bytes_eq, Result, Ok, Err, Option, Some, None, is_some}
 use Rattle.std.specs.List.{list_any, starts_with}
 use Rattle.std.specs.Str.Parse.{digits_value}
 use Rattle.smt_lex.specs.Lexicon.{is_numeral}

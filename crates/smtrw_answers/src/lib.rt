@@ -1,10 +1,19 @@
-//! What the program `smtrw` answers, as definitions: which words it takes, what it writes at each end, and the sentence that
-//! its rewriting keeps. The code is the types of its answers, and the law of that sentence.
+//! What the program `smtrw` answers: which words it takes and what they ask for, how it ends, and what it says on its error
+//! stream; and, as definitions, what it writes at each end, and the sentence that its rewriting keeps.
 
 #![tactic(auto)]
 
+mod grammar;
 mod laws;
+mod lines;
+mod matches;
 mod status;
+mod words;
 
 pub use laws::rewriting_keeps_its_promise;
+pub use lines::complain;
 pub use status::{Refusal, Status, Usage, Why};
+pub use words::{Asked, File, WordsFault, parse_words};
+
+#[cfg(test)]
+mod tests;
