@@ -1,5 +1,4 @@
 mod Assertions
-mod InForm
 mod Kept
 pub mod Literals
 mod ModelsCarried
@@ -7,7 +6,6 @@ mod ModelsStay
 mod Outlines
 mod ReadsInside
 mod Rows
-mod Rewritable
 mod Standing
 pub mod Truths
 mod Walked

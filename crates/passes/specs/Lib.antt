@@ -3,4 +3,3 @@ pub mod Passed
 pub mod Led
 pub mod Carry
 pub mod Laws
-pub mod Behind
