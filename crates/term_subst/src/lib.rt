@@ -13,6 +13,7 @@ pub mod maps;
 pub mod names;
 mod nodes;
 mod renaming;
+mod stack;
 pub mod substitution;
 mod todo;
 
