@@ -15,6 +15,7 @@ mod nodes;
 mod renaming;
 mod stack;
 pub mod substitution;
+mod survey;
 mod todo;
 
 pub use fresh::Fresh;
