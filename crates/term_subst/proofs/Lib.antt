@@ -15,7 +15,6 @@ pub mod Numbered
 pub mod Paired
 pub mod Renamed
 pub mod SortsKept
-pub mod SparedNodes
 pub mod Surveyed
 pub mod SymbolLists
 pub mod Turning

@@ -6,7 +6,6 @@ pub mod Maps
 pub mod Names
 pub mod Renaming
 pub mod Running
-pub mod Spared
 pub mod State
 pub mod Steps
 pub mod Substituting
