@@ -125,7 +125,7 @@ leads-operands : (m : Map) (u : Term) (steps : List Step) (vs : List Term) (s : 
 leads-operands m (apply h ts) steps vs s end q leads = leads-apply m h ts steps vs s end leads
 leads-operands m (quantified p xs b) steps vs s end q leads = absurd cc
 
-load-operands : (u : Term) (steps : List Step) → is_quantified u ≡ false → load (map visit (operands u) ++ build u ∷ steps) < load (visit u ∷ steps)
+pub load-operands : (u : Term) (steps : List Step) → is_quantified u ≡ false → load (map visit (operands u) ++ build u ∷ steps) < load (visit u ∷ steps)
 load-operands (apply h ts) steps q = load-apply h ts steps
 load-operands (quantified p xs b) steps q = absurd cc
 

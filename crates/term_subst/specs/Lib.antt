@@ -9,3 +9,4 @@ pub mod Running
 pub mod State
 pub mod Steps
 pub mod Substituting
+pub mod Surveying

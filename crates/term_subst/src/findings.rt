@@ -10,10 +10,10 @@ ghost use Rattle.term_subst.specs.State.{AreFindings};
 
 use crate::NameSet;
 use crate::by_node::ByNode;
+use crate::survey::list_free;
 use smt_terms::{NodeId, SymId};
 use std::alloc::{AllocError, Global};
 use term_table::Table;
-use term_walk::free_symbols;
 
 // The free symbols of some nodes, in order, and the names that are free in some.
 #[derive(Drop)]
@@ -44,7 +44,7 @@ impl Findings {
         if self.lists.get(node).is_some() {
             return Ok(());
         }
-        let symbols = free_symbols(self.alloc, table, node)?;
+        let symbols = list_free(self.alloc, table, &mut self.lists, node)?;
         self.lists.put(node, symbols)?;
         Ok(())
     }

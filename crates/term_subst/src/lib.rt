@@ -13,7 +13,9 @@ pub mod maps;
 pub mod names;
 mod nodes;
 mod renaming;
+mod stack;
 pub mod substitution;
+mod survey;
 mod todo;
 
 pub use fresh::Fresh;

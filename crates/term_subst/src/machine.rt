@@ -22,7 +22,8 @@ use crate::cut::{as_map, cut_down};
 use crate::findings::Findings;
 use crate::nodes::{is_binder, know_table, rebuild, requantify, split};
 use crate::renaming::rename;
-use crate::todo::{Frame, Level, Opened, Todo};
+use crate::stack::Stack;
+use crate::todo::{Frame, Level, Opened, push_visits};
 use crate::{Fresh, SymMap};
 use smt_terms::NodeId;
 use std::alloc::{AllocError, Global};
@@ -35,7 +36,7 @@ use term_table::Table;
 struct Machine {
     alloc: Global,
     level: Level,
-    todo: Todo,
+    todo: Stack<Frame>,
     values: Vec<NodeId>,
     chosen: Chosen,
     findings: Findings,
@@ -77,7 +78,7 @@ impl Machine {
                 map,
                 kept: ByNode::new(alloc),
             },
-            todo: Todo::new(alloc),
+            todo: Stack::new(alloc),
             values: Vec::new(alloc),
             chosen: Chosen::new(alloc),
             findings: Findings::new(alloc),
@@ -105,7 +106,7 @@ impl Machine {
             return Ok(());
         }
         self.todo.push(Frame::Build(node))?;
-        self.todo.push_visits(table.kids(node))?;
+        push_visits(&mut self.todo, table.kids(node))?;
         Ok(())
     }
 

@@ -1,14 +1,14 @@
 // What a substitution still has to do.
 
-ghost use Rattle.std.specs.Prelude.{◌≡◌, ◌∷◌, ◌++◌, [], map, MatchOption, OnOk};
+ghost use Rattle.std.specs.Prelude.{◌≡◌, ◌++◌, map, OnOk};
 ghost use Rattle.term_subst.specs.declared.todo.Frame.TheVariants.{Visit};
 
 use crate::SymMap;
 use crate::by_node::ByNode;
 use crate::chosen::Key;
+use crate::stack::Stack;
 use smt_terms::NodeId;
-use std::alloc::{AllocError, Global};
-use std::marker::Model;
+use std::alloc::AllocError;
 
 // A map, and the results of nodes under it.
 #[derive(Drop)]
@@ -36,52 +36,14 @@ pub(crate) enum Frame {
     Close(Opened),
 }
 
-// Steps, of which contracts see the last first, since it is the next to do.
-#[derive(Drop)]
-pub(crate) struct Todo {
-    frames: Vec<Frame>,
-}
-
-impl Model for Todo {
-    ghost use Rattle.std.specs.Prelude.{List, reverse};
-    ghost use Rattle.term_subst.specs.declared.todo.Frame.{Frame};
-
-    ghost Value = { List Frame };
-
-    ghost view = { λ t. reverse t.frames.items };
-}
-
-impl Todo {
-    pub(crate) fn new(alloc: Global) -> Todo
-        ensures { result ≡ [] }
-    {
-        Todo {
-            frames: Vec::new(alloc),
-        }
+// Puts visits of these nodes before the other steps, in their order.
+pub(crate) fn push_visits(todo: &mut Stack<Frame>, nodes: &[NodeId]) -> Result<(), AllocError>
+    ensures { OnOk result (todo.new ≡ map Visit nodes.now ++ todo.old) }
+{
+    let mut place = nodes.len();
+    while place > 0 {
+        place -= 1;
+        todo.push(Frame::Visit(nodes[place]))?;
     }
-
-    pub(crate) fn push(&mut self, frame: Frame) -> Result<(), AllocError>
-        ensures { OnOk result (self.new ≡ frame ∷ self.old) }
-    {
-        self.frames.push(frame)?;
-        Ok(())
-    }
-
-    // Puts visits of these nodes before the other steps, in their order.
-    pub(crate) fn push_visits(&mut self, nodes: &[NodeId]) -> Result<(), AllocError>
-        ensures { OnOk result (self.new ≡ map Visit nodes.now ++ self.old) }
-    {
-        let mut place = nodes.len();
-        while place > 0 {
-            place -= 1;
-            self.push(Frame::Visit(nodes[place]))?;
-        }
-        Ok(())
-    }
-
-    pub(crate) fn pop(&mut self) -> Option<Frame>
-        ensures { MatchOption result ((self.old ≡ []) × (self.new ≡ [])) (λ f. self.old ≡ f ∷ self.new) }
-    {
-        self.frames.pop()
-    }
+    Ok(())
 }
