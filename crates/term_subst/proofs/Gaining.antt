@@ -1,14 +1,13 @@
 -- What a table gains and what is drawn from a supply, one after the other.
-use Rattle.std.proofs.Common.{◌≡◌, ℕ, suc, ◌<◌, ◌≤◌, ◌+◌, ◌⊎◌, inl, inr, Bool, true, false, nat_lt, List, [], ◌∷◌, ◌++◌, length, get_or, refl, ap, sym, subst, ◌∙◌, arith, length-append}
+use Rattle.std.proofs.Common.{◌≡◌, ◌<◌, ◌+◌, inl, inr, Bool, true, false, nat_lt, List, [], ◌∷◌, length, get_or, refl, ap, sym, subst, ◌∙◌, arith, length-append}
 use Rattle.std.proofs.Math.ListN.{get_or-append}
 use Rattle.std.proofs.Math.Seq.{get_or-append_seam}
 use Rattle.std.proofs.lemmas.Bool.{ltb-true, ltb-false}
 use Rattle.smt_terms.specs.Sorts.{Name, Sort, Symbol}
 use Rattle.smt_terms.specs.Free.{name_among}
-use Rattle.smt_terms.specs.Fresh.{Supply, next_name, after_draw, fresh_constant, NeverGives}
+use Rattle.smt_terms.specs.Fresh.{Supply, after_draw, fresh_constant, NeverGives}
 use Rattle.smt_terms.proofs.Fresh.{never-drawn, next-later}
-use Rattle.term_table.specs.Formulas.{Formulas, no_symbol, Adds, Grows, GrowsByOne, IsUnchanged}
-use Rattle.term_walk.specs.Walking.{GrowsTo}
+use Rattle.term_table.specs.Formulas.{Formulas, no_symbol, Adds, Grows, IsUnchanged}
 use Rattle.term_subst.specs.State.{Gains}
 use Rattle.term_subst.specs.Substituting.{IsLater, NeverGivesGained}
 

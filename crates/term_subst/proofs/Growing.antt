@@ -1,15 +1,13 @@
 -- What holds of a substitution over a table holds as the table gains.
-use Rattle.std.proofs.Common.{Vec, ◌≡◌, ◌<◌, ◌≤◌, List, [], ◌∷◌, map, length, All, Some, refl, ap, sym, subst, ◌∙◌, arith}
-use Rattle.std.proofs.lemmas.List.Elements.{All-nil, All-cons, All-head, All-tail, All-weaker}
-use Rattle.std.specs.Global.{Global}
+use Rattle.std.proofs.Common.{◌≡◌, List, [], ◌∷◌, map, All, Some, refl, ap, sym, subst, ◌∙◌, arith}
+use Rattle.std.proofs.lemmas.List.Elements.{All-head, All-tail, All-weaker}
 use Rattle.smt_terms.specs.declared.ids.NodeId.{NodeId}
 use Rattle.smt_terms.specs.declared.ids.SymId.{SymId}
-use Rattle.smt_terms.specs.Sorts.{Name, Symbol, Variable}
 use Rattle.smt_terms.specs.Term.{Term, variable}
-use Rattle.smt_terms.specs.Free.{free, name_among, names_of}
+use Rattle.smt_terms.specs.Free.{free}
 use Rattle.smt_terms.specs.Fresh.{Supply}
 use Rattle.smt_terms.specs.Rank.{sort_of, are_bindable}
-use Rattle.smt_terms.specs.Subst.{Map, cut_to, Chosen}
+use Rattle.smt_terms.specs.Subst.{cut_to, Chosen}
 use Rattle.term_table.specs.Formulas.{Formulas, no_tree, no_symbol, tree, trees_at, symbol_at, variable_of, IsNode, AreNodes, IsSymbol}
 use Rattle.term_walk.specs.FreeLists.{named, is_quantified, AreFree}
 use Rattle.term_walk.specs.Walking.{GrowsTo}
@@ -20,10 +18,9 @@ use Rattle.term_subst.specs.declared.todo.Opened.{Opened}
 use Rattle.term_subst.specs.declared.todo.Frame.{Frame}
 use Rattle.term_subst.specs.declared.todo.Frame.TheVariants.{Visit, Build, Close}
 use Rattle.term_subst.specs.Done.{done, KeepSorts}
-use Rattle.term_subst.specs.ByNode.{found_in}
 use Rattle.term_subst.specs.Maps.{Pairs, map_at}
-use Rattle.term_subst.specs.State.{variables_at, AreVariables, chosen_at, opening_at, step_at, steps_at, IsKept, IsLevel, IsChosen, Spares, IsOpened, IsFrame, AreFrames, AreLists, AreNamesOf, AreNames, AreFindings, Going}
-use Rattle.term_subst.specs.Steps.{Opening, Step, visit, build, close, End, Leads}
+use Rattle.term_subst.specs.State.{variables_at, AreVariables, chosen_at, opening_at, step_at, steps_at, IsLevel, IsChosen, Spares, IsOpened, IsFrame, AreFrames, AreNamesOf, AreFindings, Going}
+use Rattle.term_subst.specs.Steps.{visit, build, close, End, Leads}
 use Rattle.term_subst.specs.Substituting.{IsPair, IsMap}
 
 module _ (old new : Formulas) (grows : GrowsTo old new) where

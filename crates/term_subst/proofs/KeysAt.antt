@@ -1,16 +1,15 @@
 -- Results of quantified nodes under cut maps, as terms and by numbers.
-use Rattle.std.proofs.Common.{◌≡◌, ℕ, ◌==◌, ◌&&◌, Bool, true, false, cond, if◌then◌else◌, List, [], ◌∷◌, ◌++◌, map, All, Option, Some, None, reverse, refl, ap, sym, subst, ◌∙◌}
+use Rattle.std.proofs.Common.{◌≡◌, ℕ, ◌==◌, ◌&&◌, Bool, true, false, cond, if◌then◌else◌, List, [], ◌∷◌, All, Option, Some, refl, ap, sym, ◌∙◌}
 use Rattle.std.specs.Prelude.{option_map}
 use Rattle.std.proofs.lemmas.Bool.Decides.{Decides-eqb}
 use Rattle.std.proofs.lemmas.List.Elements.{All-head, All-tail}
 use Rattle.smt_terms.specs.declared.ids.NodeId.{NodeId}
-use Rattle.smt_terms.specs.declared.ids.SymId.{SymId}
 use Rattle.smt_terms.specs.Term.{Term}
-use Rattle.smt_terms.specs.Equal.{symbol_eq, term_eq}
-use Rattle.smt_terms.specs.Subst.{Map, map_eq, Chosen, chosen_for}
-use Rattle.smt_terms.proofs.Equal.{Decides-symbol_eq, Decides-term_eq}
+use Rattle.smt_terms.specs.Equal.{term_eq}
+use Rattle.smt_terms.specs.Subst.{map_eq, chosen_for}
+use Rattle.smt_terms.proofs.Equal.{Decides-term_eq}
 use Rattle.smt_terms.proofs.Tests.{alike_from}
-use Rattle.term_table.specs.Formulas.{Formulas, IsTable, tree, symbol_at, IsNode, IsSymbol}
+use Rattle.term_table.specs.Formulas.{Formulas, IsTable, tree, IsNode}
 use Rattle.term_subst.specs.declared.chosen.Key.{Key}
 use Rattle.term_subst.specs.Keys.{pairs_eq, is_key, chosen_in}
 use Rattle.term_subst.specs.Maps.{Pairs, map_at}

@@ -15,6 +15,7 @@ pub mod Numbered
 pub mod Paired
 pub mod Renamed
 pub mod SortsKept
+pub mod Spared
 pub mod Surveyed
 pub mod SymbolLists
 pub mod Turning

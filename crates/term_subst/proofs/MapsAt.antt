@@ -1,5 +1,5 @@
 -- Maps of symbols to terms, read by the numbers of symbols.
-use Rattle.std.proofs.Common.{◌≡◌, ◌<◌, ◌≤◌, ◌+◌, ℕ, ◌==◌, ◌&&◌, Bool, true, false, cond, if◌then◌else◌, List, [], ◌∷◌, ◌++◌, map, length, get_or, take, All, Option, Some, None, refl, ap, sym, subst, ◌∙◌, arith}
+use Rattle.std.proofs.Common.{◌≡◌, ◌<◌, ◌≤◌, ◌+◌, ℕ, ◌==◌, Bool, true, false, cond, if◌then◌else◌, List, [], ◌∷◌, ◌++◌, length, get_or, take, Option, Some, None, refl, ap, sym, subst, ◌∙◌, arith}
 use Rattle.std.specs.Prelude.{option_map}
 use Rattle.std.specs.List.{cons_option}
 use Rattle.std.proofs.lemmas.Bool.Decides.{Decides-eqb}
@@ -10,7 +10,7 @@ use Rattle.smt_terms.specs.declared.ids.SymId.{SymId}
 use Rattle.smt_terms.specs.Sorts.{Sort, Symbol}
 use Rattle.smt_terms.specs.Term.{Term, apply, quantified, symbol, none, constant}
 use Rattle.smt_terms.specs.Equal.{symbol_eq}
-use Rattle.smt_terms.specs.Rank.{sort_of, sort_over, rank, width, most_bits}
+use Rattle.smt_terms.specs.Rank.{sort_of, width, most_bits}
 use Rattle.smt_terms.specs.Subst.{Map, image, cut_to}
 use Rattle.smt_terms.specs.SubstLaws.{HaveSorts}
 use Rattle.smt_terms.proofs.Equal.{Decides-symbol_eq}

@@ -1,5 +1,5 @@
 -- The names of free symbols, gathered one by one, and what is found of one node more.
-use Rattle.std.proofs.Common.{Vec, ◌≡◌, ℕ, ◌+◌, ◌<◌, ◌==◌, Bool, true, false, cond, ◌||◌, if◌then◌else◌, List, [], ◌∷◌, ◌++◌, map, length, get_or, take, All, Option, Some, None, IsSome, IfSome, refl, ap, sym, subst, ◌∙◌}
+use Rattle.std.proofs.Common.{Vec, ◌≡◌, ℕ, ◌+◌, ◌<◌, ◌==◌, Bool, true, false, ◌||◌, if◌then◌else◌, List, [], ◌∷◌, ◌++◌, length, get_or, take, All, Option, Some, None, IsSome, IfSome, refl, ap, sym, subst, ◌∙◌}
 use Rattle.std.specs.Global.{Global}
 use Rattle.std.proofs.lemmas.Bool.Decides.{Decides-eqb}
 use Rattle.std.proofs.lemmas.List.{map-append, take_more}
@@ -7,7 +7,7 @@ use Rattle.smt_terms.specs.declared.ids.NodeId.{NodeId}
 use Rattle.smt_terms.specs.declared.ids.SymId.{SymId}
 use Rattle.smt_terms.specs.Equal.{name_eq}
 use Rattle.smt_terms.specs.Free.{name_among, names_of, free}
-use Rattle.smt_terms.specs.Sorts.{Name, Symbol}
+use Rattle.smt_terms.specs.Sorts.{Name}
 use Rattle.smt_terms.proofs.Cuts.{name_among-append}
 use Rattle.smt_terms.proofs.Equal.{Decides-name_eq}
 use Rattle.term_table.specs.Formulas.{Formulas, tree, symbol_at, IsNode, IsSymbol}

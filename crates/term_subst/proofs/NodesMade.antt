@@ -1,30 +1,28 @@
 -- What makes the nodes of a substitution: a head over operands of the same sorts, and a quantifier over other variables.
-use Rattle.std.proofs.Common.{◌≡◌, ℕ, suc, ◌+◌, ◌-◌, ◌<◌, ◌≤◌, ◌==◌, Bool, true, false, List, [], ◌∷◌, ◌++◌, map, length, get_or, take, All, Option, Some, None, is_some, Result, Ok, IsOk, is_ok, refl, ap, sym, ◌∙◌, subst, arith, length-append}
-use Rattle.std.specs.Prelude.{option_map}
+use Rattle.std.proofs.Common.{◌≡◌, ◌+◌, ◌-◌, ◌<◌, ◌==◌, Bool, true, false, List, [], ◌∷◌, ◌++◌, map, length, get_or, take, All, Option, Some, None, is_some, Ok, refl, ap, sym, ◌∙◌, subst, arith, length-append}
 use Rattle.std.proofs.lemmas.Bool.Decides.{Decides-eqb}
 use Rattle.std.proofs.lemmas.List.{get_or-map, length-map, take-map}
 use Rattle.std.proofs.Math.Seq.{take-append_seam}
 use Rattle.smt_terms.specs.declared.ids.NodeId.{NodeId}
 use Rattle.smt_terms.specs.declared.ids.SymId.{SymId}
 use Rattle.smt_terms.specs.declared.op.Op.{Op}
-use Rattle.smt_terms.specs.declared.op.Op.TheVariants.{Sym, Neg, Forall, Exists}
+use Rattle.smt_terms.specs.declared.op.Op.TheVariants.{Sym, Neg}
 use Rattle.smt_terms.specs.Sorts.{Sort, bool, int, Symbol, Variable}
-use Rattle.smt_terms.specs.Term.{Quantifier, Head, op, symbol, const_array, Term, apply, quantified, Terms, none, ◌⨾◌, list, terms, over, variable, constant_of}
-use Rattle.smt_terms.specs.Rank.{Fault, shape, rank, rank_quantifier, sort_of, sorts_of, with_sort, is_minus, is_minus_of, are_bindable, is_regular, IsWellSorted}
+use Rattle.smt_terms.specs.Term.{Quantifier, Head, op, symbol, const_array, Term, apply, quantified, Terms, none, ◌⨾◌, list, terms, over, variable}
+use Rattle.smt_terms.specs.Rank.{shape, rank, rank_quantifier, sort_of, sorts_of, is_minus, are_bindable, is_regular, IsWellSorted}
 use Rattle.smt_terms.specs.Made.{minus, made}
 use Rattle.smt_terms.specs.Subst.{Map, image, image_or_itself, rebuilt}
 use Rattle.smt_terms.proofs.Binders.{binder-rank_quantifier}
 use Rattle.smt_terms.proofs.Ranked.{rank-takes}
 use Rattle.smt_terms.proofs.Tests.{both_true}
-use Rattle.smt_terms.proofs.Sorted.{applied as is_applied, quantified_sort, sorted}
+use Rattle.smt_terms.proofs.Sorted.{applied as is_applied, sorted}
 use Rattle.smt_values.specs.SortIds.{sort_at}
-use Rattle.term_table.specs.Formulas.{Formulas, no_tree, no_symbol, tree, tree_in, trees_at, symbol_at, operands, binders, body, variable_of, sort_or_bool, sorts_in, Kind, kind, theory, applied, filled, binder, kind_term, kind_rank, rank_over, term_over, IsKindOf, IsOpOf, Makes, IsTable, IsNode, AreNodes}
+use Rattle.term_table.specs.Formulas.{Formulas, no_tree, tree, tree_in, trees_at, symbol_at, operands, binders, body, variable_of, sort_or_bool, sorts_in, Kind, kind, theory, applied, filled, binder, kind_term, kind_rank, rank_over, term_over, IsKindOf, IsOpOf, Makes, IsTable, IsNode, AreNodes}
 use Rattle.term_table.proofs.Made.{makes_ranked}
 use Rattle.term_table.proofs.Operators.{kind-theory}
 use Rattle.term_walk.specs.FreeLists.{is_quantified}
 use Rattle.term_subst.specs.Steps.{operands_of, bound_in, body_of, built, requantified}
 use Rattle.term_subst.specs.State.{AreVariables, variables_at}
-use Rattle.term_subst.specs.Maps.{Pairs, map_at, image_in}
 
 -- ---- a quantified node's operands
 

@@ -1,5 +1,5 @@
 -- Parameters with their arguments, as pairs.
-use Rattle.std.proofs.Common.{◌≡◌, ℕ, zero, suc, ◌+◌, ◌<◌, ◌≤◌, List, [], ◌∷◌, ◌++◌, map, zip, length, get_or, take, refl, ap, sym, ◌∙◌, arith}
+use Rattle.std.proofs.Common.{◌≡◌, ℕ, zero, suc, ◌+◌, ◌<◌, ◌≤◌, List, [], ◌∷◌, ◌++◌, map, zip, length, get_or, take, refl, ap, ◌∙◌, arith}
 use Rattle.std.proofs.lemmas.List.{take_more, take_all}
 use Rattle.std.proofs.lemmas.Slice.Zip.{length-zip}
 use Rattle.smt_terms.specs.declared.ids.NodeId.{NodeId}

@@ -1,5 +1,5 @@
 -- Variables that are renamed or not, one after the other.
-use Rattle.std.proofs.Common.{◌≡◌, ℕ, zero, suc, ◌+◌, ◌<◌, ◌≤◌, Bool, true, false, cond, ◌||◌, List, [], ◌∷◌, ◌++◌, map, length, get_or, take, drop, All, Some, refl, ap, sym, subst, ◌∙◌, arith}
+use Rattle.std.proofs.Common.{◌≡◌, ℕ, zero, suc, ◌+◌, ◌<◌, ◌≤◌, Bool, true, false, cond, ◌||◌, List, [], ◌∷◌, ◌++◌, map, length, get_or, take, drop, Some, refl, ap, sym, subst, ◌∙◌, arith}
 use Rattle.std.proofs.Math.ListN.{drop_of_length-le}
 use Rattle.std.proofs.Math.Seq.{drop-cons}
 use Rattle.std.proofs.lemmas.List.{map-append, take_more, length-map, get_or-map}
@@ -7,12 +7,12 @@ use Rattle.std.proofs.lemmas.List.Elements.{All-nil, All-push}
 use Rattle.smt_terms.specs.declared.ids.NodeId.{NodeId}
 use Rattle.smt_terms.specs.declared.ids.SymId.{SymId}
 use Rattle.smt_terms.specs.declared.op.Op.TheVariants.{Sym}
-use Rattle.smt_terms.specs.Sorts.{Name, Sort, Symbol, Variable}
-use Rattle.smt_terms.specs.Term.{Term, symbol, apply, none, constant, constant_of, variable}
+use Rattle.smt_terms.specs.Sorts.{Name, Sort, Variable}
+use Rattle.smt_terms.specs.Term.{symbol, none, constant, constant_of, variable}
 use Rattle.smt_terms.specs.Equal.{symbol_eq}
 use Rattle.smt_terms.specs.Free.{free, name_among, names_of}
 use Rattle.smt_terms.specs.Fresh.{Supply, fresh_for, fresh_constant, after_draw}
-use Rattle.smt_terms.specs.Rank.{sort_of, width, most_bits, rank, is_minus}
+use Rattle.smt_terms.specs.Rank.{sort_of, width, most_bits}
 use Rattle.smt_terms.specs.Subst.{Map, image, names_in, Renamed, bound_first, bind, renaming}
 use Rattle.smt_terms.proofs.Cuts.{name_among-append}
 use Rattle.smt_terms.proofs.Ranked.{takes-rank, rank-takes}
@@ -23,9 +23,9 @@ use Rattle.term_table.proofs.Made.{makes_ranked}
 use Rattle.term_walk.specs.Walking.{GrowsTo}
 use Rattle.term_subst.specs.Maps.{Pairs, map_at, with_image}
 use Rattle.term_subst.specs.Renaming.{variable_after, map_after, names_after, Binds, renamed_under, Renames}
-use Rattle.term_subst.specs.State.{Gains, SameImages, AreVariables, variables_at}
+use Rattle.term_subst.specs.State.{SameImages, AreVariables, variables_at}
 use Rattle.term_subst.specs.Substituting.{IsPair, IsMap}
-use Rattle.term_subst.proofs.Growing.{tree-grows, node-grows, symbol-grows, is_symbol-grows, map-grows, is_map-grows, trees-grow, nodes-grow, variables-grow, are_variables-grow}
+use Rattle.term_subst.proofs.Growing.{tree-grows, symbol-grows, is_symbol-grows, map-grows, is_map-grows, nodes-grow, variables-grow, are_variables-grow}
 use Rattle.term_subst.proofs.Images.{with_image-All}
 use Rattle.term_subst.proofs.MapsAt.{constant-sort, sort-narrow, image-with}
 use Rattle.term_subst.proofs.NodesMade.{symbol-other}

@@ -1,15 +1,14 @@
 -- What is made of a term by results that are kept has its sort.
-use Rattle.std.proofs.Common.{◌≡◌, List, ◌∷◌, Option, Some, None, refl, ap, sym, ◌∙◌}
-use Rattle.smt_terms.specs.Sorts.{Sort, Symbol, Variable}
-use Rattle.smt_terms.specs.Term.{Quantifier, Head, op, symbol, const_array, Term, apply, quantified, Terms, none, ◌⨾◌, constant}
+use Rattle.std.proofs.Common.{◌≡◌, List, Option, Some, None, refl, ap, sym, ◌∙◌}
+use Rattle.smt_terms.specs.Sorts.{Symbol}
+use Rattle.smt_terms.specs.Term.{Head, op, symbol, const_array, Term, apply, quantified, Terms, none, ◌⨾◌, constant}
 use Rattle.smt_terms.specs.Free.{free, without}
 use Rattle.smt_terms.specs.Rank.{sort_of, sorts_of, sort_over, with_sort}
 use Rattle.smt_terms.specs.Made.{made}
-use Rattle.smt_terms.specs.Subst.{Map, image, cut_to, Chosen, chosen_for, map_eq, image_or_itself, rebuilt}
-use Rattle.smt_terms.specs.Equal.{term_eq}
+use Rattle.smt_terms.specs.Subst.{Map, image, cut_to, Chosen, image_or_itself, rebuilt}
 use Rattle.smt_terms.specs.SubstLaws.{HaveSorts}
 use Rattle.smt_terms.proofs.Made.{made-sort}
-use Rattle.term_subst.specs.Done.{done, dones, with_first, KeepSorts}
+use Rattle.term_subst.specs.Done.{done, dones, KeepSorts}
 use Rattle.term_subst.proofs.DoneLaws.{mapped, both-some}
 
 module _ (m : Map) (cs : List Chosen) (have : HaveSorts m) (keep : KeepSorts cs) where

@@ -1,29 +1,26 @@
 -- A task that is done leaves a survey on its way.
-use Rattle.std.proofs.Common.{Vec, ◌≡◌, ℕ, suc, ◌+◌, ◌<◌, ◌⊎◌, inl, inr, ◌==◌, Bool, true, false, not, cond, ◌||◌, if◌then◌else◌, List, [], ◌∷◌, ◌++◌, filter, map, length, get_or, take, All, Option, Some, refl, ap, sym, subst, ◌∙◌, arith}
-use Rattle.std.specs.Global.{Global}
-use Rattle.std.specs.List.{list_any}
+use Rattle.std.proofs.Common.{◌≡◌, ℕ, ◌+◌, ◌<◌, ◌⊎◌, inl, inr, ◌==◌, Bool, true, false, not, ◌||◌, if◌then◌else◌, List, [], ◌∷◌, ◌++◌, filter, map, length, get_or, take, All, refl, ap, sym, subst, ◌∙◌}
 use Rattle.std.proofs.lemmas.Bool.Decides.{Decides-eqb}
-use Rattle.std.proofs.lemmas.List.{map-append, take_more, take_all}
+use Rattle.std.proofs.lemmas.List.{map-append, take_more}
 use Rattle.std.proofs.lemmas.List.Elements.{All-nil, All-head, All-tail}
 use Rattle.smt_terms.specs.declared.ids.NodeId.{NodeId}
 use Rattle.smt_terms.specs.declared.ids.SymId.{SymId}
-use Rattle.smt_terms.specs.Equal.{symbol_eq}
 use Rattle.smt_terms.specs.Free.{free, free_of, is_among, with_more, without}
 use Rattle.smt_terms.specs.Sorts.{Symbol, Variable}
 use Rattle.smt_terms.specs.Term.{Term, apply, quantified, Terms, none, ◌⨾◌, list, constant_of}
 use Rattle.smt_terms.proofs.Among.{is_among-append, is_among-with_more}
 use Rattle.smt_terms.proofs.Tests.{either_true}
-use Rattle.term_table.specs.Formulas.{Formulas, tree, trees_at, operands, symbol_at, variable_of, IsNode, AreNodes, IsSymbol}
+use Rattle.term_table.specs.Formulas.{Formulas, tree, trees_at, operands, variable_of, IsNode, AreNodes, IsSymbol}
 use Rattle.term_walk.specs.FreeLists.{named, has_node, own_symbols, is_quantified, AreAmong, AreFree, EachOnce}
 use Rattle.term_subst.specs.declared.survey.Inner.{Inner}
 use Rattle.term_subst.specs.declared.survey.Scope.{Scope}
 use Rattle.term_subst.specs.declared.survey.Task.{Task}
 use Rattle.term_subst.specs.declared.survey.Task.TheVariants.{Visit, Leave, Close}
 use Rattle.term_subst.specs.State.{variables_at}
-use Rattle.term_subst.specs.Steps.{Step, visit, build, close, body_of, bound_in, load}
-use Rattle.term_subst.specs.Surveying.{symbols_in, IsScope, IsInner, IsTask, AreTasks, LeadsTo, Surveys, task_at, tasks_at}
+use Rattle.term_subst.specs.Steps.{visit, build, body_of, bound_in, load}
+use Rattle.term_subst.specs.Surveying.{symbols_in, IsScope, AreTasks, LeadsTo, Surveys, tasks_at}
 use Rattle.term_subst.proofs.SymbolLists.{filter-same, with_more-none, with_more-same, with_more-grouped, first-among, second-among, once-free}
-use Rattle.term_subst.proofs.Turning.{load-operands, load-binder}
+use Rattle.term_subst.proofs.Turning.{load-operands}
 
 -- ---- a node whose symbols are listed already, or are listed now
 

@@ -1,5 +1,5 @@
 -- A step that is done leaves a substitution on its way.
-use Rattle.std.proofs.Common.{Vec, ◌≡◌, ℕ, suc, ◌+◌, ◌-◌, ◌<◌, ◌≤◌, ◌==◌, ◌&&◌, Bool, true, false, cond, if◌then◌else◌, List, [], ◌∷◌, ◌++◌, map, length, get_or, take, drop, All, Option, Some, None, is_some, refl, ap, sym, subst, ◌∙◌, arith, length-append}
+use Rattle.std.proofs.Common.{◌≡◌, ℕ, suc, ◌+◌, ◌-◌, ◌<◌, ◌≤◌, ◌==◌, ◌&&◌, Bool, true, false, cond, if◌then◌else◌, List, [], ◌∷◌, ◌++◌, map, length, get_or, take, drop, All, Option, Some, None, refl, ap, sym, subst, ◌∙◌, arith, length-append}
 use Rattle.std.specs.Prelude.{option_map}
 use Rattle.std.proofs.lemmas.Bool.Decides.{Decides-eqb}
 use Rattle.std.proofs.Math.ListN.{get_or-append}
@@ -7,15 +7,14 @@ use Rattle.std.proofs.Math.Seq.{get_or-append_seam, take-append_seam, drop-appen
 use Rattle.std.proofs.lemmas.List.{map-append, length-map, length-drop, take-map, drop-map}
 use Rattle.std.proofs.lemmas.List.Elements.{All-nil, All-cons, All-head, All-tail, All-take, All-drop, All-push}
 use Rattle.smt_terms.specs.declared.ids.NodeId.{NodeId}
-use Rattle.smt_terms.specs.declared.ids.SymId.{SymId}
 use Rattle.smt_terms.specs.Sorts.{Name, Sort, bool, Symbol, Variable}
-use Rattle.smt_terms.specs.Term.{Quantifier, Head, Term, apply, quantified, Terms, none, ◌⨾◌, list, terms, variable}
-use Rattle.smt_terms.specs.Free.{free, without, name_among, names_of, head_symbols}
+use Rattle.smt_terms.specs.Term.{Term, apply, quantified, Terms, none, ◌⨾◌, list, terms}
+use Rattle.smt_terms.specs.Free.{free, name_among, names_of, head_symbols}
 use Rattle.smt_terms.specs.Fresh.{Supply}
-use Rattle.smt_terms.specs.Rank.{sort_of, sort_bound, sorts_of, are_bindable, is_regular, IsWellSorted}
-use Rattle.smt_terms.specs.Subst.{Map, image, cut_to, names_in, Renamed, renaming, Chosen, Choices, chosen_for, map_eq, rebuilt, subst_from, subst as subst_by}
+use Rattle.smt_terms.specs.Rank.{sort_of, sort_bound, sorts_of, are_bindable, IsWellSorted}
+use Rattle.smt_terms.specs.Subst.{Map, image, cut_to, names_in, Renamed, Chosen, Choices, chosen_for, map_eq, rebuilt, subst_from, subst as subst_by}
 use Rattle.smt_terms.specs.Equal.{term_eq}
-use Rattle.smt_terms.specs.SubstLaws.{HaveSorts, GivesNone, names_within, names_within_each}
+use Rattle.smt_terms.specs.SubstLaws.{GivesNone, names_within, names_within_each}
 use Rattle.smt_terms.proofs.Cuts.{name_among-append}
 use Rattle.smt_terms.proofs.Equal.{Decides-term_eq}
 use Rattle.smt_terms.proofs.Renaming.{renaming-bindable}
@@ -37,17 +36,17 @@ use Rattle.term_subst.specs.Keys.{is_key, chosen_in}
 use Rattle.term_subst.specs.Maps.{Pairs, map_at}
 use Rattle.term_subst.specs.Renaming.{renamed_under, Renames}
 use Rattle.term_subst.specs.Running.{end_of}
-use Rattle.term_subst.specs.State.{Gains, SameImages, variables_at, AreVariables, chosen_at, opening_at, step_at, steps_at, IsKept, IsLevel, IsChosen, Spares, IsOpened, IsFrame, AreFrames, AreFindings, Going}
-use Rattle.term_subst.specs.Steps.{Opening, Step, visit, build, close, operands_of, body_of, bound_in, built, requantified, result_of, with_result, End, Leads, load}
-use Rattle.term_subst.specs.Substituting.{IsPair, IsMap, IsLater}
+use Rattle.term_subst.specs.State.{variables_at, chosen_at, opening_at, step_at, steps_at, IsKept, IsLevel, IsChosen, Spares, IsOpened, IsFrame, AreFrames, AreFindings, Going}
+use Rattle.term_subst.specs.Steps.{Opening, Step, visit, build, close, operands_of, body_of, bound_in, built, requantified, result_of, End, Leads, load}
+use Rattle.term_subst.specs.Substituting.{IsMap, IsLater}
 use Rattle.term_subst.proofs.DoneLaws.{StaysChosen, both-some, done-stays, done-after, stays-new, chosen-first}
 use Rattle.term_subst.proofs.Gaining.{later-both, later-same}
-use Rattle.term_subst.proofs.Growing.{tree-grows, node-grows, going-grows, map-grows, is_map-grows, trees-grow, steps-grow, variables-grow, are_variables-grow}
+use Rattle.term_subst.proofs.Growing.{tree-grows, node-grows, going-grows, map-grows, is_map-grows, trees-grow, steps-grow, variables-grow}
 use Rattle.term_subst.proofs.KeysAt.{chosen-alike}
 use Rattle.term_subst.proofs.MapsAt.{have-sorts}
 use Rattle.term_subst.proofs.NodesMade.{terms-list, has-sort, one-term}
 use Rattle.term_subst.proofs.SortsKept.{done-sort, dones-sorts}
-use Rattle.term_subst.proofs.Turns.{append-nothing, leads-known, leads-apply, leads-open, load-apply, load-open, load-some}
+use Rattle.term_subst.proofs.Turns.{leads-known, leads-apply, leads-open, load-apply, load-open}
 
 -- ---- values
 

@@ -1,11 +1,11 @@
 -- What each turn of a substitution leaves to do leads to the same end, and is less.
-use Rattle.std.proofs.Common.{◌≡◌, ℕ, suc, ◌+◌, ◌<◌, List, [], ◌∷◌, ◌++◌, map, Some, None, refl, ap, sym, subst, ◌∙◌, append_assoc, arith}
+use Rattle.std.proofs.Common.{◌≡◌, suc, ◌+◌, ◌<◌, List, [], ◌∷◌, ◌++◌, map, Some, None, refl, ap, sym, subst, ◌∙◌, append_assoc, arith}
 use Rattle.smt_terms.specs.Sorts.{Symbol, Variable}
 use Rattle.smt_terms.specs.Term.{Quantifier, Head, Term, apply, quantified, Terms, none, ◌⨾◌, list}
 use Rattle.smt_terms.specs.Free.{free, without}
 use Rattle.smt_terms.specs.Subst.{Map, image, cut_to, names_in, Renamed, renaming, Choices, chosen_for, keep, kept_or, quantify, subst_from, substs_from}
-use Rattle.term_subst.specs.Done.{done, dones}
-use Rattle.term_subst.specs.Steps.{Opening, Step, visit, build, close, body_of, result_of, with_result, End, Leads, weight, weights, load}
+use Rattle.term_subst.specs.Done.{done}
+use Rattle.term_subst.specs.Steps.{Opening, Step, visit, build, close, result_of, with_result, End, Leads, weights, load}
 use Rattle.term_subst.proofs.Alike.{subst-alike}
 use Rattle.term_subst.proofs.DoneLaws.{done-still, done-after, dones-after, size, subst-larger}
 

@@ -6,6 +6,7 @@ pub mod Maps
 pub mod Names
 pub mod Renaming
 pub mod Running
+pub mod Building
 pub mod State
 pub mod Steps
 pub mod Substituting

@@ -1,7 +1,7 @@
 -- What renaming leaves of a table, of a map and of the names.
 use Rattle.std.specs.Prelude.{◌≡◌, Bool, true, false, List, ◌∷◌}
 use Rattle.smt_terms.specs.declared.ids.NodeId.{NodeId}
-use Rattle.smt_terms.specs.Sorts.{Name, Variable}
+use Rattle.smt_terms.specs.Sorts.{Variable}
 use Rattle.smt_terms.specs.Term.{variable, constant_of}
 use Rattle.smt_terms.specs.Fresh.{Supply, fresh_for, after_draw}
 use Rattle.smt_terms.specs.Subst.{Map, names_in, Renamed, renaming}

@@ -3,7 +3,6 @@ use Rattle.std.specs.Prelude.{List, [], ◌∷◌}
 use Rattle.smt_terms.specs.declared.ids.NodeId.{NodeId}
 use Rattle.smt_terms.specs.Fresh.{Supply}
 use Rattle.smt_terms.specs.Subst.{subst_from}
-use Rattle.smt_terms.specs.Term.{Term}
 use Rattle.term_table.specs.Formulas.{Formulas, tree}
 use Rattle.term_subst.specs.declared.machine.Machine.{Machine}
 use Rattle.term_subst.specs.declared.todo.Frame.{Frame}

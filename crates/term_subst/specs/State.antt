@@ -4,11 +4,11 @@ use Rattle.std.specs.Global.{Global}
 use Rattle.smt_terms.specs.declared.ids.NodeId.{NodeId}
 use Rattle.smt_terms.specs.declared.ids.SymId.{SymId}
 use Rattle.smt_terms.specs.Sorts.{Name, Symbol, Variable}
-use Rattle.smt_terms.specs.Term.{Term, apply, quantified, variable}
+use Rattle.smt_terms.specs.Term.{Term, variable}
 use Rattle.smt_terms.specs.Free.{free, name_among, names_of}
 use Rattle.smt_terms.specs.Fresh.{Supply}
 use Rattle.smt_terms.specs.Rank.{are_bindable}
-use Rattle.smt_terms.specs.Subst.{Map, image, cut_to, Chosen, Choices}
+use Rattle.smt_terms.specs.Subst.{Map, image, cut_to, Chosen}
 use Rattle.smt_terms.specs.SubstLaws.{GivesNone, names_within}
 use Rattle.term_table.specs.Formulas.{Formulas, tree, trees_at, variable_of, IsNode, AreNodes}
 use Rattle.term_walk.specs.FreeLists.{is_quantified, AreFree}

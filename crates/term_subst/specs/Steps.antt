@@ -2,7 +2,7 @@
 use Rattle.std.specs.Prelude.{◌≡◌, ℕ, ◌+◌, List, [], ◌∷◌, ◌++◌, Some, None}
 use Rattle.smt_terms.specs.Sorts.{Variable}
 use Rattle.smt_terms.specs.Term.{Term, apply, quantified, Terms, none, ◌⨾◌, list}
-use Rattle.smt_terms.specs.Subst.{Map, Chosen, Choices, chosen_for, rebuilt, subst_from}
+use Rattle.smt_terms.specs.Subst.{Map, Choices, chosen_for, rebuilt, subst_from}
 use Rattle.term_subst.specs.Done.{done, dones}
 
 -- a quantified term, under a map cut down to its free symbols, whose body's result is to come: its variables after

@@ -9,6 +9,7 @@ ghost use Rattle.term_subst.specs.Maps.{map_at, image_in};
 ghost use Rattle.term_subst.specs.Substituting.{IsMap};
 
 use crate::SymMap;
+use crate::nodes::know_table;
 use smt_terms::{NodeId, SymId};
 use std::alloc::{AllocError, Global};
 use term_table::Table;
@@ -26,7 +27,7 @@ fn take_along(
     ensures map { OnOk result (map_at table.now cut.new.items ≡ map_at table.now cut.old.items ++ cut_to (symbol_at table.now symbol ∷ []) (map_at table.now map.now)) }
     ensures within { OnOk result (IsMap table.now cut.new.items) }
 {
-    let _ = table.len();
+    know_table(table);
     match map.get(symbol) {
         Some(image) => {
             cut.push((symbol, image))?;

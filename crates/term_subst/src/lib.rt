@@ -22,3 +22,6 @@ pub use fresh::Fresh;
 pub use maps::{Definition, Group, SymMap, SymPairs};
 pub use names::NameSet;
 pub use substitution::{expand, substitute};
+
+#[cfg(test)]
+mod tests;

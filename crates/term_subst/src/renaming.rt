@@ -11,7 +11,7 @@ ghost use Rattle.term_subst.specs.State.{AreFindings, AreVariables, Gains, SameI
 ghost use Rattle.term_subst.specs.Substituting.{IsMap};
 
 use crate::findings::Findings;
-use crate::nodes::symbol_of;
+use crate::nodes::{know_table, symbol_of};
 use crate::{Fresh, SymMap};
 use smt_terms::{NodeId, SymId};
 use smt_values::Op;
@@ -59,7 +59,7 @@ fn bind(
     let sort = table.sort_of(given);
     let drawn = fresh.next(table, sort)?;
     let renamed = table.intern(Op::Sym(drawn), &[])?;
-    let _ = table.len();
+    know_table(table);
     map.set(symbol, renamed)?;
     Ok(renamed)
 }

@@ -10,7 +10,7 @@ use Rattle.term_subst.proofs.cut.take_along.Goals as goal
 pub returns-in_ok-push-in-Some-clause-map : goal.returns-in_ok-push-in-Some-clause-map
 returns-in_ok-push-in-Some-clause-map c =
     ap (map_at c.args.table.now) c.in_ok-push-in-Some.ensures.items
-    ∙ cut-found c.args.table.now c.len.ensures.table c.args.map.now c.requires.map c.args.symbol c.requires.symbol c.in-Some.image (sym c.in-Some.ensures) c.args.cut.now.items
+    ∙ cut-found c.args.table.now c.know_table.ensures c.args.map.now c.requires.map c.args.symbol c.requires.symbol c.in-Some.image (sym c.in-Some.ensures) c.args.cut.now.items
 
 pub returns-in_ok-push-in-Some-clause-within : goal.returns-in_ok-push-in-Some-clause-within
 returns-in_ok-push-in-Some-clause-within c =
@@ -18,4 +18,4 @@ returns-in_ok-push-in-Some-clause-within c =
     (All-push (IsPair c.args.table.now) c.args.cut.now.items (c.args.symbol, c.in-Some.image) c.requires.cut (pair-found c.args.table.now c.args.map.now c.requires.map c.args.symbol c.in-Some.image (sym c.in-Some.ensures)))
 
 pub returns-in-None-clause-map : goal.returns-in-None-clause-map
-returns-in-None-clause-map c = cut-none c.args.table.now c.len.ensures.table c.args.map.now c.requires.map c.args.symbol c.requires.symbol (sym c.in-None.ensures) c.args.cut.now.items
+returns-in-None-clause-map c = cut-none c.args.table.now c.know_table.ensures c.args.map.now c.requires.map c.args.symbol c.requires.symbol (sym c.in-None.ensures) c.args.cut.now.items

@@ -1,11 +1,11 @@
-use Rattle.std.proofs.Common.{◌≡◌, ◌<◌, ◌∷◌, [], List, length, refl, ap, sym, subst, ◌∙◌}
+use Rattle.std.proofs.Common.{◌<◌, ◌∷◌, List, length, ap, sym, subst, ◌∙◌}
 use Rattle.smt_terms.specs.Rank.{sort_of}
 use Rattle.term_table.specs.Formulas.{tree, IsNode}
 use Rattle.term_subst.specs.declared.todo.Frame.{Frame}
 use Rattle.term_subst.specs.declared.todo.Frame.TheVariants.{Visit}
 use Rattle.term_subst.specs.Running.{Runs, end_of}
 use Rattle.term_subst.proofs.Gaining.{gains-none, gains-both}
-use Rattle.term_subst.proofs.Turning.{starting, end-some, end-term, end-left, end-sort}
+use Rattle.term_subst.proofs.Turning.{starting, end-some, end-term, end-sort}
 use Rattle.term_subst.proofs.machine.run.Goals as goal
 
 pub loop-frame-init : goal.loop-frame-init

@@ -1,9 +1,7 @@
-use Rattle.std.proofs.Common.{◌≡◌, ◌<◌, [], List, length, Some, None, refl, sym, ap, ◌∙◌, arith}
+use Rattle.std.proofs.Common.{sym, ap, ◌∙◌}
 use Rattle.std.specs.Prelude.{option_map}
-use Rattle.std.proofs.lemmas.List.{length-map}
-use Rattle.smt_terms.specs.declared.ids.NodeId.{NodeId}
 use Rattle.smt_terms.specs.declared.op.Op.TheVariants.{Sym}
-use Rattle.term_table.specs.Formulas.{tree, tree_in, trees_at, symbol_at, kind}
+use Rattle.term_table.specs.Formulas.{tree, trees_at, symbol_at, kind}
 use Rattle.term_walk.specs.FreeLists.{is_quantified}
 use Rattle.term_subst.specs.Maps.{map_at}
 use Rattle.term_subst.proofs.MapsAt.{image-at, pair-found}

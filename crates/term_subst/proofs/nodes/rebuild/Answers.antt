@@ -1,11 +1,10 @@
-use Rattle.std.proofs.Common.{◌≡◌, ◌<◌, length, sym, ap, ◌∙◌, arith}
-use Rattle.smt_terms.specs.declared.ids.NodeId.{NodeId}
+use Rattle.std.proofs.Common.{◌<◌, length, ap, ◌∙◌, arith}
 use Rattle.smt_terms.specs.declared.op.Op.TheVariants.{Neg}
 use Rattle.smt_terms.specs.Made.{minus}
 use Rattle.smt_terms.specs.Rank.{sort_of}
 use Rattle.term_table.specs.Formulas.{tree, trees_at}
 use Rattle.term_subst.specs.Maps.{map_at}
-use Rattle.term_subst.proofs.NodesMade.{makes-head, built-head, built-minus, minus-operand, minus-kind, other-operator, other-kind, node-sort, one-term}
+use Rattle.term_subst.proofs.NodesMade.{makes-head, built-minus, minus-operand, minus-kind, other-operator, node-sort, one-term}
 use Rattle.term_subst.proofs.nodes.rebuild.Goals as goal
 
 pub bounds-kids-0 : goal.bounds-kids-0

@@ -1,9 +1,7 @@
-use Rattle.std.proofs.Common.{◌≡◌, ◌∷◌, ◌++◌, [], List, map, ap, sym, ◌∙◌, subst}
+use Rattle.std.proofs.Common.{◌≡◌, ◌∷◌, ◌++◌, [], ap, sym, ◌∙◌, subst}
 use Rattle.std.proofs.lemmas.List.{map-append}
 use Rattle.std.proofs.lemmas.List.Elements.{All-push}
-use Rattle.smt_terms.specs.declared.ids.NodeId.{NodeId}
-use Rattle.smt_terms.specs.Term.{Term, variable}
-use Rattle.term_table.specs.Formulas.{tree, tree_in, trees_at, term_over, IsNode, AreNodes}
+use Rattle.term_table.specs.Formulas.{tree, tree_in, trees_at, IsNode, AreNodes}
 use Rattle.term_subst.specs.State.{variables_at}
 use Rattle.term_subst.proofs.NodesMade.{makes-binder, made-binder}
 use Rattle.term_subst.proofs.nodes.requantify.Goals as goal

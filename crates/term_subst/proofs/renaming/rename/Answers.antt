@@ -1,6 +1,4 @@
-use Rattle.std.proofs.Common.{◌≡◌, ◌∷◌, ◌++◌, [], get_or, ap, sym, ◌∙◌}
 use Rattle.smt_terms.specs.declared.ids.NodeId.{NodeId}
-use Rattle.term_table.specs.Formulas.{tree}
 use Rattle.term_subst.proofs.Gaining.{gains-none, gains-both}
 use Rattle.term_subst.proofs.Growing.{are_variables-grow}
 use Rattle.term_subst.proofs.Renamed.{renames-none, renames-all, renames-more, variable-at}

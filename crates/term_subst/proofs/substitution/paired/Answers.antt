@@ -1,4 +1,4 @@
-use Rattle.std.proofs.Common.{◌≡◌, ◌<◌, ◌∷◌, ◌++◌, [], length, get_or, take, zip, ap, sym, ◌∙◌}
+use Rattle.std.proofs.Common.{◌∷◌, ◌++◌, [], get_or, sym, ◌∙◌}
 use Rattle.std.proofs.lemmas.Option.{get_or_from_slice_get}
 use Rattle.smt_terms.specs.declared.ids.NodeId.{NodeId}
 use Rattle.smt_terms.specs.declared.ids.SymId.{SymId}

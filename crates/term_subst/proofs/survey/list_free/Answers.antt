@@ -1,4 +1,4 @@
-use Rattle.std.proofs.Common.{◌≡◌, ◌∷◌, [], List, ap, ◌∙◌}
+use Rattle.std.proofs.Common.{◌∷◌, ap, ◌∙◌}
 use Rattle.term_subst.specs.declared.survey.Scope.{Scope}
 use Rattle.term_subst.specs.declared.survey.Task.TheVariants.{Visit}
 use Rattle.term_subst.proofs.Surveyed.{survey-starts}

@@ -1,4 +1,4 @@
-use Rattle.std.proofs.Common.{◌≡◌, ◌∷◌, ◌++◌, [], None, sym, ap, ◌∙◌}
+use Rattle.std.proofs.Common.{◌≡◌, ◌∷◌, None, sym, ap, ◌∙◌}
 use Rattle.indexmap.proofs.CallerLemmas.{insert_entry-new}
 use Rattle.term_subst.specs.Keys.{chosen_in}
 use Rattle.term_subst.proofs.KeysHeld.{key_eq, chosen_in-lookup, chosen-put, reads-alike}

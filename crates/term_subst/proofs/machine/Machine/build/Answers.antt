@@ -5,7 +5,6 @@ use Rattle.smt_terms.specs.Rank.{sorts_of}
 use Rattle.smt_terms.specs.Term.{terms}
 use Rattle.term_table.specs.Formulas.{tree, tree_in, trees_at, operands}
 use Rattle.term_subst.specs.State.{Going}
-use Rattle.term_subst.specs.Steps.{operands_of}
 use Rattle.term_subst.proofs.Gaining.{gains-nodes}
 use Rattle.term_subst.proofs.Turning.{build-splits, build-sorts, build-after, last-slice}
 use Rattle.term_subst.proofs.machine.Machine.build.Goals as goal

@@ -1,4 +1,4 @@
-use Rattle.std.proofs.Common.{◌≡◌, ◌++◌, ◌∷◌, [], List, refl, sym, ap, subst, ◌∙◌}
+use Rattle.std.proofs.Common.{◌≡◌, ◌++◌, ◌∷◌, [], List, refl, ap, ◌∙◌}
 use Rattle.std.specs.Option.{option_to_list}
 use Rattle.smt_terms.specs.declared.ids.NodeId.{NodeId}
 use Rattle.term_table.specs.Formulas.{tree}

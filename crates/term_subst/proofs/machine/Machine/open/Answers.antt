@@ -1,15 +1,15 @@
-use Rattle.std.proofs.Common.{◌≡◌, ◌<◌, ◌∷◌, [], List, sym, ap, subst, ◌∙◌}
+use Rattle.std.proofs.Common.{◌≡◌, ◌<◌, ◌∷◌, List, sym, ap, subst, ◌∙◌}
 use Rattle.smt_terms.specs.declared.ids.NodeId.{NodeId}
 use Rattle.smt_terms.specs.Free.{free}
 use Rattle.smt_terms.specs.Subst.{image, cut_to}
-use Rattle.term_table.specs.Formulas.{tree, trees_at, variable_of}
+use Rattle.term_table.specs.Formulas.{tree}
 use Rattle.term_subst.specs.declared.todo.Level.{Level}
 use Rattle.term_subst.specs.declared.todo.Opened.{Opened}
 use Rattle.term_subst.specs.declared.todo.Frame.{Frame}
 use Rattle.term_subst.specs.declared.todo.Frame.TheVariants.{Visit, Close}
 use Rattle.term_subst.specs.Maps.{Pairs, map_at, image_in}
 use Rattle.term_subst.specs.Renaming.{Renames}
-use Rattle.term_subst.specs.State.{Going, chosen_at, variables_at, steps_at, step_at, opening_at}
+use Rattle.term_subst.specs.State.{Going, chosen_at, variables_at, steps_at, opening_at}
 use Rattle.term_subst.specs.Steps.{Step, visit, close, body_of, load}
 use Rattle.term_subst.specs.Substituting.{IsMap}
 use Rattle.term_subst.proofs.Growing.{tree-grows, steps-grow}

@@ -1,11 +1,7 @@
 use Rattle.std.proofs.Common.{◌≡◌, ◌++◌, ◌∷◌, [], List, Some, refl, sym, ap, subst, ◌∙◌}
 use Rattle.smt_terms.specs.declared.ids.NodeId.{NodeId}
-use Rattle.smt_terms.specs.Free.{free}
-use Rattle.smt_terms.specs.Subst.{cut_to}
-use Rattle.term_table.specs.Formulas.{tree}
 use Rattle.term_subst.specs.declared.todo.Frame.TheVariants.{Visit}
 use Rattle.term_subst.specs.Keys.{chosen_in}
-use Rattle.term_subst.specs.Maps.{map_at}
 use Rattle.term_subst.specs.State.{Going}
 use Rattle.term_subst.proofs.Turning.{found-going, known-going, put-going, chosen-known, chosen-node}
 use Rattle.term_subst.proofs.machine.Machine.visit_binder.Goals as goal

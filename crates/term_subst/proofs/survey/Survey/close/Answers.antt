@@ -1,4 +1,4 @@
-use Rattle.std.proofs.Common.{◌≡◌, List, filter, not, refl, sym, ap, subst, ◌∙◌}
+use Rattle.std.proofs.Common.{List, filter, not, refl, sym, ap, subst, ◌∙◌}
 use Rattle.smt_terms.specs.declared.ids.SymId.{SymId}
 use Rattle.smt_terms.specs.Free.{is_among, with_more}
 use Rattle.term_walk.specs.FreeLists.{named, EachOnce}

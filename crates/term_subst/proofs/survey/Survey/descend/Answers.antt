@@ -1,5 +1,4 @@
-use Rattle.std.proofs.Common.{◌≡◌, ◌<◌, ◌++◌, ◌∷◌, [], List, map, refl, sym, ap, subst, ◌∙◌}
-use Rattle.term_table.specs.Formulas.{tree}
+use Rattle.std.proofs.Common.{◌≡◌, ◌<◌, ◌++◌, ◌∷◌, List, map, refl, sym, ap, subst, ◌∙◌}
 use Rattle.term_subst.specs.declared.survey.Inner.{Inner}
 use Rattle.term_subst.specs.declared.survey.Scope.{Scope}
 use Rattle.term_subst.specs.declared.survey.Task.{Task}

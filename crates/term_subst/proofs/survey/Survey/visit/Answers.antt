@@ -1,6 +1,4 @@
-use Rattle.std.proofs.Common.{◌≡◌, Vec, List, All, Some, refl, sym, ap, subst, ◌∙◌}
-use Rattle.std.specs.Global.{Global}
-use Rattle.smt_terms.specs.declared.ids.SymId.{SymId}
+use Rattle.std.proofs.Common.{All, refl, sym, ap, subst, ◌∙◌}
 use Rattle.smt_terms.specs.Free.{with_more}
 use Rattle.term_table.specs.Formulas.{tree, IsSymbol}
 use Rattle.term_walk.specs.FreeLists.{named, EachOnce}
