@@ -1,7 +1,7 @@
 pub mod Aig
 pub mod AigShape
-mod AtTruth
-mod Bound
+pub mod AtTruth
+pub mod Bound
 pub mod Clear
 pub mod Drawn
 mod Duals
@@ -12,7 +12,7 @@ mod Keeps
 pub mod MadeNodes
 pub mod Nnf
 pub mod NnfShape
-mod NoBool
+pub mod NoBool
 mod NodeShapes
 pub mod Replaced
 mod Rows

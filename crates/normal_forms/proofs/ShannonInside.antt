@@ -183,7 +183,7 @@ fewer-sees (x ∷ xs) g sees = go (is_bool x.sort) (fewer-sees xs g sees.1)
     go true below = below
     go false below = (sees.0, below)
 
-fewer-names : (xs : List Variable) (n : Name) → name_among (map (λ x. x.name) (not_bool xs)) n ≡ true → name_among (map (λ x. x.name) xs) n ≡ true
+pub fewer-names : (xs : List Variable) (n : Name) → name_among (map (λ x. x.name) (not_bool xs)) n ≡ true → name_among (map (λ x. x.name) xs) n ≡ true
 fewer-names [] n among = among
 fewer-names (x ∷ xs) n among = go (is_bool x.sort) among (fewer-names xs n)
   where

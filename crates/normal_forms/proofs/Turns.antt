@@ -70,7 +70,7 @@ found-sorted t f e has =
 found-regular : (t : Term) (f : Quantified) → leftmost t ≡ Some f → Regular t → Regular (whole f)
 found-regular t f e given = leftmost-inherits Regular (λ h ts p. each-regular ts (regular h ts p).operands) t f e given
 
-found-fewer : (t : Term) (f : Quantified) → leftmost t ≡ Some f → quantifiers (whole f) ≤ quantifiers t
+pub found-fewer : (t : Term) (f : Quantified) → leftmost t ≡ Some f → quantifiers (whole f) ≤ quantifiers t
 found-fewer t f e = leftmost-inherits (λ u. quantifiers u ≤ quantifiers t) (λ h ts p. operands-fewer (quantifiers t) ts p) t f e (omega arith)
 
 itself-within : (t : Term) (s : Supply) → GivesNone s (names_within t) → Within (free t) (NeverGives s) (Clear t) t
@@ -190,7 +190,7 @@ turns : (k : ℕ) (t : Term) (s : Supply) → Formula t → GivesNone s (names_w
 turns zero t s has given = record { means = means-itself t has; regular = λ fine. fine; within = itself-within t s given; later = λ n never. never }
 turns (suc k) t s has given = turn-by t s (λ u v. prenex_turns k u v) has given (λ u v h g. turns k u v h g) (leftmost t) refl
 
-next-less : (t : Term) (f : Quantified) (s : Supply) → leftmost t ≡ Some f → suc (quantifiers (next t f s)) ≤ quantifiers t
+pub next-less : (t : Term) (f : Quantified) (s : Supply) → leftmost t ≡ Some f → suc (quantifiers (next t f s)) ≤ quantifiers t
 next-less t f s e =
     let less : quantifiers (renamed_body f s).0 ≤ quantifiers f.body = renamed-fewer f s in
     replaced-less (renamed_body f s).0 t f e (omega (arith, less))
@@ -218,7 +218,7 @@ plain-matrix : (t : Term) (s : Sort) → sort_of t ≡ Some s → is_bool s ≡ 
 plain-matrix (apply h ts) s has other = ap (λ k. through k (leftmost_of ts)) (plain-kind h ts s has other)
 plain-matrix (quantified q xs body) s has other = absurd (never-bool s (quantified_sort q xs body s has).sort other)
 
-no-turns : (k : ℕ) (t : Term) (s : Supply) → leftmost t ≡ None → prenex_turns k t s ≡ (t, s)
+pub no-turns : (k : ℕ) (t : Term) (s : Supply) → leftmost t ≡ None → prenex_turns k t s ≡ (t, s)
 no-turns zero t s e = refl
 no-turns (suc k) t s e = ap (λ o. pulled o t s (λ u v. prenex_turns k u v)) e
 

@@ -1,4 +1,4 @@
-// Quantifiers over new bodies.
+//! Quantifiers over new bodies.
 
 ghost use Rattle.std.specs.Prelude.{◌≡◌, ◌∷◌, ◌++◌, [], Bool, true, List, map, All, IfOk};
 ghost use Rattle.smt_terms.specs.declared.ids.NodeId.{NodeId};
@@ -13,9 +13,9 @@ use smt_values::Op;
 use std::alloc::{AllocError, Global};
 use term_table::Table;
 
-// Whether the quantifier of a quantified formula is universal.
+/// Whether the quantifier of a quantified formula is universal.
 #[tactic(auto, unfolding(term_table::specs::Formulas::kind))]
-pub(crate) fn is_universal(table: &Table, id: NodeId) -> bool
+pub fn is_universal(table: &Table, id: NodeId) -> bool
     requires formula { IsFormula table.now id }
     requires quantified { is_quantified (tree table.now id) ≡ true }
     ensures { result ≡ is_universally_quantified (tree table.now id) }
@@ -26,8 +26,8 @@ pub(crate) fn is_universal(table: &Table, id: NodeId) -> bool
     }
 }
 
-// The body of a quantified formula, which is one of its operands.
-pub(crate) fn body_of(table: &Table, id: NodeId) -> NodeId
+/// The body of a quantified formula, which is one of its operands.
+pub fn body_of(table: &Table, id: NodeId) -> NodeId
     requires node { IsNode table.now id }
     requires quantified { is_quantified (tree table.now id) ≡ true }
     ensures node { IsNode table.now result }
@@ -57,9 +57,9 @@ fn rebound(
     Ok(rebound)
 }
 
-// A quantifier over the variables of a quantified formula and over this body.
+/// A quantifier over the variables of a quantified formula and over this body.
 #[tactic(auto, unfolding(term_table::specs::Formulas::kind))]
-pub(crate) fn bind(
+pub fn bind(
     alloc: Global,
     table: &mut Table,
     id: NodeId,

@@ -4,14 +4,14 @@
 #![tactic(auto)]
 
 pub mod and_inverter_form;
-mod binding;
+pub mod binding;
 mod connective;
 mod forms;
 pub mod laws;
-mod making;
+pub mod making;
 pub mod negation_normal_form;
 pub mod node_forms;
 mod opposites;
-mod shapes;
+pub mod shapes;
 #[cfg(test)]
 mod tests;

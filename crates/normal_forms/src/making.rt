@@ -1,4 +1,4 @@
-// Connectives over formulas.
+//! Connectives over formulas.
 
 ghost use Rattle.std.specs.Prelude.{◌≡◌, ◌∷◌, [], ◌≤◌, length, All, IfOk};
 ghost use Rattle.smt_terms.specs.Connectives.{truth_term, negated, all_of, any_of, both, either};
@@ -11,9 +11,9 @@ use smt_values::Op;
 use std::alloc::AllocError;
 use term_table::Table;
 
-// `true` or `false`.
+/// `true` or `false`.
 #[tactic(auto, unfolding(term_table::specs::Formulas::kind))]
-pub(crate) fn truth(table: &mut Table, value: bool) -> Result<NodeId, AllocError>
+pub fn truth(table: &mut Table, value: bool) -> Result<NodeId, AllocError>
     ensures formula { IfOk result (IsFormula table.new) }
     ensures term { IfOk result (λ k. tree table.new k ≡ truth_term value) }
     ensures grows { GrowsTo table.old table.new }
@@ -22,8 +22,9 @@ pub(crate) fn truth(table: &mut Table, value: bool) -> Result<NodeId, AllocError
     Ok(id)
 }
 
+/// `(not p)`.
 #[tactic(auto, unfolding(term_table::specs::Formulas::kind))]
-pub(crate) fn negation(table: &mut Table, id: NodeId) -> Result<NodeId, AllocError>
+pub fn negation(table: &mut Table, id: NodeId) -> Result<NodeId, AllocError>
     requires { IsFormula table.old id }
     ensures formula { IfOk result (IsFormula table.new) }
     ensures term { IfOk result (λ k. tree table.new k ≡ negated (tree table.old id)) }
@@ -33,8 +34,9 @@ pub(crate) fn negation(table: &mut Table, id: NodeId) -> Result<NodeId, AllocErr
     Ok(id)
 }
 
+/// The `and` of two formulas or more.
 #[tactic(auto, unfolding(term_table::specs::Formulas::kind))]
-pub(crate) fn conjunction(table: &mut Table, kids: &[NodeId]) -> Result<NodeId, AllocError>
+pub fn conjunction(table: &mut Table, kids: &[NodeId]) -> Result<NodeId, AllocError>
     requires kids { All (IsFormula table.old) kids.now }
     requires several { 2 ≤ length kids.now }
     ensures formula { IfOk result (IsFormula table.new) }
@@ -45,8 +47,9 @@ pub(crate) fn conjunction(table: &mut Table, kids: &[NodeId]) -> Result<NodeId, 
     Ok(id)
 }
 
+/// The `or` of two formulas or more.
 #[tactic(auto, unfolding(term_table::specs::Formulas::kind))]
-pub(crate) fn disjunction(table: &mut Table, kids: &[NodeId]) -> Result<NodeId, AllocError>
+pub fn disjunction(table: &mut Table, kids: &[NodeId]) -> Result<NodeId, AllocError>
     requires kids { All (IsFormula table.old) kids.now }
     requires several { 2 ≤ length kids.now }
     ensures formula { IfOk result (IsFormula table.new) }
@@ -57,7 +60,8 @@ pub(crate) fn disjunction(table: &mut Table, kids: &[NodeId]) -> Result<NodeId, 
     Ok(id)
 }
 
-pub(crate) fn both(table: &mut Table, a: NodeId, b: NodeId) -> Result<NodeId, AllocError>
+/// `(and a b)`.
+pub fn both(table: &mut Table, a: NodeId, b: NodeId) -> Result<NodeId, AllocError>
     requires a { IsFormula table.old a }
     requires b { IsFormula table.old b }
     ensures formula { IfOk result (IsFormula table.new) }
@@ -68,7 +72,8 @@ pub(crate) fn both(table: &mut Table, a: NodeId, b: NodeId) -> Result<NodeId, Al
     Ok(id)
 }
 
-pub(crate) fn either(table: &mut Table, a: NodeId, b: NodeId) -> Result<NodeId, AllocError>
+/// `(or a b)`.
+pub fn either(table: &mut Table, a: NodeId, b: NodeId) -> Result<NodeId, AllocError>
     requires a { IsFormula table.old a }
     requires b { IsFormula table.old b }
     ensures formula { IfOk result (IsFormula table.new) }

@@ -1,4 +1,4 @@
-// The shape of a formula's node.
+//! The shape of a formula's node.
 
 ghost use Rattle.std.specs.Prelude.{◌≡◌, ◌<◌, [], length, get_or, false, MatchOption, IfSome, Some, IsTrue, ◌↔◌, if◌then◌else◌};
 ghost use Rattle.smt_terms.specs.Connectives.{Kind, atom, where_bool};
@@ -14,8 +14,8 @@ use smt_terms::NodeId;
 use smt_values::Op;
 use term_table::Table;
 
-// Whether a node is a formula.
-pub(crate) fn is_formula(table: &Table, id: NodeId) -> bool
+/// Whether a node is a formula.
+pub fn is_formula(table: &Table, id: NodeId) -> bool
     requires { IsNode table.now id }
     ensures { IsTrue result ↔ (sort_of (tree table.now id) ≡ Some bool) }
 {

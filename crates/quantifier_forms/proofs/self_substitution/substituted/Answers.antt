@@ -1,0 +1,23 @@
+use Rattle.std.proofs.Common.{ap, sym}
+use Rattle.smt_terms.specs.Fresh.{Supply}
+use Rattle.smt_terms.specs.Term.{Term}
+use Rattle.quantifier_forms.proofs.AtTruth.{variable-images}
+use Rattle.quantifier_forms.proofs.Cases.{work-stays}
+use Rattle.quantifier_forms.proofs.SelfNodes.{plain-put}
+use Rattle.quantifier_forms.proofs.self_substitution.substituted.Goals as goal
+
+pub put-requires-clause-images : goal.put-requires-clause-images
+put-requires-clause-images c = variable-images c.args.table.now (record { variable = c.args.variable; image = c.args.image }) c.requires.variable c.requires.image
+
+pub returns-then-branch-clause-term : goal.returns-then-branch-clause-term
+returns-then-branch-clause-term c =
+    sym (ap (λ (p : Term × Supply). p.0) (plain-put c.args.table.now c.put.new.table (record { variable = c.args.variable; image = c.args.image }) c.args.body c.in_ok-result.result c.args.fresh.now c.is_plain.ensures.table
+    c.in_ok-result.ensures.grows c.requires.variable c.requires.image c.requires.body (c.in_ok-is_plain.ensures.plain c.if-branch.true) c.in_ok-result.ensures.result))
+
+pub returns-then-branch-clause-left : goal.returns-then-branch-clause-left
+returns-then-branch-clause-left c =
+    sym (ap (λ (p : Term × Supply). p.1) (plain-put c.args.table.now c.put.new.table (record { variable = c.args.variable; image = c.args.image }) c.args.body c.in_ok-result.result c.args.fresh.now c.is_plain.ensures.table
+    c.in_ok-result.ensures.grows c.requires.variable c.requires.image c.requires.body (c.in_ok-is_plain.ensures.plain c.if-branch.true) c.in_ok-result.ensures.result))
+
+pub returns-clause-work : goal.returns-clause-work
+returns-clause-work c = work-stays c.args.table.now c.substitute.new.table c.is_plain.new.self c.in_ok-result-2.ensures.grows c.in_ok-is_plain.ensures.work
