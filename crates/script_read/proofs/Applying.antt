@@ -63,7 +63,7 @@ spared_algebra s = record {
   width_in = λ x. term_width x.0;
 }
 
-build_spared : (s : Supply) (w : Written) (ts : List Term) → GivesNone s (names_within_each (terms ts)) → GivesNone s (names_within (build term_algebra w ts))
+pub build_spared : (s : Supply) (w : Written) (ts : List Term) → GivesNone s (names_within_each (terms ts)) → GivesNone s (names_within (build term_algebra w ts))
 unfolding spared_algebra
 build_spared s w ts given =
     let found = with_names s ts given in

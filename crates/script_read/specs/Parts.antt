@@ -1,8 +1,7 @@
 -- What forms are, part by part: symbols, numerals, keywords, constants, and the words that lists begin with.
 -- SMT-LIB 2.6, sections 3.1, 3.2 and 3.6.
-use Rattle.std.specs.Prelude.{ℕ, ◌-◌, ◌*◌, ◌^◌, Bool, true, false, ◌&&◌, List, [], ◌∷◌, ◌++◌, length, drop, codes, bytes_eq, pos, Option, Some, None, is_some, if◌then◌else◌}
+use Rattle.std.specs.Prelude.{ℕ, ◌-◌, ◌*◌, ◌^◌, Bool, true, false, ◌&&◌, List, [], ◌∷◌, length, drop, codes, bytes_eq, pos, Option, Some, None, is_some, if◌then◌else◌}
 use Rattle.std.specs.Str.Parse.{digits_value}
-use Rattle.smt_lex.specs.Lexicon.{left_parenthesis, right_parenthesis, space}
 use Rattle.smt_lex.specs.Names.{Name}
 use Rattle.smt_lex.specs.Lex.{symbol_of}
 use Rattle.smt_lex.specs.Forms.{Form, atom, node, Forms, none, ◌⨾◌}

@@ -1,0 +1,154 @@
+-- Literals of `check-sat-assuming`, as a scope and a table have them.
+use Rattle.std.proofs.Common.{◌≡◌, Bool, true, false, cond, List, [], ◌∷◌, ◌++◌, All, Option, Some, None, option_map, Result, Ok, Err, append_assoc, append-nil, refl, ap, sym, ◌∙◌, subst}
+use Rattle.std.specs.Prelude.{codes}
+use Rattle.std.proofs.lemmas.List.Elements.{All-head, All-tail, All-push}
+use Rattle.std.proofs.lemmas.List.{map-append}
+use Rattle.smt_lex.specs.Forms.{Form, atom, node, Forms, none, ◌⨾◌}
+use Rattle.smt_lex.specs.Names.{Name}
+use Rattle.smt_terms.specs.declared.ids.NodeId.{NodeId}
+use Rattle.smt_terms.specs.declared.ids.SymId.{SymId}
+use Rattle.smt_terms.specs.Connectives.{negated}
+use Rattle.smt_terms.specs.Equal.{name_eq}
+use Rattle.smt_terms.specs.Fresh.{Supply}
+use Rattle.smt_terms.specs.Term.{Term}
+use Rattle.term_table.specs.Formulas.{Formulas, symbol_at, tree, trees_at, IsNode, AreNodes, IsSymbol}
+use Rattle.term_table.specs.declared.lists.Nodes.{Nodes}
+use Rattle.term_walk.specs.Walking.{GrowsTo}
+use Rattle.term_subst.specs.declared.maps.Definition.{Definition}
+use Rattle.script_read.specs.declared.causes.Cause.TheVariants.{BadForm}
+use Rattle.script_read.specs.declared.scopes.Entry.{Entry}
+use Rattle.script_read.specs.declared.scopes.Entry.TheVariants.{Symbol as SymbolEntry, Definition as DefinitionEntry, Term as TermEntry}
+use Rattle.script_read.specs.declared.scripts.Command.TheVariants.{CheckAssuming}
+use Rattle.script_read.specs.declared.session.Session.{Session}
+use Rattle.script_read.specs.Commands.{check_assuming}
+use Rattle.script_read.specs.Known.{Scoped, Scoping, find, meant_by, IsEntry, IsScopedEntry, Shows}
+use Rattle.script_read.specs.LiteralClauses.{symbol_of_entry}
+use Rattle.script_read.specs.Parts.{place_of, symbol_in, is_name}
+use Rattle.script_read.specs.Places.{pair_in}
+use Rattle.script_read.specs.Reading.{ReadBinding, Entry as LiveEntry, symbol_entry, definition_entry, term_entry, entry_of}
+use Rattle.script_read.specs.Refusals.{Refused, and_then, mapped, given}
+use Rattle.script_read.specs.Scope.{or_later}
+use Rattle.script_read.specs.Script.{Standing, live_of, begun_with, boolean_constant, constant_entry, declared_constant, literal, literals_in, assumes}
+use Rattle.script_read.specs.Steps.{StandsAt, Steps}
+use Rattle.script_read.proofs.Grown.{nodes_stay, trees_stay}
+use Rattle.script_read.proofs.NameFacts.{name_same}
+use Rattle.script_read.proofs.SessionSteps.{stands_grown, begun_at, stands_begun}
+use Rattle.script_read.proofs.Showing.{entry_found, entry_meant}
+
+-- ---- what a name stands for is of the table
+
+module _ (t : Formulas) (supply : Supply) (ds : List Definition) (n : Name) (e : Entry) where
+  found_first : (m : Name) (d : Entry) (b : Bool) (later : Option Entry) → name_eq m n ≡ b → or_later b d later ≡ Some e → IsEntry t supply ds m d → (later ≡ Some e → IsEntry t supply ds n e) → IsEntry t supply ds n e
+  found_first m d true later same found is below = let here : d ≡ e = cc in subst (λ x. IsEntry t supply ds n x) here (subst (λ k. IsEntry t supply ds k d) (name_same m n same) is)
+  found_first m d false later same found is below = below found
+
+  pub entry_is : (bs : List (Scoped Entry)) → All (IsScopedEntry t supply ds) bs → find bs n ≡ Some e → IsEntry t supply ds n e
+  entry_is [] all found = absurd (cc)
+  entry_is (None ∷ bs) all found = entry_is bs (All-tail (IsScopedEntry t supply ds) None bs all) found
+  entry_is (Some p ∷ bs) all found =
+      found_first p.0 p.1 (name_eq p.0 n) (find bs n) refl found (All-head (IsScopedEntry t supply ds) (Some p) bs all) (λ h. entry_is bs (All-tail (IsScopedEntry t supply ds) (Some p) bs all) h)
+
+-- ---- constants that are declared
+
+symbol_is : (o : Option Entry) (f : SymId) → symbol_of_entry o ≡ Some f → o ≡ Some (SymbolEntry f)
+symbol_is None f h = absurd (cc)
+symbol_is (Some (SymbolEntry g)) f h = (λ i. Some (SymbolEntry (same i)))
+  where
+    same : g ≡ f
+    same = cc
+symbol_is (Some (DefinitionEntry k)) f h = absurd (cc)
+symbol_is (Some (TermEntry k)) f h = absurd (cc)
+
+module _ (t : Formulas) (ds : List Definition) where
+  no_constant : (o : Option Entry) (e : Option LiveEntry) → option_map (meant_by t ds) o ≡ option_map entry_meant e → symbol_of_entry o ≡ None → constant_entry e ≡ None
+  no_constant o None same nothing = refl
+  no_constant o (Some (definition_entry xs u)) same nothing = refl
+  no_constant o (Some (term_entry u)) same nothing = refl
+  no_constant None (Some (symbol_entry g)) same nothing = absurd (cc)
+  no_constant (Some (SymbolEntry f)) (Some (symbol_entry g)) same nothing = absurd (cc)
+  no_constant (Some (DefinitionEntry k)) (Some (symbol_entry g)) same nothing = absurd (cc)
+  no_constant (Some (TermEntry k)) (Some (symbol_entry g)) same nothing = absurd (cc)
+
+  a_constant : (f : SymId) (e : Option LiveEntry) → option_map (meant_by t ds) (Some (SymbolEntry f)) ≡ option_map entry_meant e → constant_entry e ≡ boolean_constant (symbol_at t f) (symbol_at t f).args
+  a_constant f None same = absurd (cc)
+  a_constant f (Some (definition_entry xs u)) same = absurd (cc)
+  a_constant f (Some (term_entry u)) same = absurd (cc)
+  a_constant f (Some (symbol_entry g)) same = (λ i. boolean_constant (here i) (here i).args)
+    where
+      here : g ≡ symbol_at t f
+      here = cc
+
+module _ (t : Formulas) (supply : Supply) (s : Scoping) (live : List ReadBinding) (shows : Shows t supply s live) (n : Name) where
+  pub undeclared : symbol_of_entry (find s.terms n) ≡ None → declared_constant live (Some n) ≡ None
+  undeclared nothing = no_constant t s.definitions (find s.terms n) (entry_of live n) (entry_found t s live shows.terms n) nothing
+
+  pub declared : (f : SymId) → symbol_of_entry (find s.terms n) ≡ Some f → declared_constant live (Some n) ≡ boolean_constant (symbol_at t f) (symbol_at t f).args
+  declared f found = a_constant t s.definitions f (entry_of live n) (ap (option_map (meant_by t s.definitions)) (sym (symbol_is (find s.terms n) f found)) ∙ entry_found t s live shows.terms n)
+
+  pub declared_within : (f : SymId) → symbol_of_entry (find s.terms n) ≡ Some f → IsSymbol t f
+  declared_within f found = (entry_is t supply s.definitions n (SymbolEntry f) s.terms shows.numbers.terms (symbol_is (find s.terms n) f found)).0
+
+-- ---- literals
+
+same_some : (p q : Form × Form) → Some p ≡ Some q → p ≡ q
+same_some p q is = cc
+
+pub literal_pair : (live : List ReadBinding) (f g h : Form) → pair_in f ≡ Some (g, h) → literal live f ≡ cond (is_name (codes "not") (symbol_in g)) (option_map negated (declared_constant live (symbol_in h))) None
+literal_pair live (atom t) g h is = absurd (cc)
+literal_pair live (node place none) g h is = absurd (cc)
+literal_pair live (node place (a ⨾ none)) g h is = absurd (cc)
+literal_pair live (node place (a ⨾ b ⨾ none)) g h is =
+    ap (λ p. cond (is_name (codes "not") (symbol_in p.0)) (option_map negated (declared_constant live (symbol_in p.1))) None) (same_some (a, b) (g, h) is)
+literal_pair live (node place (a ⨾ b ⨾ c ⨾ fs)) g h is = absurd (cc)
+
+pub literal_other : (live : List ReadBinding) (f : Form) → pair_in f ≡ None → literal live f ≡ declared_constant live (symbol_in f)
+literal_other live (atom t) is = refl
+literal_other live (node place none) is = refl
+literal_other live (node place (a ⨾ none)) is = refl
+literal_other live (node place (a ⨾ b ⨾ none)) is = absurd (cc)
+literal_other live (node place (a ⨾ b ⨾ c ⨾ fs)) is = refl
+
+-- ---- lists of literals
+
+mapped_none : (r : Result (List Term) Refused) → r ≡ mapped (λ us. [] ++ us) r
+mapped_none (Ok us) = refl
+mapped_none (Err e) = refl
+
+pub no_literal : (t : Formulas) (ids : List NodeId) (r : Result (List Term) Refused) → ids ≡ [] → r ≡ mapped (λ us. trees_at t ids ++ us) r
+no_literal t ids r is = mapped_none r ∙ ap (λ ks. mapped (λ us. trees_at t ks ++ us) r) (sym is)
+
+mapped_more : (first : List Term) (a : Term) (r : Result (List Term) Refused) → mapped (λ us. first ++ us) (mapped (λ us. a ∷ us) r) ≡ mapped (λ us. (first ++ a ∷ []) ++ us) r
+mapped_more first a (Ok us) = ap Ok (sym (append_assoc first (a ∷ []) us))
+mapped_more first a (Err e) = refl
+
+-- the literals of a list that begins with these
+module _ (live : List ReadBinding) (whole : Result (List Term) Refused) (first : List Term) where
+  pub one_literal : (fs gs : Forms) (f : Form) (a : Term) → whole ≡ mapped (λ us. first ++ us) (literals_in live fs) → fs ≡ f ⨾ gs → given BadForm (place_of f) (literal live f) ≡ Ok a → whole ≡ mapped (λ us. (first ++ a ∷ []) ++ us) (literals_in live gs)
+  one_literal fs gs f a before is here =
+      before ∙ ap (λ hs. mapped (λ us. first ++ us) (literals_in live hs)) is
+      ∙ ap (λ r. mapped (λ us. first ++ us) (and_then (λ t. mapped (λ us. t ∷ us) (literals_in live gs)) r)) here
+      ∙ mapped_more first a (literals_in live gs)
+
+  pub literal_refused : (fs gs : Forms) (f : Form) (e : Refused) → whole ≡ mapped (λ us. first ++ us) (literals_in live fs) → fs ≡ f ⨾ gs → given BadForm (place_of f) (literal live f) ≡ Err e → whole ≡ Err e
+  literal_refused fs gs f e before is here =
+      before ∙ ap (λ hs. mapped (λ us. first ++ us) (literals_in live hs)) is
+      ∙ ap (λ r. mapped (λ us. first ++ us) (and_then (λ t. mapped (λ us. t ∷ us) (literals_in live gs)) r)) here
+
+  pub last_literal : (fs : Forms) → whole ≡ mapped (λ us. first ++ us) (literals_in live fs) → fs ≡ none → whole ≡ Ok first
+  last_literal fs before is = before ∙ ap (λ hs. mapped (λ us. first ++ us) (literals_in live hs)) is ∙ ap Ok (append-nil first)
+
+pub trees_more : (t u : Formulas) (ks new : List NodeId) (k : NodeId) → GrowsTo t u → AreNodes t ks → new ≡ ks ++ k ∷ [] → trees_at u new ≡ trees_at t ks ++ tree u k ∷ []
+trees_more t u ks new k grows nodes is = ap (trees_at u) is ∙ map-append (tree u) ks (k ∷ []) ∙ ap (λ us. us ++ tree u k ∷ []) (trees_stay t u grows ks nodes)
+
+pub nodes_more : (t u : Formulas) (ks new : List NodeId) (k : NodeId) → GrowsTo t u → AreNodes t ks → IsNode u k → new ≡ ks ++ k ∷ [] → AreNodes u new
+nodes_more t u ks new k grows nodes within is = subst (AreNodes u) (sym is) (All-push (λ j. IsNode u j) ks k (nodes_stay t u grows ks nodes) within)
+
+pub assumption_refused : (s : Standing) (fs : Forms) (e : Refused) → literals_in (live_of s) fs ≡ Err e → assumes fs s ≡ Err e
+assumption_refused s fs e refused = ap (mapped (λ ts. (check_assuming ts ∷ [], begun_with s (live_of s)))) refused
+
+pub assumed : (t u : Formulas) (x : Session) (s : Standing) (fs : Forms) (ids : Nodes) → StandsAt t x s → GrowsTo t u → literals_in (live_of s) fs ≡ Ok (trees_at u ids) → Steps u (begun_at x x.sofar.scope) (CheckAssuming ids ∷ []) (assumes fs s)
+assumed t u x s fs ids stands grows read = record {
+  standing = begun_with s (live_of s);
+  stands = stands_begun t u x s x.sofar.scope (live_of s) stands (stands_grown t u x s grows stands).shows;
+  gives = ap (mapped (λ ts. (check_assuming ts ∷ [], begun_with s (live_of s)))) read;
+}

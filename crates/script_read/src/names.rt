@@ -1,0 +1,284 @@
+//! Names: reserved words (SMT-LIB 2.6, section 3.1) and the names of the theories.
+
+ghost use Rattle.std.specs.Prelude.{◌≡◌, map, nat_eq};
+ghost use Rattle.std.specs.List.{list_any};
+ghost use Rattle.smt_lex.specs.Names.{is_among, is_syntax_word, is_command_word, is_reserved, is_theory_name, is_bit_vector_constant, is_theory_sort, is_internal, is_reserved_for_declaring, is_reserved_for_sorts};
+ghost use Rattle.smt_lex.specs.Lexicon.{is_some_of};
+ghost use Rattle.std.specs.Char.{is_ascii_digit};
+ghost use Rattle.script_read.specs.Heads.{real_names, takes_no_index};
+ghost use Rattle.script_read.specs.ReservedWords.{begins_like_reserved};
+
+// The words of the syntax.
+const SYNTAX_WORDS: [&[u8]; 13] = [
+    b"BINARY",
+    b"DECIMAL",
+    b"HEXADECIMAL",
+    b"NUMERAL",
+    b"STRING",
+    b"_",
+    b"!",
+    b"as",
+    b"exists",
+    b"forall",
+    b"let",
+    b"match",
+    b"par",
+];
+
+// The first bytes of these and of the names of commands.
+const RESERVED_FIRST_BYTES: &[u8] = b"!_BDHNSacdefglmprs";
+
+// The names of the commands.
+const COMMAND_WORDS: [&[u8]; 30] = [
+    b"assert",
+    b"check-sat",
+    b"check-sat-assuming",
+    b"declare-const",
+    b"declare-datatype",
+    b"declare-datatypes",
+    b"declare-fun",
+    b"declare-sort",
+    b"define-fun",
+    b"define-fun-rec",
+    b"define-funs-rec",
+    b"define-sort",
+    b"echo",
+    b"exit",
+    b"get-assertions",
+    b"get-assignment",
+    b"get-info",
+    b"get-model",
+    b"get-option",
+    b"get-proof",
+    b"get-unsat-assumptions",
+    b"get-unsat-core",
+    b"get-value",
+    b"pop",
+    b"push",
+    b"reset",
+    b"reset-assertions",
+    b"set-info",
+    b"set-logic",
+    b"set-option",
+];
+
+// The names of the theories, but for `bv` and digits.
+const CORE_NAMES: [&[u8]; 10] = [
+    b"true",
+    b"false",
+    b"not",
+    b"and",
+    b"or",
+    b"xor",
+    b"=>",
+    b"=",
+    b"distinct",
+    b"ite",
+];
+
+const NUMBER_NAMES: [&[u8]; 15] = [
+    b"-",
+    b"+",
+    b"*",
+    b"/",
+    b"div",
+    b"mod",
+    b"abs",
+    b"<=",
+    b"<",
+    b">=",
+    b">",
+    b"divisible",
+    b"to_real",
+    b"to_int",
+    b"is_int",
+];
+
+const BIT_VECTOR_NAMES: [&[u8]; 35] = [
+    b"concat",
+    b"extract",
+    b"bvnot",
+    b"bvneg",
+    b"bvand",
+    b"bvor",
+    b"bvxor",
+    b"bvadd",
+    b"bvmul",
+    b"bvnand",
+    b"bvnor",
+    b"bvxnor",
+    b"bvsub",
+    b"bvudiv",
+    b"bvurem",
+    b"bvsdiv",
+    b"bvsrem",
+    b"bvsmod",
+    b"bvshl",
+    b"bvlshr",
+    b"bvashr",
+    b"bvcomp",
+    b"bvult",
+    b"bvule",
+    b"bvslt",
+    b"bvsle",
+    b"bvugt",
+    b"bvuge",
+    b"bvsgt",
+    b"bvsge",
+    b"repeat",
+    b"zero_extend",
+    b"sign_extend",
+    b"rotate_left",
+    b"rotate_right",
+];
+
+const ARRAY_NAMES: [&[u8]; 3] = [b"select", b"store", b"const"];
+
+// The sorts of the theories.
+const THEORY_SORTS: [&[u8]; 5] = [b"Bool", b"Int", b"Real", b"Array", b"BitVec"];
+
+// Functions of the theory of reals.
+const REAL_NAMES: [&[u8]; 4] = [b"/", b"to_real", b"to_int", b"is_int"];
+
+// Names of the theories that take no index and no operands.
+const NAMES_WITHOUT_INDEX: [&[u8]; 3] = [b"true", b"false", b"const"];
+
+// Whether it is one of the names.
+fn is_among(names: &[&[u8]], name: &[u8]) -> bool
+    ensures { result ≡ is_among (map (λ other. other.now) names.now) name.now }
+{
+    for other in names {
+        if name == *other {
+            return true;
+        }
+    }
+    false
+}
+
+fn is_syntax_word(word: &[u8]) -> bool
+    ensures { result ≡ is_syntax_word word.now }
+{
+    is_among(&SYNTAX_WORDS, word)
+}
+
+/// Whether the word names a command.
+pub fn is_command_word(word: &[u8]) -> bool
+    ensures { result ≡ is_command_word word.now }
+{
+    is_among(&COMMAND_WORDS, word)
+}
+
+/// Whether the word belongs to the syntax or names a command.
+pub fn is_reserved(word: &[u8]) -> bool
+    ensures { result ≡ is_reserved word.now }
+{
+    may_be_reserved(word) && (is_syntax_word(word) || is_command_word(word))
+}
+
+// Whether a reserved word begins like this one; most symbols of a script don't, and so need no look at the lists.
+fn may_be_reserved(word: &[u8]) -> bool
+    ensures { result ≡ begins_like_reserved word.now }
+{
+    match word {
+        [first, ..] => has_byte(RESERVED_FIRST_BYTES, *first),
+        [] => false,
+    }
+}
+
+// Whether the byte is among them.
+fn has_byte(bytes: &[u8], byte: u8) -> bool
+    ensures { result ≡ list_any (nat_eq byte) bytes.now }
+{
+    for other in bytes {
+        if byte == *other {
+            return true;
+        }
+    }
+    false
+}
+
+/// Whether they are one or more digits.
+pub fn are_digits(bytes: &[u8]) -> bool
+    ensures { result ≡ is_some_of is_ascii_digit bytes.now }
+{
+    for byte in bytes {
+        if !byte.is_ascii_digit() {
+            return false;
+        }
+    }
+    !bytes.is_empty()
+}
+
+/// Whether the name is `bv` and one or more digits.
+pub fn is_bit_vector_constant(name: &[u8]) -> bool
+    ensures { result ≡ is_bit_vector_constant name.now }
+{
+    match name {
+        [b'b', b'v', digits @ ..] => are_digits(digits),
+        _ => false,
+    }
+}
+
+/// Whether the name belongs to a theory.
+#[tactic(auto, unfolding(smt_lex::specs::Names::is_theory_name))]
+pub fn is_theory_name(name: &[u8]) -> bool
+    ensures { result ≡ is_theory_name name.now }
+{
+    if is_among(&CORE_NAMES, name) {
+        return true;
+    }
+    if is_among(&NUMBER_NAMES, name) {
+        return true;
+    }
+    if is_among(&BIT_VECTOR_NAMES, name) {
+        return true;
+    }
+    is_among(&ARRAY_NAMES, name) || is_bit_vector_constant(name)
+}
+
+/// Whether the name is that of a function of the theory of reals.
+pub fn is_real_name(name: &[u8]) -> bool
+    ensures { result ≡ is_among real_names name.now }
+{
+    is_among(&REAL_NAMES, name)
+}
+
+/// Whether the name is `true`, `false` or `const`.
+pub fn takes_no_index(name: &[u8]) -> bool
+    ensures { result ≡ takes_no_index name.now }
+{
+    is_among(&NAMES_WITHOUT_INDEX, name)
+}
+
+/// Whether the name is that of a sort of the theories.
+pub fn is_theory_sort(name: &[u8]) -> bool
+    ensures { result ≡ is_theory_sort name.now }
+{
+    is_among(&THEORY_SORTS, name)
+}
+
+// Whether the name begins with `@` or `.`.
+fn is_internal(name: &[u8]) -> bool
+    ensures { result ≡ is_internal name.now }
+{
+    match name {
+        [first, ..] => *first == b'@' || *first == b'.',
+        _ => false,
+    }
+}
+
+/// Whether no function, variable, parameter or term is given this name. A `let` binds no name that `is_theory_name`.
+#[tactic(auto, unfolding(smt_lex::specs::Names::is_reserved_for_declaring))]
+pub fn is_reserved_for_declaring(name: &[u8]) -> bool
+    ensures { result ≡ is_reserved_for_declaring name.now }
+{
+    is_internal(name) || is_theory_name(name)
+}
+
+/// Whether no sort is given this name.
+#[tactic(auto, unfolding(smt_lex::specs::Names::is_reserved_for_sorts))]
+pub fn is_reserved_for_sorts(name: &[u8]) -> bool
+    ensures { result ≡ is_reserved_for_sorts name.now }
+{
+    is_internal(name) || is_theory_sort(name)
+}

@@ -1,0 +1,117 @@
+//! Scripts as they are read: commands over the nodes, symbols and sorts of a table.
+
+ghost use Rattle.std.specs.Prelude.{◌≡◌, ◌<◌, ◌++◌, ◌∷◌, [], length, set, count_by, Some, slice_get, option_copied, OnOk, OnErr};
+ghost use Rattle.script_read.specs.CommandLists.{is_check};
+
+use smt_terms::{NodeId, SortId, SymId};
+use std::alloc::{AllocError, AllocFailed, Global};
+use std::marker::Model;
+use term_table::{Bytes, Nodes};
+
+/// A command of a script (SMT-LIB 2.6, section 3.9). Definitions, names of terms and names of sorts are gone: each term
+/// has what they stand for.
+#[derive(Drop)]
+pub enum Command {
+    /// Passed on as it is written: its text.
+    Passed(Bytes),
+    DeclareSort(SortId),
+    Declare(SymId),
+    /// An assertion, with its number among those of the script that was read, from 1 on.
+    Assert { id: NodeId, number: u64 },
+    Check,
+    /// A check under literals.
+    CheckAssuming(Nodes),
+    /// So many levels are opened, at most 1,000,000.
+    Push(u32),
+    /// So many levels are closed.
+    Pop(u32),
+    Reset,
+    ResetAssertions,
+    /// `:global-declarations` is set.
+    Globals(bool),
+    Exit,
+}
+
+/// A list of commands.
+#[derive(Drop)]
+pub struct Commands {
+    items: Vec<Command>,
+}
+
+impl Model for Commands {
+    ghost use Rattle.std.specs.Prelude.{List};
+    ghost use Rattle.script_read.specs.declared.scripts.Command.{Command};
+
+    ghost Value = { List Command };
+
+    ghost view = { λ c. c.items.items };
+}
+
+impl Commands {
+    /// The empty list. It takes no memory.
+    pub fn new(alloc: Global) -> Commands
+        ensures { result ≡ [] }
+    {
+        Commands {
+            items: Vec::new(alloc),
+        }
+    }
+
+    /// Puts a command last. Where it is refused, the list is as before, and the command is given up.
+    pub fn push(&mut self, command: Command) -> Result<(), AllocError>
+        ensures ok { OnOk result (self.new ≡ self.old ++ command ∷ []) }
+        ensures err { OnErr result (self.new ≡ self.old) }
+    {
+        self.items.push(command)?;
+        Ok(())
+    }
+
+    /// Puts a command in the place of the one at `i`, which is given up. It takes no memory.
+    pub fn replace(&mut self, i: usize, command: Command)
+        requires { i < length self.old }
+        ensures { self.new ≡ set self.old i command }
+    {
+        self.items[i] = command;
+    }
+
+    /// The number of commands.
+    pub fn len(&self) -> usize
+        ensures { result ≡ length self.now }
+    {
+        self.items.len()
+    }
+
+    /// All of them, in order.
+    pub fn as_slice(&self) -> &[Command]
+        ensures { result.now ≡ self.now }
+    {
+        self.items.as_slice()
+    }
+
+    /// The command at a place.
+    pub fn get(&self, i: usize) -> &Command
+        requires { i < length self.now }
+        ensures { slice_get self.now i ≡ Some result.now }
+    {
+        &self.items[i]
+    }
+}
+
+/// The commands of a script.
+#[derive(Drop)]
+pub struct Script {
+    pub commands: Commands,
+}
+
+/// The number of its `check-sat` and `check-sat-assuming`. It takes no memory.
+pub fn checks(script: &Script) -> u64
+    ensures { result ≡ count_by is_check script.now.commands }
+{
+    script.commands.items.iter().filter(|c| is_check(c)).count() as u64
+}
+
+fn is_check(command: &Command) -> bool
+    ensures { result ≡ is_check command.now }
+{
+    matches!(command, Command::Check | Command::CheckAssuming(_))
+}

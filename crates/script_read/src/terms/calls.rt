@@ -1,0 +1,89 @@
+//! Applications under way: `(f t ..)` has the head f, then its operands from left to right, and then itself.
+
+ghost use Rattle.std.specs.Prelude.{◌<◌, IfOk, Result};
+ghost use Rattle.smt_terms.specs.Term.{Term};
+ghost use Rattle.script_read.specs.Refusals.{Refused};
+ghost use Rattle.script_read.specs.Reading.{Sofar as Known};
+ghost use Rattle.script_read.specs.Parts.{head};
+ghost use Rattle.script_read.specs.Places.{IsRead, form_from};
+
+use crate::faults::ReadFault;
+use crate::places::{bad_form, begins};
+use crate::sofar::Sofar;
+use crate::terms::applications::apply;
+use crate::terms::frames::{Call, Frame, Next};
+use crate::terms::heads::read_callee;
+use crate::terms::term_reader::TermReader;
+use smt_lex::Forest;
+use smt_terms::NodeId;
+use term_table::Table;
+
+impl TermReader {
+    ghost use Rattle.script_read.specs.Waiting.{Going, GoingBack, Stepped, SomeGoing, SomeGoingBack, Keeps, left_of, left_behind, Opens};
+
+    /// Reads the head of the application of token `list`, and begins its first operand.
+    pub fn open_application(
+        &mut self,
+        table: &mut Table,
+        forest: &Forest,
+        sofar: &Sofar,
+        list: usize,
+        first: usize,
+    ) -> Result<Next, ReadFault>
+        requires read { IsRead forest.now }
+        requires going { SomeGoing forest.now.tokens table.old sofar.now self.old (Next.Form list) }
+        requires opens { Opens forest.now.tokens list first (head (form_from forest.now.tokens first)) }
+        ensures steps { (r : Result (Term × Known) Refused) → Going forest.now.tokens table.old sofar.now self.old (Next.Form list) r → Stepped forest.now.tokens table.new sofar.now self.new r result }
+        ensures less { IfOk result (λ next. left_of forest.now.tokens self.new next < left_of forest.now.tokens self.old (Next.Form list)) }
+        ensures keeps { Keeps table.old table.new sofar.now sofar.now self.old self.new }
+    {
+        let operand = forest.after(first);
+        if !begins(forest, operand) {
+            return Err(ReadFault::Refused(bad_form(forest, list)));
+        }
+        let callee = read_callee(self.alloc, table, forest, first, &sofar.scope, &self.locals)?;
+        self.frames.push(Frame::Operands(Call {
+            list,
+            callee,
+            kids: Vec::new(self.alloc),
+        }))?;
+        Ok(Next::Form(operand))
+    }
+
+    /// Goes on behind an operand: begins the next one, or makes the application.
+    pub fn resume_operands(
+        &mut self,
+        table: &mut Table,
+        forest: &Forest,
+        sofar: &mut Sofar,
+        call: Call,
+        node: NodeId,
+        behind: usize,
+    ) -> Result<Next, ReadFault>
+        requires read { IsRead forest.now }
+        requires going { SomeGoingBack forest.now.tokens table.old sofar.old self.old (Frame.Operands call) node behind }
+        ensures steps { (r : Result (Term × Known) Refused) → GoingBack forest.now.tokens table.old sofar.old self.old (Frame.Operands call) node behind r → Stepped forest.now.tokens table.new sofar.new self.new r result }
+        ensures less { IfOk result (λ next. left_of forest.now.tokens self.new next < left_behind forest.now.tokens self.old (Frame.Operands call) behind) }
+        ensures keeps { Keeps table.old table.new sofar.old sofar.new self.old self.new }
+    {
+        let mut call = call;
+        call.kids.push(node)?;
+        if begins(forest, behind) {
+            self.frames.push(Frame::Operands(call))?;
+            return Ok(Next::Form(behind));
+        }
+        let node = apply(
+            self.alloc,
+            table,
+            forest,
+            call.list,
+            &call.callee,
+            &call.kids,
+            sofar,
+        )?;
+        Ok(Next::Term {
+            node,
+            behind: forest.after(call.list),
+        })
+    }
+}

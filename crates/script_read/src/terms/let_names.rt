@@ -1,0 +1,118 @@
+//! The names of a `let`, while their terms are read.
+
+ghost use Rattle.std.specs.Prelude.{◌≡◌, ◌+◌, ◌<◌, ◌≤◌, ◌++◌, ◌∷◌, [], length, map, reverse, suc, false, Some, slice_get, OnOk, IfOk};
+ghost use Rattle.smt_lex.specs.Names.{Name, is_among};
+ghost use Rattle.smt_terms.specs.declared.ids.NodeId.{NodeId};
+ghost use Rattle.script_read.specs.Bound.{let_local};
+ghost use Rattle.script_read.specs.Bound.{name_at};
+ghost use Rattle.script_read.specs.Openings.{binding_in};
+ghost use Rattle.script_read.specs.Places.{IsForm, form_from};
+ghost use Rattle.script_read.specs.Replies.{Agrees};
+ghost use Rattle.script_read.specs.Sizes.{form_size};
+
+use crate::causes::Cause;
+use crate::faults::Fault;
+use crate::locals::{Local, Locals};
+use crate::names::is_theory_name;
+use crate::places::{bad_form, fault, is_symbol, two_inside};
+use indexmap::IndexMap;
+use smt_lex::Forest;
+use smt_terms::NodeId;
+use std::alloc::{AllocError, Global};
+use std::marker::Model;
+
+/// Names, each once, with their terms, in order.
+#[derive(Drop)]
+pub struct LetNames {
+    alloc: Global,
+    terms: IndexMap<Vec<u8>, NodeId>,
+}
+
+impl Model for LetNames {
+    ghost use Rattle.std.specs.Prelude.{List};
+    ghost use Rattle.smt_lex.specs.Names.{Name};
+    ghost use Rattle.smt_terms.specs.declared.ids.NodeId.{NodeId};
+    ghost use Rattle.script_read.specs.Laid.{named};
+
+    ghost Value = { List (Name × NodeId) };
+
+    ghost view = { λ s. named s.terms.entries };
+}
+
+impl LetNames {
+    /// No names. It takes no memory.
+    pub fn new(alloc: Global) -> LetNames
+        ensures { result ≡ [] }
+    {
+        LetNames {
+            alloc,
+            terms: IndexMap::new(alloc),
+        }
+    }
+
+    /// Whether a name is among them.
+    pub fn has(&self, name: &[u8]) -> bool
+        ensures { result ≡ is_among (map (λ p. p.0) self.now) name.now }
+    {
+        self.terms.get(name).is_some()
+    }
+
+    /// The number of names.
+    pub fn len(&self) -> usize
+        ensures { result ≡ length self.now }
+    {
+        self.terms.len()
+    }
+
+    /// Puts a name last that isn't among them.
+    pub fn add(&mut self, name: &[u8], term: NodeId) -> Result<(), AllocError>
+        ensures { is_among (map (λ p. p.0) self.old) name.now ≡ false → OnOk result (self.new ≡ self.old ++ (name.now, term) ∷ []) }
+    {
+        let name = Vec::from_slice(self.alloc, name)?;
+        self.terms.insert(name, term)?;
+        Ok(())
+    }
+
+    /// Binds the names, all at once.
+    pub fn enter(&self, locals: &mut Locals) -> Result<(), AllocError>
+        ensures { OnOk result (locals.new ≡ map let_local self.now ++ locals.old) }
+    {
+        for place in (0..self.len()).rev() {
+            self.enter_one(locals, place)?;
+        }
+        Ok(())
+    }
+
+    fn enter_one(&self, locals: &mut Locals, place: usize) -> Result<(), AllocError>
+        ensures { (p : Name × NodeId) → slice_get self.now place ≡ Some p → OnOk result (locals.new ≡ let_local p ∷ locals.old) }
+    {
+        match self.terms.get_index(place) {
+            Some((name, term)) => locals.enter(name, Local::Let(*term)),
+            None => Ok(()),
+        }
+    }
+}
+
+/// The term of the binding of token `part`, whose name is that of the token behind it; or why it binds no name behind these.
+pub fn binding_term(forest: &Forest, part: usize, names: &LetNames) -> Result<usize, Fault>
+    requires { IsForm forest.now.tokens part }
+    ensures name { Agrees (binding_in (reverse (map (λ p. p.0) names.now)) (form_from forest.now.tokens part)) (λ j. (name_at forest.now.tokens (suc part), form_from forest.now.tokens j)) result }
+    ensures form { IfOk result (IsForm forest.now.tokens) }
+    ensures new { IfOk result (λ _. is_among (map (λ p. p.0) names.now) (name_at forest.now.tokens (suc part)) ≡ false) }
+    ensures token { IfOk result (λ _. suc part < length forest.now.tokens) }
+    ensures size { IfOk result (λ j. form_size (form_from forest.now.tokens j) + 3 ≤ form_size (form_from forest.now.tokens part)) }
+{
+    let Some((name, term)) = two_inside(forest, part) else {
+        return Err(bad_form(forest, part));
+    };
+    if !is_symbol(forest, name) {
+        return Err(bad_form(forest, part));
+    }
+    if is_theory_name(forest.name(name)) {
+        return Err(fault(forest, name, Cause::ReservedName));
+    }
+    if names.has(forest.name(name)) {
+        return Err(fault(forest, name, Cause::Redeclared));
+    }
+    Ok(term)
+}
