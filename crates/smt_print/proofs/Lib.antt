@@ -30,3 +30,13 @@ pub mod TextsRead
 pub mod Tracks
 pub mod Writable
 pub mod WritableTerms
+pub mod HeadTexts
+pub mod NumberTexts
+pub mod Names
+pub mod ListTexts
+pub mod TreeTexts
+pub mod Prefixes
+pub mod DagTexts
+pub mod DagNodes
+pub mod DagTurns
+pub mod CommandLines

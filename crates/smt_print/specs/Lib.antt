@@ -1,3 +1,10 @@
+pub mod CommandTexts
+pub mod DagSteps
+pub mod Defined
 pub mod Laws
+pub mod NodeForms
+pub mod Prefix
+pub mod Sizes
 pub mod TermForms
 pub mod Text
+pub mod TreeSteps

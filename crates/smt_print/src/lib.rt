@@ -3,8 +3,23 @@
 
 #![tactic(auto)]
 
+mod commands;
+mod dag;
+mod heads;
 mod laws;
 mod layout;
+mod numbers;
+mod output;
+mod scope;
+mod scripts;
+mod stack;
+mod terms;
+mod tree;
 
 pub use laws::printing_reads_back;
 pub use layout::Layout;
+pub use scripts::{script_into, script_text};
+pub use terms::term_text;
+
+#[cfg(test)]
+mod tests;

@@ -1,0 +1,7 @@
+use Rattle.std.proofs.Common.{◌≡◌, ◌++◌, take}
+use Rattle.script_read.specs.CommandLists.{commands_of}
+use Rattle.smt_print.specs.Text.{lines}
+use Rattle.smt_print.proofs.scripts.print_script.Given as goal
+
+abbrev pub invariant-loop-i : goal.invariant-loop-i
+invariant-loop-i g l = g.O.Output.text l.out ≡ g.O.Output.text l.fn.out ++ lines l.layout (commands_of l.table (take l.i l.script.commands))

@@ -1,0 +1,172 @@
+// Commands other than assertions.
+
+ghost use Rattle.std.specs.Prelude.{◌≡◌, ◌++◌, ◌∷◌, [], All, OnOk, map, codes, false};
+ghost use Rattle.smt_lex.specs.Forms.{Form};
+ghost use Rattle.smt_lex.specs.FormText.{form_text};
+ghost use Rattle.smt_lex.specs.Names.{printed_symbol};
+ghost use Rattle.smt_terms.specs.Term.{Term};
+ghost use Rattle.smt_values.specs.SortIds.{sort_at, IsSortId};
+ghost use Rattle.term_table.specs.Formulas.{symbol_at, trees_at, IsSymbol, AreNodes};
+ghost use Rattle.term_table.specs.WrittenForms.{list_form, numeral_form, sort_form};
+ghost use Rattle.script_read.specs.CommandLists.{free_name, command_of, IsCommandOf};
+ghost use Rattle.smt_print.specs.Text.{command_form, command_text, declaration, sort_declaration, globals_option};
+ghost use Rattle.smt_print.specs.TermForms.{tree_form};
+ghost use Rattle.smt_print.specs.CommandTexts.{is_assertion};
+
+use crate::numbers::{push_number, push_separator};
+use crate::tree::print_tree;
+use script_read::Command;
+use smt_lex::symbol_text;
+use smt_values::{SortId, SymId};
+use std::alloc::{AllocError, Global};
+use term_table::{Bytes, Nodes, Table, sort_text};
+
+// Appends bytes.
+fn push_bytes(bytes: &Bytes, out: &mut Vec<u8>) -> Result<(), AllocError>
+    ensures { OnOk result (out.new.items ≡ out.old.items ++ bytes.now) }
+{
+    for i in 0..bytes.len() {
+        out.push(bytes.get(i))?;
+    }
+    Ok(())
+}
+
+// Appends the name of a free sort; another sort has the empty name.
+fn push_sort_name(
+    alloc: Global,
+    table: &Table,
+    sort: SortId,
+    out: &mut Vec<u8>,
+) -> Result<(), AllocError>
+    requires { IsSortId table.now.sorts sort }
+    ensures { OnOk result (out.new.items ≡ out.old.items ++ printed_symbol (free_name (sort_at table.now.sorts sort))) }
+{
+    match table.sorts().name(sort) {
+        Some(name) => symbol_text(alloc, name, out),
+        None => symbol_text(alloc, b"", out),
+    }
+}
+
+// Appends `(declare-sort S 0)`.
+fn push_sort_declaration(
+    alloc: Global,
+    table: &Table,
+    sort: SortId,
+    out: &mut Vec<u8>,
+) -> Result<(), AllocError>
+    requires { IsSortId table.now.sorts sort }
+    ensures { OnOk result (out.new.items ≡ out.old.items ++ form_text (sort_declaration (free_name (sort_at table.now.sorts sort)))) }
+{
+    out.extend_from_slice(b"(declare-sort ")?;
+    push_sort_name(alloc, table, sort, out)?;
+    out.extend_from_slice(b" 0)")?;
+    Ok(())
+}
+
+// Appends `(SORT ..)`.
+fn push_sorts(
+    alloc: Global,
+    table: &Table,
+    sorts: &[SortId],
+    out: &mut Vec<u8>,
+) -> Result<(), AllocError>
+    requires { All (IsSortId table.now.sorts) sorts.now }
+    ensures { OnOk result (out.new.items ≡ out.old.items ++ form_text (list_form (map sort_form (map (sort_at table.now.sorts) sorts.now)))) }
+{
+    out.push(b'(')?;
+    for (place, sort) in sorts.iter().enumerate() {
+        push_separator(place, out)?;
+        sort_text(alloc, table, *sort, out)?;
+    }
+    out.push(b')')?;
+    Ok(())
+}
+
+// Appends `(declare-fun f (SORT ..) SORT)`.
+fn push_declaration(
+    alloc: Global,
+    table: &Table,
+    symbol: SymId,
+    out: &mut Vec<u8>,
+) -> Result<(), AllocError>
+    requires { IsSymbol table.now symbol }
+    ensures { OnOk result (out.new.items ≡ out.old.items ++ form_text (declaration (symbol_at table.now symbol))) }
+{
+    let (args, to) = table.symbol_rank(symbol);
+    out.extend_from_slice(b"(declare-fun ")?;
+    symbol_text(alloc, table.symbol_name(symbol), out)?;
+    out.push(b' ')?;
+    push_sorts(alloc, table, args, out)?;
+    out.push(b' ')?;
+    sort_text(alloc, table, to, out)?;
+    out.push(b')')?;
+    Ok(())
+}
+
+// Appends `(check-sat-assuming (LITERAL ..))`.
+fn push_assumptions(
+    alloc: Global,
+    table: &Table,
+    literals: &Nodes,
+    out: &mut Vec<u8>,
+) -> Result<(), AllocError>
+    requires { AreNodes table.now literals.now }
+    ensures { OnOk result (out.new.items ≡ out.old.items ++ form_text (command_form (codes "check-sat-assuming") (list_form (map tree_form (trees_at table.now literals.now)) ∷ []))) }
+{
+    out.extend_from_slice(b"(check-sat-assuming (")?;
+    for i in 0..literals.len() {
+        push_separator(i, out)?;
+        print_tree(alloc, table, literals.get(i), out)?;
+    }
+    out.extend_from_slice(b"))")?;
+    Ok(())
+}
+
+// Appends a command over a number of levels.
+fn push_levels(name: &[u8], levels: u32, out: &mut Vec<u8>) -> Result<(), AllocError>
+    ensures { OnOk result (out.new.items ≡ out.old.items ++ form_text (command_form name.now (numeral_form levels ∷ []))) }
+{
+    out.push(b'(')?;
+    out.extend_from_slice(name)?;
+    out.push(b' ')?;
+    push_number(u64::from(levels), out)?;
+    out.push(b')')?;
+    Ok(())
+}
+
+// Appends `(set-option :global-declarations BOOL)`.
+fn push_globals(value: bool, out: &mut Vec<u8>) -> Result<(), AllocError>
+    ensures { OnOk result (out.new.items ≡ out.old.items ++ form_text (globals_option value)) }
+{
+    if value {
+        return out.extend_from_slice(b"(set-option :global-declarations true)");
+    }
+    out.extend_from_slice(b"(set-option :global-declarations false)")
+}
+
+// Appends a command that is no assertion.
+pub(crate) fn push_command(
+    alloc: Global,
+    table: &Table,
+    command: &Command,
+    out: &mut Vec<u8>,
+) -> Result<(), AllocError>
+    requires numbers { IsCommandOf table.now command.now }
+    requires other { is_assertion command.now ≡ false }
+    ensures { (form : Term → Form) → OnOk result (out.new.items ≡ out.old.items ++ command_text form (command_of table.now command.now)) }
+{
+    match command {
+        Command::Passed(text) => push_bytes(text, out),
+        Command::DeclareSort(sort) => push_sort_declaration(alloc, table, *sort, out),
+        Command::Declare(symbol) => push_declaration(alloc, table, *symbol, out),
+        Command::Assert { .. } => unreachable!(),
+        Command::Check => out.extend_from_slice(b"(check-sat)"),
+        Command::CheckAssuming(literals) => push_assumptions(alloc, table, literals, out),
+        Command::Push(levels) => push_levels(b"push", *levels, out),
+        Command::Pop(levels) => push_levels(b"pop", *levels, out),
+        Command::Reset => out.extend_from_slice(b"(reset)"),
+        Command::ResetAssertions => out.extend_from_slice(b"(reset-assertions)"),
+        Command::Globals(value) => push_globals(*value, out),
+        Command::Exit => out.extend_from_slice(b"(exit)"),
+    }
+}

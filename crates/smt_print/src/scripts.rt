@@ -1,0 +1,125 @@
+//! The texts of scripts: each command on a line of its own.
+
+ghost use Rattle.std.specs.Prelude.{◌≡◌, ◌++◌, ◌∷◌, [], IfOk, OnOk, OnErr, codes, false};
+ghost use Rattle.script_read.specs.CommandLists.{command_of, commands_of, IsCommandOf, AreCommandsOf};
+ghost use Rattle.smt_lex.specs.FormText.{form_text};
+ghost use Rattle.smt_lex.specs.Lexicon.{line_feed};
+ghost use Rattle.smt_print.specs.CommandTexts.{is_assertion};
+ghost use Rattle.smt_print.specs.Prefix.{AppendsPrefix};
+ghost use Rattle.smt_print.specs.Text.{term_form, command_form, command_text, lines};
+ghost use Rattle.term_table.specs.Formulas.{tree, IsNode};
+
+use crate::commands::push_command;
+use crate::layout::Layout;
+use crate::output::Output;
+use crate::terms::print_term;
+use script_read::{Command, Script};
+use smt_io::Pieces;
+use smt_terms::NodeId;
+use std::alloc::{AllocError, Global};
+use term_table::Table;
+
+// Prints the line of an assertion.
+fn print_assertion<O: Output>(
+    alloc: Global,
+    table: &Table,
+    id: NodeId,
+    layout: Layout,
+    out: &mut O,
+) -> Result<(), AllocError>
+    requires { IsNode table.now id }
+    ensures ok { OnOk result (O.text out.new ≡ O.text out.old ++ (form_text (command_form (codes "assert") (term_form layout (tree table.now id) ∷ [])) ++ line_feed ∷ [])) }
+    ensures prefix { OnErr result (AppendsPrefix (O.text out.old) (O.text out.new) (form_text (command_form (codes "assert") (term_form layout (tree table.now id) ∷ [])) ++ line_feed ∷ [])) }
+{
+    out.append(b"(assert ")?;
+    print_term(alloc, table, id, layout, out)?;
+    out.append(b")\n")?;
+    Ok(())
+}
+
+// Prints the line of a command that is no assertion.
+fn print_short<O: Output>(
+    alloc: Global,
+    table: &Table,
+    command: &Command,
+    layout: Layout,
+    out: &mut O,
+) -> Result<(), AllocError>
+    requires numbers { IsCommandOf table.now command.now }
+    requires other { is_assertion command.now ≡ false }
+    ensures ok { OnOk result (O.text out.new ≡ O.text out.old ++ (command_text (term_form layout) (command_of table.now command.now) ++ line_feed ∷ [])) }
+    ensures prefix { OnErr result (AppendsPrefix (O.text out.old) (O.text out.new) (command_text (term_form layout) (command_of table.now command.now) ++ line_feed ∷ [])) }
+{
+    let mut line = Vec::new(alloc);
+    push_command(alloc, table, command, &mut line)?;
+    line.push(b'\n')?;
+    out.append(&line)?;
+    Ok(())
+}
+
+// Prints the line of a command.
+fn print_command<O: Output>(
+    alloc: Global,
+    table: &Table,
+    command: &Command,
+    layout: Layout,
+    out: &mut O,
+) -> Result<(), AllocError>
+    requires { IsCommandOf table.now command.now }
+    ensures ok { OnOk result (O.text out.new ≡ O.text out.old ++ (command_text (term_form layout) (command_of table.now command.now) ++ line_feed ∷ [])) }
+    ensures prefix { OnErr result (AppendsPrefix (O.text out.old) (O.text out.new) (command_text (term_form layout) (command_of table.now command.now) ++ line_feed ∷ [])) }
+{
+    match command {
+        Command::Assert { id, .. } => print_assertion(alloc, table, *id, layout, out),
+        _ => print_short(alloc, table, command, layout, out),
+    }
+}
+
+// Prints a script.
+fn print_script<O: Output>(
+    alloc: Global,
+    table: &Table,
+    script: &Script,
+    layout: Layout,
+    out: &mut O,
+) -> Result<(), AllocError>
+    requires { AreCommandsOf table.now script.now.commands }
+    ensures ok { OnOk result (O.text out.new ≡ O.text out.old ++ lines layout (commands_of table.now script.now.commands)) }
+    ensures prefix { OnErr result (AppendsPrefix (O.text out.old) (O.text out.new) (lines layout (commands_of table.now script.now.commands))) }
+{
+    for i in 0..script.commands.len() {
+        print_command(alloc, table, script.commands.get(i), layout, out)?;
+    }
+    Ok(())
+}
+
+/// The text of a script (SMT-LIB 2.6, section 3.9), with its assertions in this layout. Only want of memory refuses it.
+pub fn script_text(
+    alloc: Global,
+    table: &Table,
+    script: &Script,
+    layout: Layout,
+) -> Result<Vec<u8>, AllocError>
+    requires { AreCommandsOf table.now script.now.commands }
+    ensures { IfOk result (λ bytes. bytes.items ≡ lines layout (commands_of table.now script.now.commands)) }
+{
+    let mut bytes = Vec::new(alloc);
+    print_script(alloc, table, script, layout, &mut bytes)?;
+    Ok(bytes)
+}
+
+/// Appends the text of a script, as `script_text` gives it, without a copy of the whole. Only want of memory refuses it, and
+/// then a prefix of the text was appended.
+pub fn script_into(
+    alloc: Global,
+    table: &Table,
+    script: &Script,
+    layout: Layout,
+    out: &mut Pieces,
+) -> Result<(), AllocError>
+    requires { AreCommandsOf table.now script.now.commands }
+    ensures ok { OnOk result (out.new ≡ out.old ++ lines layout (commands_of table.now script.now.commands)) }
+    ensures prefix { OnErr result (AppendsPrefix out.old out.new (lines layout (commands_of table.now script.now.commands))) }
+{
+    print_script(alloc, table, script, layout, out)
+}

@@ -1,0 +1,48 @@
+//! The text of a term.
+
+ghost use Rattle.std.specs.Prelude.{◌≡◌, ◌++◌, IfOk, OnOk, OnErr};
+ghost use Rattle.term_table.specs.Formulas.{tree, IsNode};
+ghost use Rattle.smt_print.specs.Prefix.{AppendsPrefix};
+ghost use Rattle.smt_print.specs.Text.{text};
+
+use crate::dag::print_dag;
+use crate::layout::Layout;
+use crate::output::Output;
+use crate::tree::print_tree;
+use smt_terms::NodeId;
+use std::alloc::{AllocError, Global};
+use term_table::Table;
+
+// Prints a term.
+pub(crate) fn print_term<O: Output>(
+    alloc: Global,
+    table: &Table,
+    id: NodeId,
+    layout: Layout,
+    out: &mut O,
+) -> Result<(), AllocError>
+    requires { IsNode table.now id }
+    ensures ok { OnOk result (O.text out.new ≡ O.text out.old ++ text layout (tree table.now id)) }
+    ensures prefix { OnErr result (AppendsPrefix (O.text out.old) (O.text out.new) (text layout (tree table.now id))) }
+{
+    match layout {
+        Layout::Tree => print_tree(alloc, table, id, out),
+        Layout::Dag => print_dag(alloc, table, id, out),
+    }
+}
+
+/// The text of a term (SMT-LIB 2.6, section 3.6). Only want of memory refuses it. A term that shares subterms can have a
+/// text in layout tree that is exponentially longer than its nodes are many; the time is that of writing the text.
+pub fn term_text(
+    alloc: Global,
+    table: &Table,
+    id: NodeId,
+    layout: Layout,
+) -> Result<Vec<u8>, AllocError>
+    requires { IsNode table.now id }
+    ensures { IfOk result (λ bytes. bytes.items ≡ text layout (tree table.now id)) }
+{
+    let mut bytes = Vec::new(alloc);
+    print_term(alloc, table, id, layout, &mut bytes)?;
+    Ok(bytes)
+}
