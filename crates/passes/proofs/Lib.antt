@@ -1,10 +1,16 @@
 mod Assertions
+pub mod CommandsStay
+pub mod InForm
 mod Kept
 pub mod Literals
+pub mod PassAfterPass
 mod ModelsCarried
 mod ModelsStay
 mod Outlines
 mod ReadsInside
+pub mod Rewritable
+pub mod RewrittenCommands
+pub mod RunnableLists
 mod Rows
 mod Standing
 pub mod Truths

@@ -6,10 +6,13 @@
 mod laws;
 mod list;
 mod names;
+mod rewriters;
+mod running;
 
 pub use laws::{passes_carry_models, passes_keep_commands, passes_leave_models};
 pub use list::{Passes, parse_list};
 pub use names::{ListFault, Pass};
+pub use running::{PassFault, run_passes};
 
 #[cfg(test)]
 mod tests;

@@ -1,6 +1,7 @@
 //! Lists of passes as they are written: names joined by commas, at most 32 of them.
 
 ghost use Rattle.std.specs.Prelude.{◌≡◌, ◌<◌, ◌≤◌, [], ◌∷◌, ◌++◌, length, map, slice_get, MatchResult, true, false};
+ghost use Rattle.std.specs.List.{list_all};
 ghost use Rattle.passes.specs.declared.names.Pass.{Pass as APass};
 ghost use Rattle.passes.specs.Lists.{can_run, pass_among, pass_list, pass_named};
 
@@ -33,12 +34,16 @@ pub struct Passes {
 }
 
 impl Model for Passes {
-    ghost use Rattle.std.specs.Prelude.{List};
+    ghost use Rattle.std.specs.Prelude.{◌≡◌, List, true};
+    ghost use Rattle.std.specs.List.{list_all};
     ghost use Rattle.passes.specs.declared.names.Pass.{Pass as APass};
+    ghost use Rattle.passes.specs.Lists.{can_run};
 
     ghost Value = { List APass };
 
     ghost view = { λ s. s.passes.items };
+
+    ghost invariant = { λ s. list_all can_run s.passes.items ≡ true };
 }
 
 impl Passes {
@@ -51,10 +56,11 @@ impl Passes {
         }
     }
 
-    /// How many passes there are.
+    /// How many passes there are. Each of them can be run.
     pub fn len(&self) -> usize
         ensures number { result ≡ length self.now }
         ensures bound { result ≤ 32 }
+        ensures run { list_all can_run self.now ≡ true }
     {
         self.passes.len()
     }
@@ -68,6 +74,7 @@ impl Passes {
     }
 
     fn push(&mut self, pass: Pass) -> Result<(), ListFault>
+        requires { can_run pass ≡ true }
         ensures { MatchResult result
             (λ _. (length self.old < 32) × (self.new ≡ self.old ++ pass ∷ []))
             (λ e. (length self.old ≡ 32) × (e ≡ ListFault.BadPass)) }

@@ -1,0 +1,44 @@
+use Rattle.std.proofs.Common.{arith}
+use Rattle.term_walk.proofs.Visits.{table-grows}
+use Rattle.script_read.specs.CommandLists.{commands_of}
+use Rattle.script_read.proofs.Grown.{grown_self, later_self, later_on}
+use Rattle.passes.proofs.PassAfterPass.{passed_none, passed_one, passed_all}
+use Rattle.passes.proofs.RunnableLists.{one_runs, all_keep}
+use Rattle.passes.proofs.running.run_passes.Goals as goal
+
+pub loop-i-init : goal.loop-i-init
+loop-i-init c = record {
+  numbers = c.requires.numbers;
+  passed = passed_none c.args.passes.now (commands_of c.args.table.now c.args.script.commands) c.args.fresh.now c.requires.ready;
+  later = later_self c.args.fresh.now;
+  grows = grown_self c.args.table.now;
+}
+
+pub run_pass-requires-clause-pass : goal.run_pass-requires-clause-pass
+run_pass-requires-clause-pass c = one_runs c.args.passes.now c.loop-i.i c.pass.result c.len-i-end.ensures.run c.pass.ensures
+
+pub loop-i-preserved : goal.loop-i-preserved
+loop-i-preserved c =
+    let l = c.loop-i in
+    let e = c.in_ok-run_pass.ensures in
+    record {
+      numbers = e.numbers;
+      passed =
+          passed_one c.args.passes.now (commands_of c.args.table.now c.args.script.commands) c.args.fresh.now c.passes_keep_commands.ensures.pass c.len-i-end.ensures.run l.i c.pass.result
+          (commands_of l.table l.script.commands) (commands_of c.run_pass.new.table c.run_pass.new.script.commands) l.fresh c.run_pass.new.fresh c.pass.ensures l.invariant.passed e.commands e.left;
+      later = later_on c.args.fresh.now l.fresh c.run_pass.new.fresh l.invariant.later e.later;
+      grows = table-grows c.args.table.now l.table c.run_pass.new.table l.invariant.grows e.grows;
+    }
+
+pub returns-clause-commands : goal.returns-clause-commands
+returns-clause-commands c =
+    let l = c.loop-i in
+    (passed_all c.args.passes.now (commands_of c.args.table.now c.args.script.commands) c.args.fresh.now l.i (commands_of l.table l.script.commands) l.fresh (let past = c.loop-i-test.false in omega (arith, c.len-i-end.ensures.number)) l.invariant.passed).0
+
+pub returns-clause-left : goal.returns-clause-left
+returns-clause-left c =
+    let l = c.loop-i in
+    (passed_all c.args.passes.now (commands_of c.args.table.now c.args.script.commands) c.args.fresh.now l.i (commands_of l.table l.script.commands) l.fresh (let past = c.loop-i-test.false in omega (arith, c.len-i-end.ensures.number)) l.invariant.passed).1
+
+pub returns-clause-values : goal.returns-clause-values
+returns-clause-values c = all_keep c.args.passes.now c.len-i-end.ensures.run

@@ -1,0 +1,202 @@
+//! Lists of passes applied to scripts: behind a pass, an assertion stands in the place of each assertion, with its number, and
+//! other commands stay.
+
+ghost use Rattle.std.specs.Prelude.{◌≡◌, ◌<◌, true, length, slice_get, option_map, OnOk, IfOk};
+ghost use Rattle.std.specs.List.{list_all};
+ghost use Rattle.script_read.specs.CommandLists.{commands_of, AreCommandsOf};
+ghost use Rattle.term_subst.specs.Substituting.{IsLater};
+ghost use Rattle.term_walk.specs.Walking.{GrowsTo};
+ghost use Rattle.passes.specs.Lists.{can_run};
+ghost use Rattle.passes.specs.Passed.{apply_pass, passed};
+ghost use Rattle.passes.specs.Laws.{keeps_values, IsReady};
+ghost use Rattle.passes.specs.Behind.{nnf_form, aig_form, in_form, AreRewritable};
+ghost use Rattle.passes.specs.Assertion.{assertion_of};
+
+use crate::laws::passes_keep_commands;
+use crate::list::Passes;
+use crate::names::Pass;
+use crate::rewriters::{Expansion, Inversion, Negation, Prefix, Rewriter, SelfSubstitution};
+use script_read::{Command, Commands, Script};
+use smt_terms::NodeId;
+use std::alloc::{AllocError, Global};
+use std::marker::Brand;
+use std::sync::ledger::{Blank, Ledger};
+use term_subst::Fresh;
+use term_table::Table;
+use term_walk::{Kept, Steps};
+
+/// Why passes make no script of a script.
+#[derive(Clone, Copy, Debug, PartialEq, Eq)]
+pub enum PassFault {
+    /// There is no memory.
+    Memory,
+}
+
+impl From<AllocError> for PassFault {
+    fn from(_error: AllocError) -> PassFault {
+        PassFault::Memory
+    }
+}
+
+/// The script behind the passes, from the first to the last: behind each, what the pass makes of an assertion stands in its
+/// place, with its number, and all other commands stay. The script has to be printable, and so is the answer. Each of the
+/// passes keeps values. After a refusal the script is given up; the table only gains, and names that were drawn aren't drawn
+/// again.
+pub fn run_passes(
+    alloc: Global,
+    table: &mut Table,
+    script: Script,
+    passes: &Passes,
+    fresh: &mut Fresh,
+) -> Result<Script, PassFault>
+    requires numbers { AreCommandsOf table.old script.commands }
+    requires ready { IsReady (commands_of table.old script.commands) fresh.old }
+    ensures numbers { IfOk result (λ s. AreCommandsOf table.new s.commands) }
+    ensures commands { IfOk result (λ s. commands_of table.new s.commands ≡ (passed passes.now (commands_of table.old script.commands) fresh.old).0) }
+    ensures left { OnOk result (fresh.new ≡ (passed passes.now (commands_of table.old script.commands) fresh.old).1) }
+    ensures ready { IfOk result (λ s. IsReady (commands_of table.new s.commands) fresh.new) }
+    ensures values { OnOk result (list_all keeps_values passes.now ≡ true) }
+    ensures later { IsLater fresh.old fresh.new }
+    ensures grows { GrowsTo table.old table.new }
+{
+    passes_keep_commands();
+    let mut script = script;
+    for i in 0..passes.len() {
+        run_pass(alloc, table, &mut script, passes.pass(i), fresh)?;
+    }
+    Ok(script)
+}
+
+/// Puts one assertion in the place of each, as the pass says.
+fn run_pass(
+    alloc: Global,
+    table: &mut Table,
+    script: &mut Script,
+    pass: Pass,
+    fresh: &mut Fresh,
+) -> Result<(), AllocError>
+    requires pass { can_run pass ≡ true }
+    requires numbers { AreCommandsOf table.old script.old.commands }
+    requires ready { IsReady (commands_of table.old script.old.commands) fresh.old }
+    ensures numbers { OnOk result (AreCommandsOf table.new script.new.commands) }
+    ensures commands { OnOk result (commands_of table.new script.new.commands ≡ (apply_pass pass (commands_of table.old script.old.commands) fresh.old).0) }
+    ensures left { OnOk result (fresh.new ≡ (apply_pass pass (commands_of table.old script.old.commands) fresh.old).1) }
+    ensures later { IsLater fresh.old fresh.new }
+    ensures grows { GrowsTo table.old table.new }
+{
+    match pass {
+        Pass::Nnf => {
+            negate::<Brand>(alloc, table, script, fresh, Blank::new(1))?;
+            Ok(())
+        }
+        Pass::Aig => {
+            invert::<Brand>(alloc, table, script, fresh, Blank::new(1))?;
+            Ok(())
+        }
+        Pass::Prenex => {
+            rewrite_each(table, script, &mut Prefix { alloc }, fresh)?;
+            Ok(())
+        }
+        Pass::Shannon => {
+            rewrite_each(table, script, &mut Expansion { alloc }, fresh)?;
+            Ok(())
+        }
+        Pass::SelfSub => {
+            rewrite_each(table, script, &mut SelfSubstitution { alloc }, fresh)?;
+            Ok(())
+        }
+        _ => unreachable!(),
+    }
+}
+
+/// `nnf`, with its steps counted in a ledger of their own.
+fn negate<L: Ledger>(
+    alloc: Global,
+    table: &mut Table,
+    script: &mut Script,
+    fresh: &mut Fresh,
+    blank: Blank,
+) -> Result<(), AllocError>
+    requires name { blank.name ≡ L.name }
+    requires parts { blank.parts ≡ L.parts }
+    requires some { 0 < L.parts }
+    requires numbers { AreCommandsOf table.old script.old.commands }
+    requires ready { AreRewritable (commands_of table.old script.old.commands) fresh.old }
+    ensures numbers { OnOk result (AreCommandsOf table.new script.new.commands) }
+    ensures commands { OnOk result (commands_of table.new script.new.commands ≡ (in_form nnf_form (commands_of table.old script.old.commands) fresh.old).0) }
+    ensures left { OnOk result (fresh.new ≡ (in_form nnf_form (commands_of table.old script.old.commands) fresh.old).1) }
+    ensures later { IsLater fresh.old fresh.new }
+    ensures grows { GrowsTo table.old table.new }
+{
+    let mut negation = Negation {
+        alloc,
+        kept: Kept::new(alloc),
+        steps: Steps::<L>::new(blank),
+    };
+    rewrite_each(table, script, &mut negation, fresh)?;
+    Ok(())
+}
+
+/// `aig`, with its steps counted in a ledger of their own.
+fn invert<L: Ledger>(
+    alloc: Global,
+    table: &mut Table,
+    script: &mut Script,
+    fresh: &mut Fresh,
+    blank: Blank,
+) -> Result<(), AllocError>
+    requires name { blank.name ≡ L.name }
+    requires parts { blank.parts ≡ L.parts }
+    requires some { 0 < L.parts }
+    requires numbers { AreCommandsOf table.old script.old.commands }
+    requires ready { AreRewritable (commands_of table.old script.old.commands) fresh.old }
+    ensures numbers { OnOk result (AreCommandsOf table.new script.new.commands) }
+    ensures commands { OnOk result (commands_of table.new script.new.commands ≡ (in_form aig_form (commands_of table.old script.old.commands) fresh.old).0) }
+    ensures left { OnOk result (fresh.new ≡ (in_form aig_form (commands_of table.old script.old.commands) fresh.old).1) }
+    ensures later { IsLater fresh.old fresh.new }
+    ensures grows { GrowsTo table.old table.new }
+{
+    let mut inversion = Inversion {
+        alloc,
+        kept: Kept::new(alloc),
+        steps: Steps::<L>::new(blank),
+    };
+    rewrite_each(table, script, &mut inversion, fresh)?;
+    Ok(())
+}
+
+/// Rewrites each assertion in its place, from the first to the last.
+fn rewrite_each<R: Rewriter>(
+    table: &mut Table,
+    script: &mut Script,
+    rewriter: &mut R,
+    fresh: &mut Fresh,
+) -> Result<(), AllocError>
+    requires numbers { AreCommandsOf table.old script.old.commands }
+    requires ready { AreRewritable (commands_of table.old script.old.commands) fresh.old }
+    requires fits { R.fits rewriter.old table.old }
+    ensures numbers { OnOk result (AreCommandsOf table.new script.new.commands) }
+    ensures commands { OnOk result (commands_of table.new script.new.commands ≡ (in_form R.form (commands_of table.old script.old.commands) fresh.old).0) }
+    ensures left { OnOk result (fresh.new ≡ (in_form R.form (commands_of table.old script.old.commands) fresh.old).1) }
+    ensures later { IsLater fresh.old fresh.new }
+    ensures grows { GrowsTo table.old table.new }
+{
+    for i in 0..script.commands.len() {
+        if let Some((id, number)) = assertion_at(&script.commands, i) {
+            let id = rewriter.rewrite(table, id, fresh)?;
+            script.commands.replace(i, Command::Assert { id, number });
+        }
+    }
+    Ok(())
+}
+
+/// The node and the number of the assertion at a place; None where another command stands there.
+fn assertion_at(commands: &Commands, i: usize) -> Option<(NodeId, u64)>
+    requires { i < length commands.now }
+    ensures { option_map assertion_of (slice_get commands.now i) ≡ Some result }
+{
+    match commands.get(i) {
+        Command::Assert { id, number } => Some((*id, *number)),
+        _ => None,
+    }
+}
