@@ -1,1 +1,4 @@
-pub mod ErrorLines
+mod Commanded
+mod Counts
+mod Endings
+mod Promised

@@ -1,3 +1,3 @@
-pub mod Answers
-pub mod Tables
+pub mod Counted
+pub mod Prepared
 pub mod Run

@@ -1,119 +1,84 @@
--- What a run of the program may answer, and what it leaves behind at each answer.
-use Rattle.std.specs.Prelude.{◌≡◌, ◌≢◌, ℕ, ◌<◌, ◌≤◌, ◌⊎◌, List, [], ◌∷◌, length, take, codes, Option, Some, None, Result, Ok, Err, IsOk}
+-- What a run of the program may answer, and what it leaves behind at each answer, by what its words ask for.
+use Rattle.std.specs.Prelude.{◌≡◌, ℕ, ◌⊎◌, List, take, Option, Some, None, Result, Ok, Err}
 use Rattle.smt_io.specs.Counts.{Rose}
-use Rattle.smt_io.specs.Told.{with_bytes, longest_text}
-use Rattle.smt_lex.specs.Lex.{Fault, bad_byte, bad_token, open_text, unbalanced, line_at}
-use Rattle.smt_lex.specs.Forms.{Forms, forms_to_exit}
-use Rattle.smt_lex.specs.declared.faults.LexFault.{LexFault}
-use Rattle.smt_lex.specs.declared.faults.LexFault.TheVariants.{BadByte, BadToken, OpenText, Unbalanced, Memory}
-use Rattle.smtrw.specs.Answers.{err_line}
-use Rattle.smtrw.specs.declared.status.Refusal.{Refusal}
-use Rattle.smtrw.specs.declared.status.Why.{Why}
-use Rattle.smtrw.specs.declared.status.Why.TheVariants.{Form}
-use Rattle.smtrw.specs.declared.status.Usage.{Usage as UsageFault}
-use Rattle.smtrw.specs.declared.status.Status.{Status}
-use Rattle.smtrw.specs.declared.status.Status.TheVariants.{Done, Refused, Usage, ReadFailed, WriteFailed, OutOfMemory}
+use Rattle.smt_io.specs.Told.{with_bytes}
+use Rattle.smtrw_answers.specs.declared.status.Usage.{Usage as UsageFault}
+use Rattle.smtrw_answers.specs.declared.status.Status.{Status}
+use Rattle.smtrw_answers.specs.declared.status.Status.TheVariants.{Done, Refused, Usage, ReadFailed, WriteFailed, OutOfMemory, ModelRefused, Beyond128, PassRefused}
+use Rattle.smtrw_answers.specs.Words.{Asked, rewrite, file_of}
+use Rattle.smtrw_answers.specs.Outputs.{output_of}
+use Rattle.smtrw_answers.specs.Endings.{script_end}
+use Rattle.smtrw_answers.specs.Headline.{IsRewriting}
 
--- the words that the program takes
-abbrev pub first_words : List (List ℕ)
-first_words = codes "rewrite" ∷ codes "--passes" ∷ codes "nnf" ∷ codes "-" ∷ []
+-- ---- the words
 
--- the name of standard input, which is the fourth of these words
-abbrev pub input_name : List ℕ
-input_name = codes "-"
+-- `Usage` comes exactly where the words have a fault, and is that one
+abbrev pub WordsFit : Result Asked UsageFault → Status → Type 0
+WordsFit (Err fault) status = status ≡ Usage fault
+WordsFit (Ok asked) (Usage fault) = ⊥
+WordsFit (Ok asked) _ = Unit {0}
 
--- `Usage` comes exactly where the words are others
-abbrev pub WordsFit : List (List ℕ) → Status → Type 0
-WordsFit words (Usage u) = (words ≢ first_words) × (u ≡ record { word = 0; why = Form })
-WordsFit words _ = words ≡ first_words
+-- no model is read, nothing is evaluated and no pass refuses
+abbrev pub Stands : Status → Type 0
+Stands (ModelRefused code line byte) = ⊥
+Stands (Beyond128 assertion) = ⊥
+Stands (PassRefused code assertion) = ⊥
+Stands _ = Unit {0}
 
--- `ReadFailed` comes only where the input's count of faults rose, and names its word
-abbrev pub ReadFits : ℕ → ℕ → Status → Type 0
-ReadFits before now (ReadFailed word) = (word ≡ 4) × Rose before now
-ReadFits before now _ = Unit {0}
+-- of what the words ask for, where they ask for something
+abbrev pub WhereAsked : Result Asked UsageFault → (Asked → Type 0) → Type 0
+WhereAsked (Err fault) P = Unit {0}
+WhereAsked (Ok asked) P = P asked
+
+-- ---- devices
+
+-- `ReadFailed` comes only where the count of faults rose that the inputs have for the file at its word
+abbrev pub ReadFits : (List ℕ → ℕ) → (List ℕ → ℕ) → Status → Asked → Type 0
+ReadFits before now (ReadFailed word) asked = (word ≡ (file_of asked).number) × Rose (before (file_of asked).word) (now (file_of asked).word)
+ReadFits before now _ asked = Unit {0}
 
 -- `WriteFailed` comes only where the output's count of faults rose
 abbrev pub WriteFits : ℕ → ℕ → Status → Type 0
 WriteFits before now WriteFailed = Rose before now
 WriteFits before now _ = Unit {0}
 
--- a whole text is sent and flushed at `Done`, a prefix of one sent at `WriteFailed`, and nothing else
-abbrev pub OutFits : Option (List ℕ) → Option (List ℕ) → Option (List ℕ) → Status → Type 0
-OutFits before now flushed Done = (text : List ℕ) × (now ≡ with_bytes before text) × (flushed ≡ now)
-OutFits before now flushed WriteFailed = (text : List ℕ) × (n : ℕ) × (now ≡ with_bytes before (take n text))
-OutFits before now flushed _ = now ≡ before
+-- ---- the script
 
--- the refusal of a text that is too long
-abbrev pub too_long : Refusal
-too_long = record { code = 2; command = 0; line = 0; byte = 67108864 }
+-- a told script is refused exactly where it is too long or isn't accepted, and so
+abbrev pub ScriptFits : Option (List ℕ) → Status → Type 0
+ScriptFits None _ = Unit {0}
+ScriptFits (Some b) (Refused r) = script_end b ≡ Some (Refused r)
+ScriptFits (Some b) Done = script_end b ≡ None
+ScriptFits (Some b) WriteFailed = script_end b ≡ None
+ScriptFits (Some b) _ = Unit {0}
 
--- the refusal of a form that isn't read yet
-abbrev pub not_yet : Refusal
-not_yet = record { code = 43; command = 0; line = 0; byte = 0 }
+-- ---- the output
 
--- the refusal of a text with this first fault
-abbrev pub fault_refusal : List ℕ → Fault → Refusal
-fault_refusal text (bad_byte place) = record { code = 10; command = 0; line = line_at text place; byte = place }
-fault_refusal text (bad_token place) = record { code = 11; command = 0; line = line_at text place; byte = place }
-fault_refusal text (open_text place) = record { code = 12; command = 0; line = line_at text place; byte = place }
-fault_refusal text (unbalanced place) = record { code = 13; command = 0; line = line_at text place; byte = place }
+-- the whole text of a told script
+abbrev pub IsOutput : Asked → Option (List ℕ) → List ℕ → Type 0
+IsOutput asked None w = Unit {0}
+IsOutput asked (Some b) w = w ≡ output_of asked b
 
--- the refusal that a text with these forms, or this fault, may have
-abbrev pub RefusalFits : List ℕ → Result Forms Fault → Refusal → Type 0
-RefusalFits text (Err fault) r = r ≡ fault_refusal text fault
-RefusalFits text (Ok forms) r = r ≡ not_yet
+-- at `Done` the whole text was sent and flushed, at `WriteFailed` a prefix of it was sent, and else nothing
+abbrev pub OutFits : Option (List ℕ) → Option (List ℕ) → Option (List ℕ) → Option (List ℕ) → Status → Asked → Type 0
+OutFits script before now flushed Done asked = (w : List ℕ) × IsOutput asked script w × (now ≡ with_bytes before w) × (flushed ≡ now)
+OutFits script before now flushed WriteFailed asked = (w : List ℕ) × IsOutput asked script w × ((n : ℕ) × (now ≡ with_bytes before (take n w)))
+OutFits script before now flushed _ asked = now ≡ before
 
--- a text that isn't too long and is one of forms
-abbrev pub IsFormed : List ℕ → Type 0
-IsFormed text = (length text ≤ longest_text) × IsOk (forms_to_exit text)
+-- at a fault of the words nothing was sent
+abbrev pub Quiet : Option (List ℕ) → Option (List ℕ) → Status → Type 0
+Quiet before now Done = Unit {0}
+Quiet before now WriteFailed = Unit {0}
+Quiet before now _ = now ≡ before
 
--- the status that a fault of a text leads to
-abbrev pub status_of_fault : LexFault → Status
-status_of_fault (BadByte place line) = Refused (record { code = 10; command = 0; line = line; byte = place })
-status_of_fault (BadToken place line) = Refused (record { code = 11; command = 0; line = line; byte = place })
-status_of_fault (OpenText place line) = Refused (record { code = 12; command = 0; line = line; byte = place })
-status_of_fault (Unbalanced place line) = Refused (record { code = 13; command = 0; line = line; byte = place })
-status_of_fault Memory = OutOfMemory
+-- what was sent of a told script at `Done` is a rewriting of it by the passes
+abbrev pub Promised : Option (List ℕ) → Option (List ℕ) → Option (List ℕ) → Status → Asked → Type 0
+Promised (Some b) before now Done (rewrite passes layout file) = (w : List ℕ) × (now ≡ with_bytes before w) × IsRewriting b passes w
+Promised script before now status asked = Unit {0}
 
--- of a told text: it is refused exactly where it is too long, else where its bytes aren't those of forms, with the first
--- fault; what is well formed and isn't read yet is refused as such
-abbrev pub TextFits : Option (List ℕ) → Status → Type 0
-TextFits None _ = Unit {0}
-TextFits (Some text) Done = IsFormed text
-TextFits (Some text) WriteFailed = IsFormed text
-TextFits (Some text) (Refused r) = ((r ≡ too_long) × (longest_text < length text)) ⊎ ((length text ≤ longest_text) × RefusalFits text (forms_to_exit text) r)
-TextFits (Some text) _ = Unit {0}
-
--- the error stream got a prefix of the status's line
-abbrev pub GotPrefix : Option (List ℕ) → Option (List ℕ) → List ℕ → Type 0
-GotPrefix before now line = (n : ℕ) × (now ≡ with_bytes before (take n line))
-
--- a told text is one that could be read so far
-abbrev pub IsReadable : Option (List ℕ) → Type 0
-IsReadable None = Unit {0}
-IsReadable (Some text) = IsFormed text
-
--- a status that comes before anything is sent
-abbrev pub IsEarly : Status → Type 0
-IsEarly (Refused _) = Unit {0}
-IsEarly (ReadFailed _) = Unit {0}
-IsEarly OutOfMemory = Unit {0}
-IsEarly _ = ⊥
-
--- a status that comes of a text which was read whole
-abbrev pub FollowsOf : List ℕ → Status → Type 0
-FollowsOf text (Refused r) = RefusalFits text (forms_to_exit text) r
-FollowsOf text OutOfMemory = Unit {0}
-FollowsOf text _ = ⊥
-
--- at `Done` the whole text was sent and flushed, at `WriteFailed` a prefix of it sent
-abbrev pub Delivers : Option (List ℕ) → Option (List ℕ) → Option (List ℕ) → List ℕ → Status → Type 0
-Delivers before now flushed text Done = (now ≡ with_bytes before text) × (flushed ≡ now)
-Delivers before now flushed text WriteFailed = (n : ℕ) × (n ≤ length text) × (now ≡ with_bytes before (take n text))
-Delivers before now flushed text _ = ⊥
-
--- a well-formed text wasn't read, or there was no memory for it
-abbrev pub IsUnread : Status → Type 0
-IsUnread (Refused r) = r ≡ not_yet
-IsUnread OutOfMemory = Unit {0}
-IsUnread _ = ⊥
+-- a told script that isn't refused is written, where no device fails and memory is there
+abbrev pub IsComplete : Option (List ℕ) → (List ℕ → ℕ) → (List ℕ → ℕ) → ℕ → ℕ → Status → Asked → Type 0
+IsComplete None reads_before reads_now before now status asked = Unit {0}
+IsComplete (Some b) reads_before reads_now before now status asked =
+    script_end b ≡ None → (Rose (reads_before (file_of asked).word) (reads_now (file_of asked).word) → ⊥) → (Rose before now → ⊥) →
+    (status ≡ Done) ⊎ (status ≡ OutOfMemory)

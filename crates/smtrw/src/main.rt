@@ -1,24 +1,18 @@
-//! The program `smtrw`: it reads an SMT-LIB 2.6 script, rewrites its assertions and prints it again. So far it takes
-//! the words `rewrite --passes nnf -`: a script of Boolean constants and of `not`, `and` and `or` over them comes from
-//! standard input and goes to standard output in negation normal form.
+//! The program `smtrw`: it reads a script of SMT-LIB 2.6, rewrites its assertions by named passes and prints it again
+//! (`rewrite`), or tells how much stands in it (`stats`). `run` is all of it, over sources and sinks of bytes; its contract
+//! has the sentence that the program is for, that a script which was rewritten means what it meant before.
 
 #![tactic(auto)]
 
-mod lines;
-mod names;
-mod print;
-mod read;
-mod refuse;
+mod counting;
 mod rewriting;
 mod run;
-mod status;
 #[cfg(test)]
 mod tests;
-mod words;
 
 use crate::run::run;
-use crate::status::Status;
 use smt_io::{HostInputs, HostSink};
+use smtrw_answers::Status;
 use std::env;
 use std::process::ExitCode;
 

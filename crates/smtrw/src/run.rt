@@ -1,24 +1,26 @@
 //! What the program does, from its words to its status.
 
-ghost use Rattle.std.specs.Prelude.{◌≡◌, ℕ, ◌<◌, ◌≤◌, ◌⊎◌, List, length, take, map, string_bytes, vec_len, IfOk, IfErr, OnOk};
-ghost use Rattle.smt_io.specs.Counts.{NeverFalls, Rose};
-ghost use Rattle.smt_io.specs.Told.{with_bytes, longest_text};
-ghost use Rattle.smtrw.specs.Answers.{err_line};
-ghost use Rattle.smtrw.specs.Run.{input_name, WordsFit, ReadFits, WriteFits, OutFits, TextFits, GotPrefix, IsReadable, IsEarly, IsFormed, FollowsOf, Delivers};
+ghost use Rattle.std.specs.Prelude.{◌≡◌, ◌≤◌, ◌⊎◌, length, map, string_bytes, take, vec_len, IfErr, OnOk};
+ghost use Rattle.smt_io.specs.Counts.{Rose};
+ghost use Rattle.smt_io.specs.Told.{longest_text, with_bytes};
+ghost use Rattle.smtrw_answers.specs.Answers.{err_line};
+ghost use Rattle.smtrw_answers.specs.Asked.{asked_seen};
+ghost use Rattle.smtrw_answers.specs.Outputs.{output_of};
+ghost use Rattle.smtrw_answers.specs.Said.{GotPrefix};
+ghost use Rattle.smtrw_answers.specs.Words.{asked, file_of};
+ghost use Rattle.smtrw.specs.Prepared.{Delivers, Ends, IsEarly, IsPrepared, KeepsValues, Writes};
+ghost use Rattle.smtrw.specs.Run.{IsComplete, OutFits, Promised, Quiet, ReadFits, ScriptFits, Stands, WhereAsked, WordsFit, WriteFits};
 
-use crate::lines::line_of;
-use crate::print::script;
-use crate::read::commands;
-use crate::refuse::TOO_LONG;
-use crate::rewriting::normal;
-use crate::status::{Status, Usage, Why};
-use crate::words::are_asked;
-use smt_io::{Inputs, Pieces, ReadFault, Sink, read_all, send_all, send_pieces};
+use crate::counting::counted;
+use crate::rewriting::rewritten;
+use smt_io::{Inputs, Pieces, ReadFault, Sink, read_all, send_pieces};
 use smt_lex::{Until, scan};
+use smtrw_answers::{
+    Asked, Status, TOO_LONG, WordsFault, complain, parse_words, rewriting_keeps_its_promise,
+};
 use std::alloc::Global;
-use term_table::Table;
 
-/// Does all that the program does: reads the script that the words name, rewrites it, sends it to `out`, and says on
+/// Does all that the program does: reads the script that the words name, writes to `out` what they ask for, and says on
 /// `err` what went wrong. The whole text is made before its first byte is sent.
 pub fn run<I: Inputs, O: Sink, E: Sink>(
     alloc: Global,
@@ -27,17 +29,21 @@ pub fn run<I: Inputs, O: Sink, E: Sink>(
     out: &mut O,
     err: &mut E,
 ) -> Status
-    ensures words { WordsFit (map string_bytes words.now) result }
-    ensures text { TextFits (I.text inputs.old input_name) result }
-    ensures read { ReadFits (I.faults inputs.old input_name) (I.faults inputs.new input_name) result }
+    ensures words { WordsFit (asked (map string_bytes words.now)) result }
+    ensures stands { Stands result }
+    ensures read { WhereAsked (asked (map string_bytes words.now)) (ReadFits (I.faults inputs.old) (I.faults inputs.new) result) }
     ensures write { WriteFits (O.faults out.old) (O.faults out.new) result }
-    ensures out { OutFits (O.sent out.old) (O.sent out.new) (O.flushed out.new) result }
+    ensures script { WhereAsked (asked (map string_bytes words.now)) (λ a. ScriptFits (I.text inputs.old (file_of a).word) result) }
+    ensures out { WhereAsked (asked (map string_bytes words.now)) (λ a. OutFits (I.text inputs.old (file_of a).word) (O.sent out.old) (O.sent out.new) (O.flushed out.new) result a) }
+    ensures quiet { Quiet (O.sent out.old) (O.sent out.new) result }
+    ensures promise { WhereAsked (asked (map string_bytes words.now)) (λ a. Promised (I.text inputs.old (file_of a).word) (O.sent out.old) (O.sent out.new) result a) }
+    ensures complete { WhereAsked (asked (map string_bytes words.now)) (λ a. IsComplete (I.text inputs.old (file_of a).word) (I.faults inputs.old) (I.faults inputs.new) (O.faults out.old) (O.faults out.new) result a) }
     ensures silent { result ≡ Status.Done → E.sent err.new ≡ E.sent err.old }
-    ensures prefix { GotPrefix (E.sent err.old) (E.sent err.new) (err_line result) }
-    ensures whole { Rose (E.faults err.old) (E.faults err.new) ⊎ (E.sent err.new ≡ with_bytes (E.sent err.old) (err_line result)) }
+    ensures prefix { GotPrefix (E.sent err.old) (E.sent err.new) (err_line result (map string_bytes words.now)) }
+    ensures whole { Rose (E.faults err.old) (E.faults err.new) ⊎ (E.sent err.new ≡ with_bytes (E.sent err.old) (err_line result (map string_bytes words.now))) }
 {
     let status = answer(alloc, words, inputs, out);
-    complain(err, &status);
+    complain(err, &status, words);
     status
 }
 
@@ -48,36 +54,71 @@ fn answer<I: Inputs, O: Sink>(
     inputs: &mut I,
     out: &mut O,
 ) -> Status
-    ensures words { WordsFit (map string_bytes words.now) result }
-    ensures text { TextFits (I.text inputs.old input_name) result }
-    ensures read { ReadFits (I.faults inputs.old input_name) (I.faults inputs.new input_name) result }
+    ensures words { WordsFit (asked (map string_bytes words.now)) result }
+    ensures stands { Stands result }
+    ensures read { WhereAsked (asked (map string_bytes words.now)) (ReadFits (I.faults inputs.old) (I.faults inputs.new) result) }
     ensures write { WriteFits (O.faults out.old) (O.faults out.new) result }
-    ensures out { OutFits (O.sent out.old) (O.sent out.new) (O.flushed out.new) result }
+    ensures script { WhereAsked (asked (map string_bytes words.now)) (λ a. ScriptFits (I.text inputs.old (file_of a).word) result) }
+    ensures out { WhereAsked (asked (map string_bytes words.now)) (λ a. OutFits (I.text inputs.old (file_of a).word) (O.sent out.old) (O.sent out.new) (O.flushed out.new) result a) }
+    ensures quiet { Quiet (O.sent out.old) (O.sent out.new) result }
+    ensures promise { WhereAsked (asked (map string_bytes words.now)) (λ a. Promised (I.text inputs.old (file_of a).word) (O.sent out.old) (O.sent out.new) result a) }
+    ensures complete { WhereAsked (asked (map string_bytes words.now)) (λ a. IsComplete (I.text inputs.old (file_of a).word) (I.faults inputs.old) (I.faults inputs.new) (O.faults out.old) (O.faults out.new) result a) }
 {
-    if !are_asked(words) {
-        return Status::Usage(Usage {
-            word: 0,
-            why: Why::Form,
-        });
+    match parse_words(alloc, words) {
+        Ok(asked) => carry_out(alloc, &asked, inputs, out),
+        Err(WordsFault::Usage(usage)) => Status::Usage(usage),
+        Err(WordsFault::Memory) => Status::OutOfMemory,
     }
-    match prepare(alloc, inputs) {
+}
+
+/// Does what the words ask for.
+fn carry_out<I: Inputs, O: Sink>(
+    alloc: Global,
+    asked: &Asked,
+    inputs: &mut I,
+    out: &mut O,
+) -> Status
+    ensures ends { Ends result }
+    ensures read { ReadFits (I.faults inputs.old) (I.faults inputs.new) result (asked_seen asked.now) }
+    ensures write { WriteFits (O.faults out.old) (O.faults out.new) result }
+    ensures script { ScriptFits (I.text inputs.old (file_of (asked_seen asked.now)).word) result }
+    ensures out { OutFits (I.text inputs.old (file_of (asked_seen asked.now)).word) (O.sent out.old) (O.sent out.new) (O.flushed out.new) result (asked_seen asked.now) }
+    ensures promise { Promised (I.text inputs.old (file_of (asked_seen asked.now)).word) (O.sent out.old) (O.sent out.new) result (asked_seen asked.now) }
+    ensures complete { IsComplete (I.text inputs.old (file_of (asked_seen asked.now)).word) (I.faults inputs.old) (I.faults inputs.new) (O.faults out.old) (O.faults out.new) result (asked_seen asked.now) }
+{
+    rewriting_keeps_its_promise();
+    match prepare(alloc, asked, inputs) {
         Ok(text) => deliver(out, &text),
         Err(status) => status,
     }
 }
 
 /// The whole text that is to be sent, or the status that comes before one.
-fn prepare<I: Inputs>(alloc: Global, inputs: &mut I) -> Result<Pieces, Status>
-    ensures read { IfErr result (ReadFits (I.faults inputs.old input_name) (I.faults inputs.new input_name)) }
-    ensures text { IfErr result (TextFits (I.text inputs.old input_name)) }
-    ensures readable { OnOk result (IsReadable (I.text inputs.old input_name)) }
+fn prepare<I: Inputs>(alloc: Global, asked: &Asked, inputs: &mut I) -> Result<Pieces, Status>
     ensures early { IfErr result IsEarly }
+    ensures read { IfErr result (λ s. ReadFits (I.faults inputs.old) (I.faults inputs.new) s (asked_seen asked.now)) }
+    ensures text { IsPrepared (I.text inputs.old (file_of (asked_seen asked.now)).word) (asked_seen asked.now) result }
+    ensures passes { OnOk result (KeepsValues (asked_seen asked.now)) }
 {
-    match read_all(alloc, inputs, "-") {
-        Ok(bytes) => rewrite(alloc, bytes),
-        Err(ReadFault::Failed) => Err(Status::ReadFailed { word: 4 }),
+    let file = asked.file();
+    match read_all(alloc, inputs, file.name) {
+        Ok(bytes) => written(alloc, asked, bytes),
+        Err(ReadFault::Failed) => Err(Status::ReadFailed { word: file.word }),
         Err(ReadFault::TooLong) => Err(Status::Refused(TOO_LONG)),
         Err(ReadFault::Memory) => Err(Status::OutOfMemory),
+    }
+}
+
+/// What is written of a script. The bytes are no more than may be read.
+fn written(alloc: Global, asked: &Asked, bytes: Vec<u8>) -> Result<Pieces, Status>
+    requires { vec_len bytes ≤ longest_text }
+    ensures text { Writes bytes.items (output_of (asked_seen asked.now) bytes.items) result }
+    ensures passes { OnOk result (KeepsValues (asked_seen asked.now)) }
+{
+    let forest = scan(alloc, bytes, Until::Exit)?;
+    match asked {
+        Asked::Rewrite { passes, layout, .. } => rewritten(alloc, &forest, passes, *layout),
+        Asked::Stats { .. } => counted(alloc, &forest),
     }
 }
 
@@ -90,31 +131,4 @@ fn deliver<O: Sink>(out: &mut O, text: &Pieces) -> Status
         Ok(()) => Status::Done,
         Err(_) => Status::WriteFailed,
     }
-}
-
-/// Says on the error stream what went wrong, in one line. A fault of that stream changes nothing.
-fn complain<E: Sink>(err: &mut E, status: &Status)
-    ensures silent { status.now ≡ Status.Done → E.sent err.new ≡ E.sent err.old }
-    ensures prefix { GotPrefix (E.sent err.old) (E.sent err.new) (err_line status.now) }
-    ensures whole { Rose (E.faults err.old) (E.faults err.new) ⊎ (E.sent err.new ≡ with_bytes (E.sent err.old) (err_line status.now)) }
-{
-    if let Status::Done = status {
-        return;
-    }
-    let line = line_of(status);
-    let _ = send_all(err, line.as_bytes());
-}
-
-/// The text of a script, rewritten. The bytes are no more than may be read.
-fn rewrite(alloc: Global, bytes: Vec<u8>) -> Result<Pieces, Status>
-    requires { vec_len bytes ≤ longest_text }
-    ensures formed { OnOk result (IsFormed bytes.items) }
-    ensures refused { IfErr result (FollowsOf bytes.items) }
-{
-    let forest = scan(alloc, bytes, Until::Exit)?;
-    let mut table = Table::new(alloc);
-    let commands = commands(alloc, &mut table, &forest)?;
-    let commands = normal(alloc, &mut table, commands.as_slice())?;
-    let text = script(alloc, &table, commands.as_slice())?;
-    Ok(text)
 }

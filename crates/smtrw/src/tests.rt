@@ -3,10 +3,9 @@
 ghost use Rattle.std.specs.Prelude.{◌<◌};
 
 use crate::run::run;
-use crate::status::{Refusal, Status, Usage, Why};
-use smt_io::{MemInputs, MemSink};
+use smt_io::{Inputs, MemInputs, MemSink};
+use smtrw_answers::Status;
 use std::alloc::{AllocError, Global};
-use std::fmt::Write;
 use std::process::Abort;
 use std::test::Fail;
 
@@ -14,8 +13,8 @@ mod devices;
 mod endless;
 mod large;
 
-/// The words that the program takes.
-const WORDS: [&str; 4] = ["rewrite", "--passes", "nnf", "-"];
+/// Words that ask for a rewriting.
+const WORDS: &str = "rewrite --passes nnf -";
 
 /// A script whose assertion negates an `and`.
 const NEGATED: &[u8] = b"(declare-fun a () Bool)
@@ -33,15 +32,22 @@ const NORMAL: &[u8] = b"(declare-fun a () Bool)
 (check-sat)
 ";
 
-/// Room for what a small run sends.
-const ROOM: usize = 4096;
+/// Room for what is written.
+const ROOM: usize = 16_777_216;
 
-fn words_of(alloc: Global, words: &[&str]) -> Result<Vec<String>, AllocError> {
+/// What the program answers to words with one space between them.
+fn answer<I: Inputs>(
+    alloc: Global,
+    words: &str,
+    inputs: &mut I,
+    out: &mut MemSink,
+    err: &mut MemSink,
+) -> Result<Status, AllocError> {
     let mut all = Vec::new(alloc);
-    for word in words {
+    for word in words.split(' ') {
         all.push(String::from_str(alloc, word)?)?;
     }
-    Ok(all)
+    Ok(run(alloc, all.as_slice(), inputs, out, err))
 }
 
 /// Standard input with this text, read so many bytes at a time.
@@ -53,202 +59,183 @@ fn input_of(alloc: Global, text: &[u8], step: usize) -> Result<MemInputs, AllocE
     Ok(inputs)
 }
 
-/// Runs the program on a text, and tells whether it ends so and writes these texts.
+fn number_of(digit: &str) -> u8 {
+    match digit {
+        "0" => 0,
+        "1" => 1,
+        _ => 2,
+    }
+}
+
+/// Runs the program on a script, and tells whether it ends with this number and writes these texts.
 fn gives(
     rt: &impl Abort,
     alloc: Global,
-    words: &[&str],
-    text: &[u8],
-    status: Status,
-    sent: &[u8],
-    said: &[u8],
+    words: &str,
+    script: &str,
+    number: &str,
+    sent: &str,
+    said: &str,
 ) -> Result<(), Fail> {
-    let words = words_of(alloc, words)?;
-    let mut inputs = input_of(alloc, text, 7)?;
-    let mut out = MemSink::new(alloc, 7, ROOM)?;
-    let mut err = MemSink::new(alloc, 7, ROOM)?;
-    let answer = run(alloc, words.as_slice(), &mut inputs, &mut out, &mut err);
-    assert!(rt; answer == status);
-    assert!(rt; out.bytes() == sent);
-    assert!(rt; err.bytes() == said);
+    let mut inputs = input_of(alloc, script.as_bytes(), 997)?;
+    let mut out = MemSink::new(alloc, 997, ROOM)?;
+    let mut err = MemSink::new(alloc, 997, ROOM)?;
+    let status = answer(alloc, words, &mut inputs, &mut out, &mut err)?;
+    assert!(rt; out.bytes() == sent.as_bytes());
+    assert!(rt; err.bytes() == said.as_bytes());
+    assert!(rt; status.number() == number_of(number));
     Ok(())
 }
 
-fn not_yet() -> Status {
-    Status::Refused(Refusal {
-        code: 43,
-        command: 0,
-        line: 0,
-        byte: 0,
-    })
-}
-
-#[test]
-fn a_small_script_is_normal(rt: HostRuntime) -> Result<(), Fail> {
-    gives(&rt, rt.alloc(), &WORDS, NEGATED, Status::Done, NORMAL, b"")?;
-    gives(&rt, rt.alloc(), &WORDS, b"", Status::Done, b"", b"")
-}
-
-#[test]
-fn connectives_and_constants(rt: HostRuntime) -> Result<(), Fail> {
-    let cases: [(&[u8], &[u8]); 9] = [
-        (b"true", b"true"),
-        (b"(not true)", b"false"),
-        (b"(not false)", b"true"),
-        (b"(not (not a))", b"a"),
-        (b"(not a)", b"(not a)"),
-        (b"(and a b a)", b"(and a b a)"),
-        (b"(not (and a b true))", b"(or (not a) (not b) false)"),
-        (b"(not (or a (not b)))", b"(and (not a) b)"),
-        (
-            b"(or (not (and a (not (or a b)))) b)",
-            b"(or (or (not a) (or a b)) b)",
-        ),
-    ];
-    for (term, normal) in cases {
-        let text = assertion_of(rt.alloc(), term)?;
-        let sent = assertion_of(rt.alloc(), normal)?;
-        gives(
-            &rt,
-            rt.alloc(),
-            &WORDS,
-            text.as_slice(),
-            Status::Done,
-            sent.as_slice(),
-            b"",
-        )?;
-    }
-    Ok(())
-}
-
-/// The script that declares `a` and `b` and asserts the term.
-fn assertion_of(alloc: Global, term: &[u8]) -> Result<Vec<u8>, AllocError> {
-    let mut text = Vec::from_slice(
-        alloc,
-        b"(declare-fun a () Bool)\n(declare-fun b () Bool)\n(assert ",
-    )?;
-    text.extend_from_slice(term)?;
-    text.extend_from_slice(b")\n")?;
-    Ok(text)
-}
-
-#[test]
-fn other_texts_are_refused(rt: HostRuntime) -> Result<(), Fail> {
-    let texts: [&[u8]; 16] = [
-        b"(assert a)",
-        b"(declare-fun a () Bool) (declare-fun a () Bool)",
-        b"(declare-fun and () Bool)",
-        b"(declare-fun .a () Bool)",
-        b"(declare-fun bv7 () Bool)",
-        b"(declare-fun let () Bool)",
-        b"(declare-fun a () Int)",
-        b"(declare-fun a (Bool) Bool)",
-        b"(assert (not true false))",
-        b"(assert (and true))",
-        b"(assert ())",
-        b"(assert (true))",
-        b"(assert true true)",
-        b"(assert)",
-        b"(check-sat 1)",
-        b"true",
-    ];
-    for text in texts {
-        let said = b"smtrw: script refused: 43 NotYet at command 0, line 0, byte 0\n";
-        gives(&rt, rt.alloc(), &WORDS, text, not_yet(), b"", said)?;
+/// Tries rows, with `@` between them: the status's number, the words, the script, and what goes out on both streams,
+/// with `%` between these.
+fn all_hold(rt: &impl Abort, alloc: Global, rows: &str) -> Result<(), Fail> {
+    for row in rows.split('@') {
+        let mut parts = row.split('%');
+        match (
+            parts.next(),
+            parts.next(),
+            parts.next(),
+            parts.next(),
+            parts.next(),
+        ) {
+            (Some(number), Some(words), Some(script), Some(sent), Some(said)) => {
+                gives(rt, alloc, words, script, number, sent, said)?;
+            }
+            _ => panic!(rt; "a row lacks a part"),
+        }
     }
     Ok(())
 }
 
 #[test]
-fn lexical_faults_have_their_places(rt: HostRuntime) -> Result<(), Fail> {
-    let status = Status::Refused(Refusal {
-        code: 13,
-        command: 0,
-        line: 2,
-        byte: 21,
-    });
-    let said = b"smtrw: script refused: 13 Unbalanced at command 0, line 2, byte 21\n";
-    gives(
-        &rt,
-        rt.alloc(),
-        &WORDS,
-        b"(check-sat)\n(assert a",
-        status,
-        b"",
-        said,
-    )
+fn scripts_and_words(rt: HostRuntime) -> Result<(), Fail> {
+    all_hold(&rt, rt.alloc(), ROWS)
 }
 
-#[test]
-fn other_words_are_refused(rt: HostRuntime) -> Result<(), Fail> {
-    let status = Status::Usage(Usage {
-        word: 0,
-        why: Why::Form,
-    });
-    let lists: [&[&str]; 6] = [
-        &[],
-        &["rewrite"],
-        &["rewrite", "--passes", "nnf", "x"],
-        &["rewrite", "--passes", "aig", "-"],
-        &["rewrite", "--passes", "nnf", "-", "-"],
-        &["stats", "--passes", "nnf", "-"],
-    ];
-    for list in lists {
-        gives(
-            &rt,
-            rt.alloc(),
-            list,
-            NEGATED,
-            status,
-            b"",
-            b"smtrw: usage: word 0: Form\n",
-        )?;
-    }
-    Ok(())
-}
-
-/// An assertion of so many nested lets, each over the one before twice, up to its last parenthesis.
-fn nested_lets(alloc: Global, lets: u32) -> Result<String, AllocError> {
-    let mut text = String::from_str(
-        alloc,
-        "(declare-fun p () Bool)\n(declare-fun a () Bool)\n(declare-fun b () Bool)\n(assert (let ((x1 (and (or p a) (or p b)))) ",
-    )?;
-    let mut last = 1;
-    for next in 2..=lets {
-        write!(
-            text,
-            "(let ((x{next} (and (or x{last} a) (or x{last} b)))) "
-        )?;
-        last = next;
-    }
-    write!(text, "x{last}")?;
-    for _ in 0..lets {
-        text.push(')')?;
-    }
-    Ok(text)
-}
-
-#[test]
-fn a_hundred_lets_want_their_last_parenthesis(rt: HostRuntime) -> Result<(), Fail> {
-    let text = nested_lets(rt.alloc(), 100)?;
-    let status = Status::Refused(Refusal {
-        code: 13,
-        command: 0,
-        line: 4,
-        byte: 4254,
-    });
-    let said = b"smtrw: script refused: 13 Unbalanced at command 0, line 4, byte 4254\n";
-    gives(&rt, rt.alloc(), &WORDS, text.as_bytes(), status, b"", said)?;
-    let mut whole = nested_lets(rt.alloc(), 100)?;
-    whole.push(')')?;
-    let said = b"smtrw: script refused: 43 NotYet at command 0, line 0, byte 0\n";
-    gives(
-        &rt,
-        rt.alloc(),
-        &WORDS,
-        whole.as_bytes(),
-        not_yet(),
-        b"",
-        said,
-    )
-}
+const ROWS: &str = "0%rewrite -%%%@0%rewrite --passes nnf -%(declare-fun a () Bool)
+(declare-fun b () Bool)
+(declare-fun c () Bool)
+(assert (not (and a (or b (not c)))))
+(check-sat)
+%(declare-fun a () Bool)
+(declare-fun b () Bool)
+(declare-fun c () Bool)
+(assert (or (not a) (and (not b) c)))
+(check-sat)
+%@0%rewrite -%(declare-const |let| Bool) (declare-fun |abc| () Bool) (assert (or |let| abc))%(declare-fun |let| () Bool)
+(declare-fun abc () Bool)
+(assert (or |let| abc))
+%@0%rewrite -%(declare-fun x () Int)
+(declare-fun y () Int)
+(assert (let ((x y) (y x)) (< x (+ y 1))))%(declare-fun x () Int)
+(declare-fun y () Int)
+(assert (< y (+ x 1)))
+%@0%stats -%(declare-fun x () Int)
+(declare-fun y () Int)
+(assert (let ((x y) (y x)) (< x (+ y 1))))%commands 3
+declarations 2
+assertions 1
+checks 0
+nodes 5
+%@0%rewrite -%(assert (forall ((x Bool)) (let ((y x)) (exists ((x Bool)) (xor x y)))))%(assert (forall ((x Bool)) (exists ((FV0 Bool)) (xor FV0 x))))
+%@0%rewrite -%(define-fun f ((a Bool)) Bool (exists ((x Bool)) (xor x a)))(assert (forall ((x Bool)) (f x)))%(assert (forall ((x Bool)) (exists ((FV0 Bool)) (xor FV0 x))))
+%@0%rewrite -%(declare-fun x () Int)
+(assert (< x (+ 170141183460469231731687303715884105727 1)))
+%(declare-fun x () Int)
+(assert (< x (+ 170141183460469231731687303715884105727 1)))
+%@0%rewrite -%(declare-fun x () Int)
+(assert (< x (- 170141183460469231731687303715884105727)))
+%(declare-fun x () Int)
+(assert (< x (- 170141183460469231731687303715884105727)))
+%@0%rewrite -%(declare-fun u () (_ BitVec 64))
+(declare-fun v () (_ BitVec 64))
+(assert (= (concat u v) (concat u v)))
+%(declare-fun u () (_ BitVec 64))
+(declare-fun v () (_ BitVec 64))
+(assert (= (concat u v) (concat u v)))
+%@0%rewrite --passes prenex -%(declare-fun a () Bool)
+(declare-fun b () Bool)
+(assert (and (exists ((x Bool)) (or x a)) (forall ((x Bool)) (xor x b))))
+%(declare-fun a () Bool)
+(declare-fun b () Bool)
+(assert (exists ((FV0 Bool)) (forall ((FV1 Bool)) (and (or FV0 a) (or (and FV1 (not b)) (and (not FV1) b))))))
+%@0%rewrite --passes shannon -%(declare-fun a () Bool)
+(declare-fun b () Bool)
+(assert (exists ((x Bool)) (xor x a)))
+%(declare-fun a () Bool)
+(declare-fun b () Bool)
+(assert (or (xor true a) (xor false a)))
+%@0%rewrite --passes selfsub -%(declare-fun a () Bool)
+(declare-fun b () Bool)
+(assert (exists ((x Bool)) (xor x a)))
+%(declare-fun a () Bool)
+(declare-fun b () Bool)
+(assert (xor (xor true a) a))
+%@0%rewrite --passes aig -%(declare-fun a () Bool)
+(declare-fun b () Bool)
+(assert (or a b))
+%(declare-fun a () Bool)
+(declare-fun b () Bool)
+(assert (not (and (not a) (not b))))
+%@0%stats -%(declare-fun a () Bool)
+(declare-fun b () Bool)
+(assert (or a b))
+(check-sat-assuming ((not a) b))
+%commands 4
+declarations 2
+assertions 1
+checks 1
+nodes 3
+%@1%rewrite -%(push 1)
+(pop 2)
+%%smtrw: script refused: 36 PopTooFar at command 2, line 2, byte 9
+@1%rewrite -%(declare-fun x () Int)
+(assert (< x (- 170141183460469231731687303715884105728)))
+%%smtrw: script refused: 37 NumberLimit at command 2, line 2, byte 39
+@1%rewrite -%(declare-fun u () (_ BitVec 65))
+(declare-fun v () (_ BitVec 64))
+(assert (= (concat u v) (concat u v)))
+%%smtrw: script refused: 22 WidthLimit at command 3, line 3, byte 77
+@1%rewrite -%(assert a%%smtrw: script refused: 13 Unbalanced at command 0, line 1, byte 9
+@1%rewrite -%)%%smtrw: script refused: 13 Unbalanced at command 0, line 1, byte 0
+@1%rewrite -%007%%smtrw: script refused: 11 BadToken at command 0, line 1, byte 0
+@1%rewrite -%[%%smtrw: script refused: 10 BadByte at command 0, line 1, byte 0
+@1%rewrite -%(declare-fun a () Bool)
+(check-sat-assuming (a (not (not a))))
+%%smtrw: script refused: 32 BadForm at command 2, line 2, byte 47
+@1%rewrite -%(set-option :global-declarations true)
+(push 1)
+(declare-fun p () Bool)
+(assert (not (and p p)))
+(pop 1)
+(declare-fun p () Bool)
+(check-sat)
+%%smtrw: script refused: 34 Redeclared at command 6, line 6, byte 118
+@0%rewrite -%(set-info :source |written by hand; x: |)
+(set-logic QF_BV)
+(declare-fun p () Bool)
+(declare-fun x () (_ BitVec 8))
+(declare-fun y () (_ BitVec 8))
+(assert (let ((.def_0 (ite p x y))) (let ((.def_1 (bvult .def_0 (_ bv3 8)))) .def_1)))
+(check-sat)
+(exit)
+ ]] not examined
+%(set-info :source |written by hand; x: |)
+(set-logic QF_BV)
+(declare-fun p () Bool)
+(declare-fun x () (_ BitVec 8))
+(declare-fun y () (_ BitVec 8))
+(assert (bvult (ite p x y) #x03))
+(check-sat)
+(exit)
+%@0%rewrite --passes nnf,aig --layout=dag -%(declare-fun a () Bool)(assert (not (=> a (xor a a))))%(declare-fun a () Bool)
+(assert (let ((.def_0 (not a))) (let ((.def_1 (and a .def_0))) (let ((.def_2 (not .def_1))) (let ((.def_3 (and .def_0 a))) (let ((.def_4 (not .def_3))) (let ((.def_5 (and .def_2 .def_4))) (let ((.def_6 (and a .def_5))) .def_6))))))))
+%@2%print -%%%smtrw: usage: word 1: UnknownCommand
+@2%rewrite --passes=nnf%%%smtrw: usage: word 3: Missing
+@2%rewrite --passes nnf,foo -%%%smtrw: usage: word 3: BadPass
+@2%rewrite --passes=nnf --passes=nnf -%%%smtrw: usage: word 3: Repeated
+@2%rewrite --layout wide -%%%smtrw: usage: word 3: BadValue
+@2%stats - -%%%smtrw: usage: word 3: Extra
+@2%rewrite --fast -%%%smtrw: usage: word 2: BadOption
+";

@@ -4,6 +4,7 @@
 use Rattle.std.specs.Prelude.{ℕ, nat_lt, if◌then◌else◌, List, length, Result, Ok, Err, Option, Some, None, option_map}
 use Rattle.smt_lex.specs.Lex.{Fault, bad_byte, bad_token, open_text, unbalanced}
 use Rattle.smt_terms.specs.Models.{Model}
+use Rattle.script_read.specs.declared.faults.Refusal.{Refusal}
 use Rattle.script_read.specs.Refusals.{code_of, Unaccepted, unread, refused}
 use Rattle.script_read.specs.Commands.{checks}
 use Rattle.script_read.specs.Script.{fault_place, fault}
@@ -38,10 +39,14 @@ abbrev pub refusal_of : Unaccepted → Status
 refusal_of (unread f line) = Refused (record { code = fault_code f; command = 0; line = line; byte = fault_place f })
 refusal_of (refused r) = Refused (record { code = code_of r.cause; command = r.command; line = r.line; byte = r.byte })
 
+-- of a text that has more bytes than may be read
+abbrev pub too_long : Refusal
+too_long = record { code = 2; command = 0; line = 0; byte = longest_text }
+
 abbrev pub script_end : List ℕ → Option Status
 script_end b =
     if nat_lt longest_text (length b)
-    then Some (Refused (record { code = 2; command = 0; line = 0; byte = longest_text }))
+    then Some (Refused too_long)
     else option_map refusal_of (fault b)
 
 -- ---- the check and the passes

@@ -6,5 +6,6 @@ pub mod Answers
 pub mod Outputs
 pub mod Carrying
 pub mod Endings
+pub mod Faults
 pub mod Headline
 pub mod Laws

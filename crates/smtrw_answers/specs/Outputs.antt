@@ -1,12 +1,12 @@
 -- What the commands write: a script rewritten, the numbers of a script, and the line of the demonstration.
-use Rattle.std.specs.Prelude.{◌≡◌, ℕ, zero, suc, ◌+◌, ◌*◌, ◌-◌, ◌/◌, ◌%◌, ◌^◌, Bool, true, false, nat_lt, if◌then◌else◌, List, [], ◌∷◌, ◌++◌, map, flat_map, length, count_by, codes, Result, Ok, Err}
+use Rattle.std.specs.Prelude.{◌≡◌, ℕ, zero, suc, ◌+◌, ◌*◌, ◌-◌, ◌/◌, ◌%◌, ◌^◌, Bool, true, false, nat_lt, if◌then◌else◌, List, [], ◌∷◌, ◌++◌, flat_map, length, count_by, codes, Result, Ok, Err}
 use Rattle.smt_lex.specs.Lex.{Fault}
 use Rattle.smt_lex.specs.Forms.{Forms, forms_to_exit, list as list_of_forms}
 use Rattle.smt_terms.specs.Fresh.{Supply}
-use Rattle.smt_terms.specs.Groups.{with_new}
 use Rattle.smt_terms.specs.Numeral.{numeral}
 use Rattle.smt_terms.specs.Sorts.{Name}
-use Rattle.smt_terms.specs.Term.{Term, apply, quantified, Terms, none, ◌⨾◌, variable}
+use Rattle.smt_terms.specs.Term.{Term}
+use Rattle.term_walk.specs.Subterms.{all_subterms}
 use Rattle.script_read.specs.Refusals.{Unaccepted}
 use Rattle.script_read.specs.Commands.{Command, declare, assert, checks}
 use Rattle.script_read.specs.Script.{script}
@@ -17,6 +17,7 @@ use Rattle.passes.specs.declared.names.Pass.{Pass}
 use Rattle.passes.specs.declared.names.Pass.TheVariants.{Nnf, Simplify, Cnf}
 use Rattle.passes.specs.Passed.{passed}
 use Rattle.passes.specs.Led.{Leads}
+use Rattle.smtrw_answers.specs.Words.{Asked, rewrite, stats}
 
 -- ---- a text rewritten
 
@@ -45,27 +46,12 @@ MayBeWritten b ps rules layout w =
 
 -- ---- the numbers of a script
 
--- the distinct subterms of a term, itself among them; those of a quantified term are its variables and its body
-abbrev mutual
-  pub subterms : Term → List Term
-  subterms (apply h ts) = with_new (subterms_of ts) (apply h ts ∷ [])
-  subterms (quantified q xs body) = with_new (with_new (map variable xs) (subterms body)) (quantified q xs body ∷ [])
-
-  pub subterms_of : Terms → List Term
-  subterms_of none = []
-  subterms_of (t ⨾ ts) = with_new (subterms t) (subterms_of ts)
-
 abbrev pub asserted : Command Term → List Term
 asserted (assert i t) = t ∷ []
 asserted _ = []
 
 abbrev pub assertions : List (Command Term) → List Term
 assertions cs = flat_map asserted cs
-
--- the distinct subterms of all terms
-abbrev pub all_subterms : List Term → List Term
-all_subterms [] = []
-all_subterms (t ∷ ts) = with_new (subterms t) (all_subterms ts)
 
 -- of a function or a constant
 abbrev pub is_declaration : Command Term → Bool
@@ -76,7 +62,7 @@ abbrev pub form_count : Result Forms Fault → ℕ
 form_count (Ok fs) = length (list_of_forms fs)
 form_count (Err f) = 0
 
-abbrev pub count_line : List ℕ → ℕ → List ℕ
+unfoldable pub count_line : List ℕ → ℕ → List ℕ
 count_line word n = word ++ codes " " ++ numeral n ++ codes "\n"
 
 -- the commands that were read, definitions among them; declarations; assertions; checks; and the nodes of all assertions
@@ -87,6 +73,13 @@ stats_lines b =
     ++ count_line (codes "assertions") (length (assertions (commands b)))
     ++ count_line (codes "checks") (checks (commands b))
     ++ count_line (codes "nodes") (length (all_subterms (assertions (commands b))))
+
+-- ---- what is written of a text by the commands that the program has
+
+abbrev pub output_of : Asked → List ℕ → List ℕ
+output_of (rewrite passes layout file) b = rewritten b passes layout
+output_of (stats file) b = stats_lines b
+output_of _ b = []
 
 -- ---- the demonstration: a script of so many steps, drawn from a seed
 

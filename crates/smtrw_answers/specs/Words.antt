@@ -235,6 +235,14 @@ abbrev pub asked_or_missing : ℕ → Option Asked → Result Asked Usage
 asked_or_missing i (Some a) = Ok a
 asked_or_missing i None = at i Missing
 
+-- the word that names the script
+abbrev pub file_of : Asked → Numbered
+file_of (rewrite passes layout file) = file
+file_of (translate passes check file model) = file
+file_of (extend passes check file model) = file
+file_of (stats file) = file
+file_of (demo seed size) = record { number = 0; word = [] }
+
 -- behind the last word: nothing is awaited, and there are as many words as the command takes
 abbrev pub at_end : Command → ℕ → Given → Option Setting → Result Asked Usage
 at_end c i g (Some s) = at i Missing

@@ -3,6 +3,7 @@
 
 #![tactic(auto)]
 
+mod endings;
 mod grammar;
 mod laws;
 mod lines;
@@ -10,9 +11,10 @@ mod matches;
 mod status;
 mod words;
 
+pub use endings::TOO_LONG;
 pub use laws::rewriting_keeps_its_promise;
 pub use lines::complain;
-pub use status::{Refusal, Status, Usage, Why};
+pub use status::{Status, Usage, Why};
 pub use words::{Asked, File, WordsFault, parse_words};
 
 #[cfg(test)]

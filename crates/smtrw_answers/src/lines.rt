@@ -8,9 +8,10 @@ ghost use Rattle.smt_terms.specs.Numeral.{numeral};
 ghost use Rattle.smtrw_answers.specs.Answers.{cause_name, cause_text, err_line, place_text, program_line, usage_text, word_at, word_text};
 ghost use Rattle.smtrw_answers.specs.Said.{GotPrefix};
 
-use crate::status::{Refusal, Status, Usage, Why};
+use crate::status::{Status, Usage, Why};
 use arrayvec::ArrayString;
 use itoa::Buffer;
+use script_read::Refusal;
 use smt_io::{Failed, Sink, send_all};
 
 /// Room for the longest line without the name of a file.

@@ -3,15 +3,7 @@
 ghost use Rattle.std.specs.Prelude.{◌≡◌};
 ghost use Rattle.smtrw_answers.specs.Answers.{number_of};
 
-/// A refusal of a script: the number of its cause, the command it stands in (counted from 1; 0 for the text as a whole), its
-/// line (counted from 1; 0 where the text is too long) and its byte (counted from 0).
-#[derive(Clone, Copy, Debug, PartialEq, Eq)]
-pub struct Refusal {
-    pub code: u16,
-    pub command: u64,
-    pub line: u64,
-    pub byte: u64,
-}
+use script_read::Refusal;
 
 /// What is wrong with the program's words.
 #[derive(Clone, Copy, Debug, PartialEq, Eq)]

@@ -40,6 +40,21 @@ pub enum Asked<'a> {
     },
 }
 
+impl<'a> Asked<'a> {
+    ghost use Rattle.smtrw_answers.specs.Asked.{asked_seen, numbered};
+    ghost use Rattle.smtrw_answers.specs.Words.{file_of};
+
+    /// The file of the script.
+    pub fn file(&self) -> File<'a>
+        ensures { numbered result ≡ file_of (asked_seen self.now) }
+    {
+        match self {
+            Asked::Rewrite { file, .. } => *file,
+            Asked::Stats { file } => *file,
+        }
+    }
+}
+
 /// Why the words ask for nothing.
 #[derive(Clone, Copy, Debug, PartialEq, Eq)]
 pub enum WordsFault {

@@ -2,10 +2,10 @@
 
 ghost use Rattle.std.specs.Prelude.{◌<◌};
 
-use super::{NEGATED, NORMAL, ROOM, WORDS, input_of, words_of};
-use crate::run::run;
-use crate::status::{Refusal, Status};
+use super::{NEGATED, NORMAL, ROOM, WORDS, answer, input_of};
+use script_read::Refusal;
 use smt_io::MemSink;
+use smtrw_answers::Status;
 use std::alloc::Global;
 use std::process::Abort;
 use std::test::Fail;
@@ -32,7 +32,6 @@ fn ends(
 ) -> Result<(), Fail>
     requires { 0 < step }
 {
-    let words = words_of(alloc, &WORDS)?;
     let mut inputs = input_of(alloc, NEGATED, step)?;
     let mut out = MemSink::new(alloc, step, ROOM)?;
     let mut err = MemSink::new(alloc, step, ROOM)?;
@@ -42,8 +41,8 @@ fn ends(
         Failing::Write(call) => out.fail_write(call)?,
         Failing::Flush(call) => out.fail_flush(call)?,
     }
-    let answer = run(alloc, words.as_slice(), &mut inputs, &mut out, &mut err);
-    assert!(rt; answer == status);
+    let status_is = answer(alloc, WORDS, &mut inputs, &mut out, &mut err)?;
+    assert!(rt; status_is == status);
     assert!(rt; out.bytes() == sent);
     assert!(rt; err.bytes() == said);
     Ok(())
@@ -131,19 +130,18 @@ fn failing_writes(rt: HostRuntime) -> Result<(), Fail> {
 #[test]
 fn a_failing_error_stream_changes_no_status(rt: HostRuntime) -> Result<(), Fail> {
     let alloc = rt.alloc();
-    let words = words_of(alloc, &WORDS)?;
     let mut inputs = input_of(alloc, b"[", 7)?;
     let mut out = MemSink::new(alloc, 7, ROOM)?;
     let mut err = MemSink::new(alloc, 7, ROOM)?;
     err.fail_write(2)?;
-    let answer = run(alloc, words.as_slice(), &mut inputs, &mut out, &mut err);
+    let status = answer(alloc, WORDS, &mut inputs, &mut out, &mut err)?;
     let bad_byte = Refusal {
         code: 10,
         command: 0,
         line: 1,
         byte: 0,
     };
-    assert!(rt; answer == Status::Refused(bad_byte));
+    assert!(rt; status == Status::Refused(bad_byte));
     assert!(rt; out.bytes().is_empty());
     let said: &[u8] = b"smtrw: ";
     assert!(rt; err.bytes() == said);

@@ -2,10 +2,9 @@
 
 ghost use Rattle.std.specs.Prelude.{◌≡◌, ℕ, List, None, Some, Option, option_map};
 
-use super::{ROOM, WORDS, words_of};
-use crate::run::run;
-use crate::status::{Refusal, Status};
+use super::{ROOM, WORDS, answer};
 use smt_io::{Failed, Inputs, MemSink, StartFault};
+use smtrw_answers::{Status, TOO_LONG};
 use std::alloc::Global;
 use std::test::Fail;
 
@@ -53,21 +52,14 @@ impl Inputs for Endless {
 #[test]
 fn an_endless_input_is_too_long(rt: HostRuntime) -> Result<(), Fail> {
     let alloc = rt.alloc();
-    let words = words_of(alloc, &WORDS)?;
     let mut inputs = Endless {
         name: None,
         given: 0,
     };
     let mut out = MemSink::new(alloc, 7, ROOM)?;
     let mut err = MemSink::new(alloc, 7, ROOM)?;
-    let status = run(alloc, words.as_slice(), &mut inputs, &mut out, &mut err);
-    let too_long = Refusal {
-        code: 2,
-        command: 0,
-        line: 0,
-        byte: 67_108_864,
-    };
-    assert_eq!(rt; status, Status::Refused(too_long));
+    let status = answer(alloc, WORDS, &mut inputs, &mut out, &mut err)?;
+    assert_eq!(rt; status, Status::Refused(TOO_LONG));
     let said: &[u8] = b"smtrw: script refused: 2 TooLong at command 0, line 0, byte 67108864\n";
     assert!(rt; err.bytes() == said);
     assert!(rt; out.bytes().is_empty());

@@ -1,92 +1,209 @@
-//! Texts of a megabyte and more.
+//! Large scripts.
 
-use super::{WORDS, input_of, words_of};
-use crate::run::run;
-use crate::status::Status;
+use super::{ROOM, answer, input_of};
 use smt_io::MemSink;
 use std::alloc::{AllocError, Global};
+use std::fmt::Write;
+use std::process::Abort;
 use std::test::Fail;
 
-/// Room for what a large run sends.
-const ROOM: usize = 16_777_216;
-
-/// How a text of this kind ends.
-fn status_of(alloc: Global, text: &[u8]) -> Result<Status, AllocError> {
-    let words = words_of(alloc, &WORDS)?;
-    let mut inputs = input_of(alloc, text, 65_536)?;
+/// Runs the program on a script, and tells whether it ends with this number, writes at most so many bytes, and says this.
+fn ends(
+    rt: &impl Abort,
+    alloc: Global,
+    words: &str,
+    script: &str,
+    number: u8,
+    most: usize,
+    said: &str,
+) -> Result<(), Fail> {
+    let mut inputs = input_of(alloc, script.as_bytes(), 65_536)?;
     let mut out = MemSink::new(alloc, 65_536, ROOM)?;
-    let mut err = MemSink::new(alloc, 65_536, 4096)?;
-    Ok(run(alloc, words.as_slice(), &mut inputs, &mut out, &mut err))
-}
-
-/// A text that begins with the declarations of `p`, `a` and `b`.
-fn declared(alloc: Global) -> Result<Vec<u8>, AllocError> {
-    Vec::from_slice(
-        alloc,
-        b"(declare-fun p () Bool) (declare-fun a () Bool) (declare-fun b () Bool)\n",
-    )
+    let mut err = MemSink::new(alloc, 65_536, ROOM)?;
+    let status = answer(alloc, words, &mut inputs, &mut out, &mut err)?;
+    assert!(rt; status.number() == number);
+    assert!(rt; out.bytes().len() <= most);
+    assert!(rt; err.bytes() == said.as_bytes());
+    Ok(())
 }
 
 /// Appends a part so many times.
-fn repeat(text: &mut Vec<u8>, part: &[u8], times: u32) -> Result<(), AllocError> {
+fn repeat(text: &mut String, part: &str, times: u32) -> Result<(), AllocError> {
     for _ in 0..times {
-        text.extend_from_slice(part)?;
+        text.push_str(part)?;
     }
     Ok(())
 }
 
+/// A script that begins and ends so, with two parts so many times each around what stands within.
+fn nested(
+    alloc: Global,
+    begin: &str,
+    open: &str,
+    times: u32,
+    within: &str,
+    close: &str,
+    end: &str,
+) -> Result<String, AllocError> {
+    let mut text = String::from_str(alloc, begin)?;
+    repeat(&mut text, open, times)?;
+    text.push_str(within)?;
+    repeat(&mut text, close, times)?;
+    text.push_str(end)?;
+    Ok(text)
+}
+
+const DECLARED: &str = "(declare-fun a () Bool)(assert ";
+
 #[test]
-fn ten_thousand_assertions(rt: HostRuntime) -> Result<(), Fail> {
-    let mut text = declared(rt.alloc())?;
-    let part =
-        b"(assert (not (and p (or a (not b)) (not (and a b p)) (or p p a b a b p) (not (or p (not p) a (not a) b (not b))))))\n";
-    repeat(&mut text, part, 10_000)?;
-    assert_eq!(rt; status_of(rt.alloc(), text.as_slice())?, Status::Done);
-    Ok(())
+fn a_million_negations(rt: HostRuntime) -> Result<(), Fail> {
+    let script = nested(rt.alloc(), DECLARED, "(not ", 1_000_000, "a", ")", ")")?;
+    ends(
+        &rt,
+        rt.alloc(),
+        "rewrite --passes=nnf -",
+        script.as_str(),
+        0,
+        40,
+        "",
+    )?;
+    ends(
+        &rt,
+        rt.alloc(),
+        "rewrite -",
+        script.as_str(),
+        0,
+        6_000_040,
+        "",
+    )
 }
 
 #[test]
-fn a_hundred_thousand_operands(rt: HostRuntime) -> Result<(), Fail> {
-    let mut text = declared(rt.alloc())?;
-    text.extend_from_slice(b"(assert (not (and")?;
-    repeat(&mut text, b" p a (not b)", 100_000)?;
-    text.extend_from_slice(b")))\n")?;
-    assert_eq!(rt; status_of(rt.alloc(), text.as_slice())?, Status::Done);
-    Ok(())
+fn lets_and_sorts_are_nested_deep(rt: HostRuntime) -> Result<(), Fail> {
+    let script = nested(
+        rt.alloc(),
+        DECLARED,
+        "(let ((a (not a))) ",
+        100_000,
+        "a",
+        ")",
+        ")",
+    )?;
+    ends(
+        &rt,
+        rt.alloc(),
+        "rewrite -",
+        script.as_str(),
+        0,
+        600_040,
+        "",
+    )?;
+    let script = nested(
+        rt.alloc(),
+        "(declare-fun f () ",
+        "(Array Int ",
+        1000,
+        "Int",
+        ")",
+        ")",
+    )?;
+    ends(&rt, rt.alloc(), "rewrite -", script.as_str(), 0, 12_040, "")
 }
 
-/// `(and (or X a) (or X b))` over the last text, written out.
-fn paired(alloc: Global, last: &[u8]) -> Result<Vec<u8>, AllocError> {
-    let mut text = Vec::from_slice(alloc, b"(and (or ")?;
-    text.extend_from_slice(last)?;
-    text.extend_from_slice(b" a) (or ")?;
-    text.extend_from_slice(last)?;
-    text.extend_from_slice(b" b))")?;
+#[test]
+fn a_million_operands(rt: HostRuntime) -> Result<(), Fail> {
+    let script = nested(rt.alloc(), DECLARED, "", 0, "(and", "", "")?;
+    let script = nested(rt.alloc(), script.as_str(), " a", 1_000_000, "))", "", "")?;
+    ends(
+        &rt,
+        rt.alloc(),
+        "rewrite -",
+        script.as_str(),
+        0,
+        2_000_050,
+        "",
+    )
+}
+
+#[test]
+fn numbers_have_limits(rt: HostRuntime) -> Result<(), Fail> {
+    ends(&rt, rt.alloc(), "rewrite -", "(push 1000000)", 0, 15, "")?;
+    let said = "smtrw: script refused: 37 NumberLimit at command 1, line 1, byte 6\n";
+    ends(&rt, rt.alloc(), "rewrite -", "(push 1000001)", 1, 0, said)?;
+    let script = nested(
+        rt.alloc(),
+        "(declare-fun x () Int)(assert (< x ",
+        "9",
+        1_000_000,
+        "",
+        "",
+        "))",
+    )?;
+    let said = "smtrw: script refused: 37 NumberLimit at command 2, line 1, byte 35\n";
+    ends(&rt, rt.alloc(), "rewrite -", script.as_str(), 1, 0, said)?;
+    let script = nested(
+        rt.alloc(),
+        "(assert (= #xf #x",
+        "f",
+        1_000_000,
+        "",
+        "",
+        "))",
+    )?;
+    let said = "smtrw: script refused: 22 WidthLimit at command 1, line 1, byte 15\n";
+    ends(&rt, rt.alloc(), "rewrite -", script.as_str(), 1, 0, said)
+}
+
+/// A script with a `let` of so many names.
+fn wide_let(alloc: Global, names: u32) -> Result<String, AllocError> {
+    let mut text = String::from_str(alloc, "(declare-fun a () Bool)(assert (let (")?;
+    for i in 0..names {
+        write!(text, "(x{i} a)")?;
+    }
+    text.push_str(") x7))")?;
+    Ok(text)
+}
+
+/// A script with so many nested lets, each over the one before twice, up to its last parenthesis.
+fn nested_lets(alloc: Global, lets: u32) -> Result<String, AllocError> {
+    let mut text = String::from_str(
+        alloc,
+        "(declare-fun p () Bool)\n(declare-fun a () Bool)\n(declare-fun b () Bool)\n(assert (let ((x1 (and (or p a) (or p b)))) ",
+    )?;
+    let mut last = 1;
+    for next in 2..=lets {
+        write!(
+            text,
+            "(let ((x{next} (and (or x{last} a) (or x{last} b)))) "
+        )?;
+        last = next;
+    }
+    write!(text, "x{last}")?;
+    repeat(&mut text, ")", lets)?;
     Ok(text)
 }
 
 #[test]
-fn pairs_twelve_deep(rt: HostRuntime) -> Result<(), Fail> {
-    let mut term = Vec::from_slice(rt.alloc(), b"p")?;
-    for _ in 0..12 {
-        term = paired(rt.alloc(), term.as_slice())?;
-    }
-    let mut text = declared(rt.alloc())?;
-    text.extend_from_slice(b"(assert (not ")?;
-    text.extend_from_slice(term.as_slice())?;
-    text.extend_from_slice(b"))\n")?;
-    assert_eq!(rt; status_of(rt.alloc(), text.as_slice())?, Status::Done);
-    Ok(())
+fn names_and_shared_terms(rt: HostRuntime) -> Result<(), Fail> {
+    let script = wide_let(rt.alloc(), 200_000)?;
+    ends(&rt, rt.alloc(), "rewrite -", script.as_str(), 0, 40, "")?;
+    let mut script = nested_lets(rt.alloc(), 100)?;
+    let said = "smtrw: script refused: 13 Unbalanced at command 0, line 4, byte 4254\n";
+    ends(&rt, rt.alloc(), "rewrite -", script.as_str(), 1, 0, said)?;
+    script.push(')')?;
+    ends(
+        &rt,
+        rt.alloc(),
+        "rewrite --passes=nnf --layout=dag -",
+        script.as_str(),
+        0,
+        12_000,
+        "",
+    )
 }
 
 #[test]
-fn a_million_negations(rt: HostRuntime) -> Result<(), Fail> {
-    let mut text = declared(rt.alloc())?;
-    text.extend_from_slice(b"(assert ")?;
-    repeat(&mut text, b"(not ", 1_000_000)?;
-    text.extend_from_slice(b"a")?;
-    repeat(&mut text, b")", 1_000_000)?;
-    text.extend_from_slice(b")\n")?;
-    assert_eq!(rt; status_of(rt.alloc(), text.as_slice())?, Status::Done);
-    Ok(())
+fn the_longest_script_is_read(rt: HostRuntime) -> Result<(), Fail> {
+    let script = nested(rt.alloc(), "", "        ", 8_388_608, "", "", "")?;
+    ends(&rt, rt.alloc(), "rewrite -", script.as_str(), 0, 0, "")
 }

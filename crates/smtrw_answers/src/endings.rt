@@ -1,0 +1,74 @@
+//! The statuses that end a run before anything is written, by what was met on the way.
+
+ghost use Rattle.std.specs.Prelude.{◌≡◌};
+ghost use Rattle.smtrw_answers.specs.Endings.{too_long};
+ghost use Rattle.smtrw_answers.specs.Faults.{status_of_lexing, status_of_reading};
+ghost use Rattle.smtrw_answers.specs.declared.status.Status.TheVariants.{OutOfMemory};
+
+use crate::status::Status;
+use passes::PassFault;
+use script_read::{Refusal, ScriptFault};
+use smt_lex::LexFault;
+use std::alloc::AllocError;
+
+/// The refusal of a script that has more than 67,108,864 bytes.
+pub const TOO_LONG: Refusal = Refusal {
+    code: 2,
+    command: 0,
+    line: 0,
+    byte: 67_108_864,
+};
+
+fn lexical(code: u16, place: u32, line: u64) -> Status
+    ensures { result ≡ Status.Refused (record { code = code; command = 0; line = line; byte = place }) }
+{
+    Status::Refused(Refusal {
+        code,
+        command: 0,
+        line,
+        byte: u64::from(place),
+    })
+}
+
+impl From<LexFault> for Status {
+    ghost from_gives = { λ fault status. status ≡ status_of_lexing fault };
+
+    fn from(fault: LexFault) -> Status {
+        match fault {
+            LexFault::BadByte { place, line } => lexical(10, place, line),
+            LexFault::BadToken { place, line } => lexical(11, place, line),
+            LexFault::OpenText { place, line } => lexical(12, place, line),
+            LexFault::Unbalanced { place, line } => lexical(13, place, line),
+            LexFault::Memory => Status::OutOfMemory,
+        }
+    }
+}
+
+impl From<ScriptFault> for Status {
+    ghost from_gives = { λ fault status. status ≡ status_of_reading fault };
+
+    fn from(fault: ScriptFault) -> Status {
+        match fault {
+            ScriptFault::Refused(refusal) => Status::Refused(refusal),
+            ScriptFault::Memory => Status::OutOfMemory,
+        }
+    }
+}
+
+impl From<PassFault> for Status {
+    ghost from_gives = { λ _ status. status ≡ OutOfMemory };
+
+    fn from(fault: PassFault) -> Status {
+        match fault {
+            PassFault::Memory => Status::OutOfMemory,
+        }
+    }
+}
+
+impl From<AllocError> for Status {
+    ghost from_gives = { λ _ status. status ≡ OutOfMemory };
+
+    fn from(_error: AllocError) -> Status {
+        Status::OutOfMemory
+    }
+}
