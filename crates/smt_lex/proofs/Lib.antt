@@ -8,5 +8,7 @@ mod Outcomes
 pub mod Printing
 mod Putting
 pub mod Rereading
+mod ReservedWords
 mod Rows
 pub mod Stepping
+mod Words

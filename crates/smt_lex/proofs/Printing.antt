@@ -35,7 +35,7 @@ other_byte test b c passes fails = elim (eqb_tells b c) [ inl same ↦ absurd (c
 not_blank : (b : ℕ) → is_run_byte b ≡ true → is_blank b ≡ false
 not_blank b runs = rw (other_byte is_run_byte b 9 runs refl, other_byte is_run_byte b 10 runs refl, other_byte is_run_byte b 13 runs refl, other_byte is_run_byte b 32 runs refl) refl
 
-run_byte : (b : ℕ) → is_symbol_byte b ≡ true → is_run_byte b ≡ true
+pub run_byte : (b : ℕ) → is_symbol_byte b ≡ true → is_run_byte b ≡ true
 run_byte b symbol = rw symbol refl
 
 pub front_run : (b : ℕ) (bs : List ℕ) → is_run_byte b ≡ true → front (b ∷ bs) ≡ run_front (b ∷ bs)
@@ -50,7 +50,7 @@ front_run b bs runs =
       runs,
     ) refl
 
-run_is : (xs : List ℕ) (n : ℕ) (item : Item) → length_while is_run_byte xs ≡ n → run_item (take n xs) ≡ Some item → run_front xs ≡ Lexeme item n
+pub run_is : (xs : List ℕ) (n : ℕ) (item : Item) → length_while is_run_byte xs ≡ n → run_item (take n xs) ≡ Some item → run_front xs ≡ Lexeme item n
 run_is xs n item long is = ap (λ n. run_by (run_item (take n xs)) n) long ∙ ap (λ o. run_by o n) is
 
 -- a run is one token where it doesn't go on

@@ -73,14 +73,14 @@ literal_lexeme bs m is = record {
 }
 
 -- the bytes before the first that fails pass
-all_while : (test : ℕ → Bool) (bs : List ℕ) → list_all test (take (length_while test bs) bs) ≡ true
+pub all_while : (test : ℕ → Bool) (bs : List ℕ) → list_all test (take (length_while test bs) bs) ≡ true
 all_while test [] = refl
 all_while test (b ∷ bs) = elim (tell (test b)) [
   | inl passes ↦ rw passes (rw passes (all_while test bs))
   | inr fails ↦ rw fails refl
 ]
 
-while_within : (test : ℕ → Bool) (bs : List ℕ) → length_while test bs ≤ length bs
+pub while_within : (test : ℕ → Bool) (bs : List ℕ) → length_while test bs ≤ length bs
 while_within test [] = omega arith
 while_within test (b ∷ bs) = elim (tell (test b)) [
   | inl passes ↦ let further = while_within test bs in rw passes (omega (arith, further))

@@ -5,3 +5,4 @@ pub mod Forms
 pub mod FormText
 pub mod Forest
 pub mod Building
+pub mod ReservedWords

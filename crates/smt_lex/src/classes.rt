@@ -2,45 +2,24 @@
 
 ghost use Rattle.std.specs.Prelude.{◌≡◌, ◌≤◌, ◌==◌, length, not};
 ghost use Rattle.std.specs.Char.{is_ascii_digit};
-ghost use Rattle.smt_lex.specs.Lexicon.{is_blank, is_symbol_byte, is_symbol_mark, is_run_byte, is_line_end, length_while};
+ghost use Rattle.smt_lex.specs.Lexicon.{is_symbol_byte, is_run_byte, is_line_end, length_while};
 
-/// White space.
-pub(crate) fn is_blank(byte: u8) -> bool
-    ensures { result ≡ is_blank byte }
-{
-    matches!(byte, b'\t' | b'\n' | b'\r' | b' ')
-}
+// In the place of each byte that a simple symbol may contain stands the byte itself, elsewhere `,`.
+static SYMBOL_BYTES: [u8; 256] = *b"\
+    ,,,,,,,,,,,,,,,,,,,,,,,,,,,,,,,,\
+    ,!,,$%&,,,*+,-./0123456789,,<=>?\
+    @ABCDEFGHIJKLMNOPQRSTUVWXYZ,,,^_\
+    ,abcdefghijklmnopqrstuvwxyz,,,~,\
+    ,,,,,,,,,,,,,,,,,,,,,,,,,,,,,,,,\
+    ,,,,,,,,,,,,,,,,,,,,,,,,,,,,,,,,\
+    ,,,,,,,,,,,,,,,,,,,,,,,,,,,,,,,,\
+    ,,,,,,,,,,,,,,,,,,,,,,,,,,,,,,,,";
 
-/// A byte that a simple symbol may contain.
+/// A byte that a simple symbol may contain: a letter, a digit or one of `~!@$%^&*_-+=<>.?/`.
 pub(crate) fn is_symbol_byte(byte: u8) -> bool
     ensures { result ≡ is_symbol_byte byte }
 {
-    byte.is_ascii_alphanumeric() || is_symbol_mark(byte)
-}
-
-// A byte of a symbol that is no letter and no digit.
-fn is_symbol_mark(byte: u8) -> bool
-    ensures { result ≡ is_symbol_mark byte }
-{
-    matches!(
-        byte,
-        b'~' | b'!'
-            | b'@'
-            | b'$'
-            | b'%'
-            | b'^'
-            | b'&'
-            | b'*'
-            | b'_'
-            | b'-'
-            | b'+'
-            | b'='
-            | b'<'
-            | b'>'
-            | b'.'
-            | b'?'
-            | b'/'
-    )
+    SYMBOL_BYTES[byte as usize] != b','
 }
 
 /// A byte of a run: of a symbol, `:` or `#`.
@@ -48,6 +27,19 @@ pub(crate) fn is_run_byte(byte: u8) -> bool
     ensures { result ≡ is_run_byte byte }
 {
     is_symbol_byte(byte) || byte == b':' || byte == b'#'
+}
+
+/// How many symbol bytes the text begins with.
+pub(crate) fn symbol_length(text: &[u8]) -> usize
+    ensures within { result ≤ length text.now }
+    ensures longest { result ≡ length_while is_symbol_byte text.now }
+{
+    for (i, byte) in text.iter().enumerate() {
+        if !is_symbol_byte(*byte) {
+            return i;
+        }
+    }
+    text.len()
 }
 
 /// How many bytes of a run the text begins with.

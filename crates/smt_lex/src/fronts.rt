@@ -1,10 +1,12 @@
 // What a text begins with.
 
-ghost use Rattle.std.specs.Prelude.{◌≡◌, ◌+◌, ◌<◌, ◌≤◌, length, IfSome};
+ghost use Rattle.std.specs.Prelude.{◌≡◌, ◌+◌, ◌<◌, ◌≤◌, ◌||◌, ◌==◌, true, false, length, IfSome};
+ghost use Rattle.std.specs.Char.{is_ascii_digit};
+ghost use Rattle.smt_lex.specs.Lexicon.{colon, hash, is_symbol_byte, starts_as};
 ghost use Rattle.smt_lex.specs.Lex.{front, run_front, literal_front, literal_length, quoted_front};
 ghost use Rattle.smt_lex.specs.Building.{FitsIn};
 
-use crate::classes::{is_blank, is_run_byte, length_until, line_length, run_length};
+use crate::classes::{is_run_byte, is_symbol_byte, length_until, line_length, run_length, symbol_length};
 use crate::items::Item;
 use crate::runs::run_item;
 
@@ -35,10 +37,32 @@ pub(crate) fn front_of(text: &[u8]) -> Front
         b';' => Front::Gap(1 + line_length(&text[1..])),
         b'"' => literal_front(&text[1..]),
         b'|' => quoted_front(&text[1..]),
-        byte if is_blank(byte) => Front::Gap(1),
-        byte if is_run_byte(byte) => run_front(text),
+        b'\t' | b'\n' | b'\r' | b' ' => Front::Gap(1),
+        byte if begins_other_run(byte) => run_front(text),
+        byte if is_symbol_byte(byte) => word_front(text),
         _ => Front::BadByte(0),
     }
+}
+
+// A byte that begins a run which is no word.
+fn begins_other_run(byte: u8) -> bool
+    ensures { result ≡ (is_ascii_digit byte || byte == colon || byte == hash) }
+{
+    matches!(byte, b'0'..=b'9' | b':' | b'#')
+}
+
+// What the run is that the text begins with, where its first byte is one that a word may begin with.
+fn word_front(text: &[u8]) -> Front
+    requires symbol { starts_as is_symbol_byte text.now ≡ true }
+    requires letter { starts_as is_ascii_digit text.now ≡ false }
+    ensures within { FitsIn (length text.now) result }
+    ensures value { result ≡ run_front text.now }
+{
+    let length = symbol_length(text);
+    if length < text.len() && is_run_byte(text[length]) {
+        return Front::BadToken;
+    }
+    Front::Lexeme(Item::Word, length)
 }
 
 // What the run is that the text begins with.

@@ -1,8 +1,9 @@
-// How symbols are printed.
+// Reserved words, and how symbols are printed.
 
 ghost use Rattle.std.specs.Prelude.{◌≡◌, [], ◌∷◌, ◌++◌, map, IfOk, OnOk, OnErr};
 ghost use Rattle.smt_lex.specs.Lexicon.{bar};
 ghost use Rattle.smt_lex.specs.Names.{is_among, is_syntax_word, is_command_word, is_reserved, is_simple, IsName, printed_symbol};
+ghost use Rattle.smt_lex.specs.ReservedWords.{is_reserved_start, begins_like_reserved};
 ghost use Rattle.smt_lex.specs.Lex.{IsOneSymbol};
 
 use crate::runs::is_word;
@@ -64,20 +65,58 @@ fn is_simple(name: &[u8]) -> bool
     is_word(name) && !is_reserved(name)
 }
 
-// Whether the word belongs to the syntax or names a command.
-fn is_reserved(word: &[u8]) -> bool
+/// Whether the word belongs to the syntax or names a command.
+pub fn is_reserved(word: &[u8]) -> bool
     ensures { result ≡ is_reserved word.now }
 {
-    is_syntax_word(word) || is_command_word(word)
+    begins_like_reserved(word) && (is_syntax_word(word) || is_command_word(word))
 }
 
+// Whether a reserved word begins like this one: most symbols of a script don't, and need no look at the lists.
+fn begins_like_reserved(word: &[u8]) -> bool
+    ensures { result ≡ begins_like_reserved word.now }
+{
+    match word {
+        [first, ..] => is_reserved_start(*first),
+        [] => false,
+    }
+}
+
+// Whether a reserved word begins with the byte.
+fn is_reserved_start(byte: u8) -> bool
+    ensures { result ≡ is_reserved_start byte }
+{
+    matches!(
+        byte,
+        b'!' | b'_'
+            | b'B'
+            | b'D'
+            | b'H'
+            | b'N'
+            | b'S'
+            | b'a'
+            | b'c'
+            | b'd'
+            | b'e'
+            | b'f'
+            | b'g'
+            | b'l'
+            | b'm'
+            | b'p'
+            | b'r'
+            | b's'
+    )
+}
+
+// Whether the word belongs to the syntax.
 fn is_syntax_word(word: &[u8]) -> bool
     ensures { result ≡ is_syntax_word word.now }
 {
     is_among(&SYNTAX_WORDS, word)
 }
 
-fn is_command_word(word: &[u8]) -> bool
+/// Whether the word names a command.
+pub fn is_command_word(word: &[u8]) -> bool
     ensures { result ≡ is_command_word word.now }
 {
     is_among(&COMMAND_WORDS, word)

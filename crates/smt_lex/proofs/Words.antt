@@ -1,0 +1,84 @@
+-- The run of a text that begins as a word does.
+use Rattle.std.proofs.Common.{◌≡◌, ℕ, suc, ◌<◌, inl, inr, Bool, true, false, eqb, get_or, Some, None, List, [], ◌∷◌, length, take, refl, ap, sym, ◌∙◌, subst, arith}
+use Rattle.std.specs.List.{list_all}
+use Rattle.std.specs.Char.{is_ascii_digit}
+use Rattle.std.proofs.lemmas.Bool.{ne_eqb}
+use Rattle.std.proofs.Math.Dec.{eqb-suc-zero}
+use Rattle.smt_lex.proofs.Choices.{tell}
+use Rattle.smt_lex.specs.declared.items.Item.TheVariants.{Word}
+use Rattle.smt_lex.specs.declared.fronts.Front.TheVariants.{Lexeme, BadToken}
+use Rattle.smt_lex.specs.Lexicon.{is_symbol_byte, is_run_byte, is_word, is_numeral, is_keyword, is_decimal, is_hexadecimal, is_binary, starts_as, length_while, run_item}
+use Rattle.smt_lex.specs.Lex.{front, run_front, run_by}
+use Rattle.smt_lex.proofs.Printing.{front_run, run_is, run_byte}
+use Rattle.smt_lex.proofs.Rereading.{all_while}
+
+-- two tests, the second of which all bytes pass that pass the first
+module _ (p q : ℕ → Bool) (weaker : (b : ℕ) → p b ≡ true → q b ≡ true) where
+  while_same : (bs : List ℕ) → (length_while p bs < length bs → q (get_or bs (length_while p bs) 0) ≡ false) → length_while q bs ≡ length_while p bs
+  while_same [] ends = refl
+  while_same (b ∷ bs) ends = elim (tell (p b)) [
+    | inl passes ↦
+        let ends_later : suc (length_while p bs) < suc (length bs) → q (get_or bs (length_while p bs) 0) ≡ false = rw passes at ends in
+        rw (passes, weaker b passes) (ap suc (while_same bs (λ more. ends_later (omega arith))))
+    | inr fails ↦
+        let ends_here : 0 < suc (length bs) → q b ≡ false = rw fails at ends in
+        rw (fails, ends_here (omega arith)) refl
+  ]
+
+  while_longer : (bs : List ℕ) → length_while p bs < length bs → q (get_or bs (length_while p bs) 0) ≡ true → list_all p (take (length_while q bs) bs) ≡ false
+  while_longer [] within goes = absurd (omega arith)
+  while_longer (b ∷ bs) within goes = elim (tell (p b)) [
+    | inl passes ↦
+        let goes_later : q (get_or bs (length_while p bs) 0) ≡ true = rw passes at goes in
+        let within_later : suc (length_while p bs) < suc (length bs) = rw passes at within in
+        rw (weaker b passes) (rw passes (while_longer bs (omega arith) goes_later))
+    | inr fails ↦
+        let goes_here : q b ≡ true = rw fails at goes in
+        rw goes_here (rw fails refl)
+  ]
+
+word_item : (b : ℕ) (bs : List ℕ) → is_ascii_digit b ≡ false → list_all is_symbol_byte (b ∷ bs) ≡ true → run_item (b ∷ bs) ≡ Some Word
+word_item b bs letter all =
+    let is : is_word (b ∷ bs) ≡ true = rw (all, letter, eqb-suc-zero (length bs)) refl in
+    rw is refl
+
+byte_differs : (c b : ℕ) → is_symbol_byte c ≡ false → is_symbol_byte b ≡ true → eqb c b ≡ false
+byte_differs c b other symbol = ne_eqb c b (λ same. absurd (cc (other, symbol, ap is_symbol_byte same)))
+
+no_item : (b : ℕ) (bs : List ℕ) → is_symbol_byte b ≡ true → is_ascii_digit b ≡ false → list_all is_symbol_byte (b ∷ bs) ≡ false → run_item (b ∷ bs) ≡ None
+no_item b bs symbol letter other =
+    let no_colon : eqb 58 b ≡ false = byte_differs 58 b refl symbol in
+    let no_hash : eqb 35 b ≡ false = byte_differs 35 b refl symbol in
+    let no_word : is_word (b ∷ bs) ≡ false = rw (other, letter) refl in
+    let no_numeral : is_numeral (b ∷ bs) ≡ false = rw letter refl in
+    let no_keyword : is_keyword (b ∷ bs) ≡ false = rw no_colon refl in
+    let no_decimal : is_decimal (b ∷ bs) ≡ false = rw letter refl in
+    let no_hexadecimal : is_hexadecimal (b ∷ bs) ≡ false = rw no_hash refl in
+    let no_binary : is_binary (b ∷ bs) ≡ false = rw no_hash refl in
+    rw (no_word, no_numeral, no_keyword, no_decimal, no_hexadecimal, no_binary) refl
+
+-- the run is a word where its symbol bytes are all of it, and else no token
+pub word_run : (text : List ℕ) → starts_as is_symbol_byte text ≡ true → starts_as is_ascii_digit text ≡ false
+    → (length_while is_symbol_byte text < length text → is_run_byte (get_or text (length_while is_symbol_byte text) 0) ≡ false) → run_front text ≡ Lexeme Word (length_while is_symbol_byte text)
+word_run [] symbol letter ends = absurd (cc)
+word_run (b ∷ bs) symbol letter ends =
+    let all : list_all is_symbol_byte (take (length_while is_symbol_byte (b ∷ bs)) (b ∷ bs)) ≡ true = all_while is_symbol_byte (b ∷ bs) in
+    let long : length_while is_symbol_byte (b ∷ bs) ≡ suc (length_while is_symbol_byte bs) = rw symbol refl in
+    let all_of : list_all is_symbol_byte (b ∷ take (length_while is_symbol_byte bs) bs) ≡ true = subst (λ n. list_all is_symbol_byte (take n (b ∷ bs)) ≡ true) long all in
+    run_is (b ∷ bs) (length_while is_symbol_byte (b ∷ bs)) Word (while_same is_symbol_byte is_run_byte run_byte (b ∷ bs) ends)
+    (ap (λ n. run_item (take n (b ∷ bs))) long ∙ word_item b (take (length_while is_symbol_byte bs) bs) letter all_of)
+
+pub word_fails : (text : List ℕ) → starts_as is_symbol_byte text ≡ true → starts_as is_ascii_digit text ≡ false
+    → length_while is_symbol_byte text < length text → is_run_byte (get_or text (length_while is_symbol_byte text) 0) ≡ true → run_front text ≡ BadToken
+word_fails [] symbol letter within goes = absurd (cc)
+word_fails (b ∷ bs) symbol letter within goes =
+    let long : length_while is_run_byte (b ∷ bs) ≡ suc (length_while is_run_byte bs) = rw (run_byte b symbol) refl in
+    let other : list_all is_symbol_byte (b ∷ take (length_while is_run_byte bs) bs) ≡ false =
+    subst (λ n. list_all is_symbol_byte (take n (b ∷ bs)) ≡ false) long (while_longer is_symbol_byte is_run_byte run_byte (b ∷ bs) within goes) in
+    ap (λ n. run_by (run_item (take n (b ∷ bs))) n) long
+    ∙ ap (λ o. run_by o (suc (length_while is_run_byte bs))) (no_item b (take (length_while is_run_byte bs) bs) symbol letter other)
+
+-- a text that begins with a byte of runs
+pub front_is_run : (text : List ℕ) → 0 < length text → is_run_byte (get_or text 0 0) ≡ true → run_front text ≡ front text
+front_is_run [] some runs = absurd (omega arith)
+front_is_run (b ∷ bs) some runs = sym (front_run b bs runs)
