@@ -1,12 +1,12 @@
 // The tokens of a text, as far as it was examined.
 
-ghost use Rattle.std.specs.Prelude.{◌≡◌, ◌≢◌, ◌&&◌, ◌==◌, ◌<◌, ◌≤◌, ◌+◌, ◌^◌, [], length, IfOk, OnOk, IfErr, vec_len};
+ghost use Rattle.std.specs.Prelude.{◌≡◌, ◌≢◌, ◌==◌, ◌<◌, ◌≤◌, ◌+◌, ◌^◌, [], length, IfOk, OnOk, IfErr, vec_len};
 ghost use Rattle.smt_lex.specs.Lex.{Lexed, next, lex_at, line_at};
-ghost use Rattle.smt_lex.specs.Forms.{is_right, tokens_of};
+ghost use Rattle.smt_lex.specs.Forms.{tokens_of};
 ghost use Rattle.smt_lex.specs.Forest.{Refuses};
 ghost use Rattle.smt_lex.specs.Building.{IsBuilt, Nests, Spans, Puts, IsAtom, token, outcome, tokens_in};
 
-use crate::entries::{Entry, Watch, is_right};
+use crate::entries::{Entry, Watch};
 use crate::faults::{LexFault, bad_byte, bad_token, open_text, unbalanced};
 use crate::fronts::{Front, front_of};
 use crate::items::{Item, Until};
@@ -47,11 +47,11 @@ impl Builder {
         }
     }
 
-    // Whether the token is a `)` without its `(`.
-    fn closes_none(&self, item: Item) -> bool
-        ensures { result ≡ (is_right item && length self.now.lists.items == 0) }
+    // Whether no list is open.
+    fn is_at_top(&self) -> bool
+        ensures { result ≡ (length self.now.lists.items == 0) }
     {
-        is_right(item) && self.lists.is_empty()
+        self.lists.is_empty()
     }
 
     // Adds a token.
@@ -69,38 +69,76 @@ impl Builder {
         ensures fault { (behind : Lexed) → IfErr result (Refuses bytes.now
             (outcome bytes.now self.old.watch self.old.entries.items self.old.lists.items (next (token bytes.now item start end) behind))) }
     {
-        if self.closes_none(item) {
-            return Err(unbalanced(bytes, start));
+        match item {
+            Item::Left => self.add_left(bytes, start, end),
+            Item::Right => self.add_right(bytes, start, end),
+            _ => self.add_atom(bytes, item, start, end),
         }
+    }
+
+    // Adds a token that is no parenthesis.
+    fn add_atom(&mut self, bytes: &[u8], item: Item, start: usize, end: usize) -> Result<(), LexFault>
+        requires small { length bytes.now < 2 ^ 32 }
+        requires within { end ≤ length bytes.now }
+        requires some { start < end }
+        requires bars { item ≡ Item.Quoted → start + 1 < end }
+        requires atom { IsAtom item }
+        requires built { IsBuilt start self.old.entries.items self.old.lists.items self.old.watch }
+        requires met { self.old.watch ≢ Watch.Met }
+        ensures built { OnOk result (IsBuilt end self.new.entries.items self.new.lists.items self.new.watch) }
+        ensures same { (behind : Lexed) → OnOk result (
+            outcome bytes.now self.new.watch self.new.entries.items self.new.lists.items behind
+            ≡ outcome bytes.now self.old.watch self.old.entries.items self.old.lists.items (next (token bytes.now item start end) behind)) }
+        ensures fault { (behind : Lexed) → IfErr result (Refuses bytes.now
+            (outcome bytes.now self.old.watch self.old.entries.items self.old.lists.items (next (token bytes.now item start end) behind))) }
+    {
         let watch = self.watch.after(self.lists.len(), item, &bytes[start..end]);
-        self.put(item, start as u32, end as u32)?;
+        self.put_atom(item, start as u32, end as u32)?;
         self.watch = watch;
         Ok(())
     }
 
-    fn put(&mut self, item: Item, start: u32, end: u32) -> Result<(), AllocError>
-        requires small { vec_len self.old.entries + 1 < 2 ^ 32 }
+    // Adds a `(`.
+    fn add_left(&mut self, bytes: &[u8], start: usize, end: usize) -> Result<(), LexFault>
+        requires small { length bytes.now < 2 ^ 32 }
+        requires within { end ≤ length bytes.now }
         requires some { start < end }
-        requires bars { item ≡ Item.Quoted → start + 1 < end }
-        requires closes { item ≡ Item.Right → 0 < vec_len self.old.lists }
-        requires nests { Nests self.old.entries.items self.old.lists.items }
-        ensures watch { self.new.watch ≡ self.old.watch }
-        ensures ok { OnOk result (Puts item start end self.old.entries.items self.new.entries.items self.old.lists.items self.new.lists.items) }
+        requires built { IsBuilt start self.old.entries.items self.old.lists.items self.old.watch }
+        requires met { self.old.watch ≢ Watch.Met }
+        ensures built { OnOk result (IsBuilt end self.new.entries.items self.new.lists.items self.new.watch) }
+        ensures same { (behind : Lexed) → OnOk result (
+            outcome bytes.now self.new.watch self.new.entries.items self.new.lists.items behind
+            ≡ outcome bytes.now self.old.watch self.old.entries.items self.old.lists.items (next (token bytes.now Item.Left start end) behind)) }
+        ensures fault { (behind : Lexed) → IfErr result (Refuses bytes.now
+            (outcome bytes.now self.old.watch self.old.entries.items self.old.lists.items (next (token bytes.now Item.Left start end) behind))) }
     {
-        match item {
-            Item::Left => {
-                self.put_left(start, end)?;
-                Ok(())
-            }
-            Item::Right => {
-                self.put_right(start, end)?;
-                Ok(())
-            }
-            _ => {
-                self.put_atom(item, start, end)?;
-                Ok(())
-            }
+        let watch = self.watch.after(self.lists.len(), Item::Left, &bytes[start..end]);
+        self.put_left(start as u32, end as u32)?;
+        self.watch = watch;
+        Ok(())
+    }
+
+    // Adds a `)`, unless no list is open.
+    fn add_right(&mut self, bytes: &[u8], start: usize, end: usize) -> Result<(), LexFault>
+        requires small { length bytes.now < 2 ^ 32 }
+        requires within { end ≤ length bytes.now }
+        requires some { start < end }
+        requires built { IsBuilt start self.old.entries.items self.old.lists.items self.old.watch }
+        requires met { self.old.watch ≢ Watch.Met }
+        ensures built { OnOk result (IsBuilt end self.new.entries.items self.new.lists.items self.new.watch) }
+        ensures same { (behind : Lexed) → OnOk result (
+            outcome bytes.now self.new.watch self.new.entries.items self.new.lists.items behind
+            ≡ outcome bytes.now self.old.watch self.old.entries.items self.old.lists.items (next (token bytes.now Item.Right start end) behind)) }
+        ensures fault { (behind : Lexed) → IfErr result (Refuses bytes.now
+            (outcome bytes.now self.old.watch self.old.entries.items self.old.lists.items (next (token bytes.now Item.Right start end) behind))) }
+    {
+        if self.is_at_top() {
+            return Err(unbalanced(bytes, start));
         }
+        let watch = self.watch.after(self.lists.len(), Item::Right, &bytes[start..end]);
+        self.put_right(start as u32, end as u32)?;
+        self.watch = watch;
+        Ok(())
     }
 
     fn put_atom(&mut self, item: Item, start: u32, end: u32) -> Result<(), AllocError>

@@ -1,15 +1,15 @@
 // The classes of bytes, and how many bytes of a class a text begins with.
 
-ghost use Rattle.std.specs.Prelude.{◌≡◌, ◌≤◌, ◌==◌, length, not};
+ghost use Rattle.std.specs.Prelude.{◌≡◌, ◌≤◌, ◌==◌, ◌&&◌, length, not};
 ghost use Rattle.std.specs.Char.{is_ascii_digit};
 ghost use Rattle.smt_lex.specs.Lexicon.{is_symbol_byte, is_run_byte, is_line_end, length_while};
 
-// In the place of each byte that a simple symbol may contain stands the byte itself, elsewhere `,`.
-static SYMBOL_BYTES: [u8; 256] = *b"\
+// The class of each byte: `a` for the letters and marks of simple symbols, `0` for digits, `,` for all others.
+static CLASSES: [u8; 256] = *b"\
     ,,,,,,,,,,,,,,,,,,,,,,,,,,,,,,,,\
-    ,!,,$%&,,,*+,-./0123456789,,<=>?\
-    @ABCDEFGHIJKLMNOPQRSTUVWXYZ,,,^_\
-    ,abcdefghijklmnopqrstuvwxyz,,,~,\
+    ,a,,aaa,,,aa,aaa0000000000,,aaaa\
+    aaaaaaaaaaaaaaaaaaaaaaaaaaa,,,aa\
+    ,aaaaaaaaaaaaaaaaaaaaaaaaaa,,,a,\
     ,,,,,,,,,,,,,,,,,,,,,,,,,,,,,,,,\
     ,,,,,,,,,,,,,,,,,,,,,,,,,,,,,,,,\
     ,,,,,,,,,,,,,,,,,,,,,,,,,,,,,,,,\
@@ -19,7 +19,14 @@ static SYMBOL_BYTES: [u8; 256] = *b"\
 pub(crate) fn is_symbol_byte(byte: u8) -> bool
     ensures { result ≡ is_symbol_byte byte }
 {
-    SYMBOL_BYTES[byte as usize] != b','
+    CLASSES[byte as usize] != b','
+}
+
+/// A byte that a simple symbol may begin with.
+pub(crate) fn begins_word(byte: u8) -> bool
+    ensures { result ≡ (is_symbol_byte byte && not (is_ascii_digit byte)) }
+{
+    CLASSES[byte as usize] == b'a'
 }
 
 /// A byte of a run: of a symbol, `:` or `#`.

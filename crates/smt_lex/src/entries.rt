@@ -71,12 +71,11 @@ impl Watch {
         ensures { result ≡ watch_after self depth item text.now }
     {
         match self {
-            Watch::Never => Watch::Never,
             Watch::Elsewhere if is_left(item) && depth == 0 => Watch::Opened,
             Watch::Opened if is_exit_word(item, text) => Watch::Named,
             Watch::Named if is_right(item) => Watch::Met,
-            Watch::Met => Watch::Met,
-            _ => Watch::Elsewhere,
+            Watch::Opened | Watch::Named => Watch::Elsewhere,
+            _ => self,
         }
     }
 }

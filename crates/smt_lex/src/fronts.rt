@@ -1,12 +1,12 @@
 // What a text begins with.
 
-ghost use Rattle.std.specs.Prelude.{◌≡◌, ◌+◌, ◌<◌, ◌≤◌, ◌||◌, ◌==◌, true, false, length, IfSome};
+ghost use Rattle.std.specs.Prelude.{◌≡◌, ◌+◌, ◌<◌, ◌≤◌, true, false, length, IfSome};
 ghost use Rattle.std.specs.Char.{is_ascii_digit};
-ghost use Rattle.smt_lex.specs.Lexicon.{colon, hash, is_symbol_byte, starts_as};
+ghost use Rattle.smt_lex.specs.Lexicon.{is_symbol_byte, starts_as};
 ghost use Rattle.smt_lex.specs.Lex.{front, run_front, literal_front, literal_length, quoted_front};
 ghost use Rattle.smt_lex.specs.Building.{FitsIn};
 
-use crate::classes::{is_run_byte, is_symbol_byte, length_until, line_length, run_length, symbol_length};
+use crate::classes::{begins_word, is_run_byte, length_until, line_length, run_length, symbol_length};
 use crate::items::Item;
 use crate::runs::run_item;
 
@@ -32,23 +32,16 @@ pub(crate) fn front_of(text: &[u8]) -> Front
     ensures value { result ≡ front text.now }
 {
     match text[0] {
+        byte if begins_word(byte) => word_front(text),
         b'(' => Front::Lexeme(Item::Left, 1),
         b')' => Front::Lexeme(Item::Right, 1),
         b';' => Front::Gap(1 + line_length(&text[1..])),
         b'"' => literal_front(&text[1..]),
         b'|' => quoted_front(&text[1..]),
         b'\t' | b'\n' | b'\r' | b' ' => Front::Gap(1),
-        byte if begins_other_run(byte) => run_front(text),
-        byte if is_symbol_byte(byte) => word_front(text),
+        byte if is_run_byte(byte) => run_front(text),
         _ => Front::BadByte(0),
     }
-}
-
-// A byte that begins a run which is no word.
-fn begins_other_run(byte: u8) -> bool
-    ensures { result ≡ (is_ascii_digit byte || byte == colon || byte == hash) }
-{
-    matches!(byte, b'0'..=b'9' | b':' | b'#')
 }
 
 // What the run is that the text begins with, where its first byte is one that a word may begin with.

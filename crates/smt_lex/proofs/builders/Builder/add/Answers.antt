@@ -1,26 +1,18 @@
-use Rattle.std.proofs.Common.{sym, ◌∙◌, ap, refl, subst}
-use Rattle.std.specs.Prelude.{slice_range}
+use Rattle.std.proofs.Common.{sym, subst}
+use Rattle.std.specs.Prelude.{IfErr}
 use Rattle.smt_lex.specs.Lex.{next}
 use Rattle.smt_lex.specs.Forest.{Refuses}
-use Rattle.smt_lex.specs.Building.{outcome, token, watch_after}
-use Rattle.smt_lex.proofs.Outcomes.{outcome_next, outcome_over}
+use Rattle.smt_lex.specs.Building.{outcome, token}
 use Rattle.smt_lex.proofs.builders.Builder.add.Goals as goal
 
-pub returns-clause-same : goal.returns-clause-same
-returns-clause-same c behind =
-    let bytes = c.args.bytes.now in
+pub returns-in-Left-clause-fault : goal.returns-in-Left-clause-fault
+returns-in-Left-clause-fault c behind =
     let before = c.args.self.now in
-    let after = c.put.new.self in
-    let put = c.in_ok-put.ensures.ok in
-    ap (λ w. outcome bytes w after.entries.items after.lists.items behind)
-    (c.after-watch.ensures ∙ ap (λ n. watch_after before.watch n c.args.item (slice_range bytes c.args.start c.args.end)) (c.len.ensures ∙ before.lists.ok.0))
-    ∙ outcome_next bytes before.watch before.entries.items after.entries.items before.lists.items after.lists.items
-    (token bytes c.args.item c.args.start c.args.end) behind c.requires.met c.requires.built.top
-    (sym c.closes_none.ensures ∙ c.if-closes_none.false) (put.tokens bytes) put.depth
+    subst (λ item. IfErr c.add_left.result (Refuses c.args.bytes.now (outcome c.args.bytes.now before.watch before.entries.items before.lists.items (next (token c.args.bytes.now item c.args.start c.args.end) behind))))
+    (sym c.in-Left.is) (c.add_left.ensures.fault behind)
 
-pub returns-then-closes_none-clause-fault : goal.returns-then-closes_none-clause-fault
-returns-then-closes_none-clause-fault c behind =
-    let over = outcome_over c.args.bytes.now c.args.self.now.watch c.args.self.now.entries.items c.args.self.now.lists.items
-    (token c.args.bytes.now c.args.item c.args.start c.args.end) behind c.requires.met c.requires.built.top
-    (sym c.closes_none.ensures ∙ c.if-closes_none.true) in
-    subst (Refuses c.args.bytes.now (outcome c.args.bytes.now c.args.self.now.watch c.args.self.now.entries.items c.args.self.now.lists.items (next (token c.args.bytes.now c.args.item c.args.start c.args.end) behind))) (sym c.unbalanced.ensures) (over, refl)
+pub returns-in-Right-clause-fault : goal.returns-in-Right-clause-fault
+returns-in-Right-clause-fault c behind =
+    let before = c.args.self.now in
+    subst (λ item. IfErr c.add_right.result (Refuses c.args.bytes.now (outcome c.args.bytes.now before.watch before.entries.items before.lists.items (next (token c.args.bytes.now item c.args.start c.args.end) behind))))
+    (sym c.in-Right.is) (c.add_right.ensures.fault behind)

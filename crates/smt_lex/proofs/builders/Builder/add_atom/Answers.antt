@@ -1,0 +1,18 @@
+use Rattle.std.proofs.Common.{sym, ◌∙◌, ap, refl, subst, length, eqb}
+use Rattle.std.specs.Prelude.{◌&&◌, slice_range}
+use Rattle.smt_lex.specs.Lex.{next}
+use Rattle.smt_lex.specs.Building.{outcome, token, watch_after}
+use Rattle.smt_lex.proofs.Outcomes.{outcome_next}
+use Rattle.smt_lex.proofs.builders.Builder.add_atom.Goals as goal
+
+pub returns-clause-same : goal.returns-clause-same
+returns-clause-same c behind =
+    let bytes = c.args.bytes.now in
+    let before = c.args.self.now in
+    let after = c.put_atom.new.self in
+    let put = c.in_ok-put_atom.ensures.ok in
+    ap (λ w. outcome bytes w after.entries.items after.lists.items behind)
+    (c.after-watch.ensures ∙ ap (λ n. watch_after before.watch n c.args.item (slice_range bytes c.args.start c.args.end)) (c.len.ensures ∙ before.lists.ok.0))
+    ∙ outcome_next bytes before.watch before.entries.items after.entries.items before.lists.items after.lists.items
+    (token bytes c.args.item c.args.start c.args.end) behind c.requires.met c.requires.built.top
+    (ap (λ b. b && eqb (length before.lists.items) 0) c.requires.atom.1) (put.tokens bytes) put.depth
