@@ -29,7 +29,7 @@ list_all-weaker p q weaker [] all = refl
 list_all-weaker p q weaker (b ∷ bs) all = rw (weaker b (and_left (p b) (list_all p bs) all)) (list_all-weaker p q weaker bs (and_right (p b) (list_all p bs) all))
 
 -- a byte that passes a test is none that fails it
-other_byte : (test : ℕ → Bool) (b c : ℕ) → test b ≡ true → test c ≡ false → eqb b c ≡ false
+pub other_byte : (test : ℕ → Bool) (b c : ℕ) → test b ≡ true → test c ≡ false → eqb b c ≡ false
 other_byte test b c passes fails = elim (eqb_tells b c) [ inl same ↦ absurd (cc (passes, fails, ap test same.1)) | inr differs ↦ differs.0 ]
 
 not_blank : (b : ℕ) → is_run_byte b ≡ true → is_blank b ≡ false

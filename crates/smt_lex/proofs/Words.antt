@@ -1,15 +1,18 @@
--- The run of a text that begins as a word does.
-use Rattle.std.proofs.Common.{◌≡◌, ℕ, suc, ◌<◌, inl, inr, Bool, true, false, eqb, get_or, Some, None, List, [], ◌∷◌, length, take, refl, ap, sym, ◌∙◌, subst, arith}
+-- The run of a text that begins as a word does, and single bytes that are taken off by themselves.
+use Rattle.std.proofs.Common.{◌≡◌, ℕ, suc, ◌+◌, ◌<◌, inl, inr, Bool, true, false, eqb, get_or, Some, None, List, [], ◌∷◌, length, take, drop, refl, ap, ◌∙◌, subst, arith}
 use Rattle.std.specs.List.{list_all}
 use Rattle.std.specs.Char.{is_ascii_digit}
+use Rattle.std.proofs.lemmas.List.{drop_more}
 use Rattle.std.proofs.lemmas.Bool.{ne_eqb}
 use Rattle.std.proofs.Math.Dec.{eqb-suc-zero}
 use Rattle.smt_lex.proofs.Choices.{tell}
-use Rattle.smt_lex.specs.declared.items.Item.TheVariants.{Word}
-use Rattle.smt_lex.specs.declared.fronts.Front.TheVariants.{Lexeme, BadToken}
-use Rattle.smt_lex.specs.Lexicon.{is_symbol_byte, is_run_byte, is_word, is_numeral, is_keyword, is_decimal, is_hexadecimal, is_binary, starts_as, length_while, run_item}
-use Rattle.smt_lex.specs.Lex.{front, run_front, run_by}
-use Rattle.smt_lex.proofs.Printing.{front_run, run_is, run_byte}
+use Rattle.smt_lex.specs.declared.items.Item.TheVariants.{Left, Right, Word}
+use Rattle.smt_lex.specs.declared.fronts.Front.TheVariants.{Gap, Lexeme, BadToken}
+use Rattle.smt_lex.specs.Lexicon.{left_parenthesis, right_parenthesis, semicolon, quote, bar, is_blank, is_symbol_byte, is_run_byte, is_word, is_numeral, is_keyword, is_decimal, is_hexadecimal, is_binary, starts_as, length_while, run_item}
+use Rattle.smt_lex.specs.Lex.{next, front, run_front, run_by, lex_at}
+use Rattle.smt_lex.specs.Building.{token}
+use Rattle.smt_lex.proofs.Lexing.{lex_gap, lex_lexeme}
+use Rattle.smt_lex.proofs.Printing.{run_is, run_byte, other_byte}
 use Rattle.smt_lex.proofs.Rereading.{all_while}
 
 -- two tests, the second of which all bytes pass that pass the first
@@ -78,7 +81,25 @@ word_fails (b ∷ bs) symbol letter within goes =
     ap (λ n. run_by (run_item (take n (b ∷ bs))) n) long
     ∙ ap (λ o. run_by o (suc (length_while is_run_byte bs))) (no_item b (take (length_while is_run_byte bs) bs) symbol letter other)
 
--- a text that begins with a byte of runs
-pub front_is_run : (text : List ℕ) → 0 < length text → is_run_byte (get_or text 0 0) ≡ true → run_front text ≡ front text
-front_is_run [] some runs = absurd (omega arith)
-front_is_run (b ∷ bs) some runs = sym (front_run b bs runs)
+-- white space before other bytes
+front_blank : (b : ℕ) (bs : List ℕ) → is_blank b ≡ true → front (b ∷ bs) ≡ Gap 1
+front_blank b bs blank =
+    rw (
+      other_byte is_blank b left_parenthesis blank refl,
+      other_byte is_blank b right_parenthesis blank refl,
+      other_byte is_blank b semicolon blank refl,
+      other_byte is_blank b quote blank refl,
+      other_byte is_blank b bar blank refl,
+      blank,
+    ) refl
+
+-- one byte of a text that is taken off by itself
+module _ (bytes : List ℕ) (place : ℕ) (more : place < length bytes) where
+  pub lex_left : get_or bytes place 0 ≡ left_parenthesis → lex_at bytes place ≡ next (token bytes Left place (place + 1)) (lex_at bytes (place + 1))
+  lex_left is = lex_lexeme bytes place more Left 1 (ap front (drop_more bytes place 0 more) ∙ ap (λ b. front (b ∷ drop (place + 1) bytes)) is) (omega arith) (omega arith)
+
+  pub lex_right : get_or bytes place 0 ≡ right_parenthesis → lex_at bytes place ≡ next (token bytes Right place (place + 1)) (lex_at bytes (place + 1))
+  lex_right is = lex_lexeme bytes place more Right 1 (ap front (drop_more bytes place 0 more) ∙ ap (λ b. front (b ∷ drop (place + 1) bytes)) is) (omega arith) (omega arith)
+
+  pub lex_blank : is_blank (get_or bytes place 0) ≡ true → lex_at bytes place ≡ lex_at bytes (place + 1)
+  lex_blank is = lex_gap bytes place more 1 (ap front (drop_more bytes place 0 more) ∙ front_blank (get_or bytes place 0) (drop (place + 1) bytes) is) (omega arith) (omega arith)

@@ -79,6 +79,11 @@ outcome bytes watch es lists behind = prefixed (tokens_in bytes es) (balanced (l
 abbrev pub IsAtom : Item → Type 0
 IsAtom item = (is_left item ≡ false) × (is_right item ≡ false) × ((depth : ℕ) → depth_after item depth ≡ depth)
 
+-- a token that the bytes begin with is no parenthesis
+abbrev pub HasAtom : Front → Type 0
+HasAtom (Lexeme item n) = IsAtom item
+HasAtom _ = Unit {0}
+
 -- whatever follows, the form that begins at entry i ends before this one
 abbrev pub EndsAt : List Entry → ℕ → ℕ → Type 0
 EndsAt es i after = (more : List Item) → i + form_length (drop i (entry_items es ++ more)) ≡ after

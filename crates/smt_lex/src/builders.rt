@@ -1,11 +1,13 @@
 // The tokens of a text, as far as it was examined.
 
-ghost use Rattle.std.specs.Prelude.{◌≡◌, ◌≢◌, ◌==◌, ◌<◌, ◌≤◌, ◌+◌, ◌^◌, [], length, IfOk, OnOk, IfErr, vec_len};
+ghost use Rattle.std.specs.Prelude.{◌≡◌, ◌≢◌, ◌==◌, ◌<◌, ◌≤◌, ◌+◌, ◌^◌, [], false, length, slice_index, IfOk, OnOk, IfErr, vec_len};
 ghost use Rattle.smt_lex.specs.Lex.{Lexed, next, lex_at, line_at};
+ghost use Rattle.smt_lex.specs.Lexicon.{left_parenthesis, right_parenthesis, is_blank};
 ghost use Rattle.smt_lex.specs.Forms.{tokens_of};
 ghost use Rattle.smt_lex.specs.Forest.{Refuses};
 ghost use Rattle.smt_lex.specs.Building.{IsBuilt, Nests, Spans, Puts, IsAtom, token, outcome, tokens_in};
 
+use crate::classes::is_blank;
 use crate::entries::{Entry, Watch};
 use crate::faults::{LexFault, bad_byte, bad_token, open_text, unbalanced};
 use crate::fronts::{Front, front_of};
@@ -35,10 +37,41 @@ impl Builder {
         ensures fault { IfErr result (Refuses bytes.now
             (outcome bytes.now self.old.watch self.old.entries.items self.old.lists.items (lex_at bytes.now place))) }
     {
+        match bytes[place] {
+            b'(' => {
+                self.add_left(bytes, place, place + 1)?;
+                Ok(place + 1)
+            }
+            b')' => {
+                self.add_right(bytes, place, place + 1)?;
+                Ok(place + 1)
+            }
+            byte if is_blank(byte) => Ok(place + 1),
+            _ => self.take(bytes, place),
+        }
+    }
+
+    // The same where neither a parenthesis nor white space stands there.
+    fn take(&mut self, bytes: &[u8], place: usize) -> Result<usize, LexFault>
+        requires small { length bytes.now < 2 ^ 32 }
+        requires more { place < length bytes.now }
+        requires left { (slice_index bytes.now place == left_parenthesis) ≡ false }
+        requires right { (slice_index bytes.now place == right_parenthesis) ≡ false }
+        requires blank { is_blank (slice_index bytes.now place) ≡ false }
+        requires built { IsBuilt place self.old.entries.items self.old.lists.items self.old.watch }
+        requires met { self.old.watch ≢ Watch.Met }
+        ensures progress { IfOk result (λ behind. (place < behind) × (behind ≤ length bytes.now)) }
+        ensures built { IfOk result (λ behind. IsBuilt behind self.new.entries.items self.new.lists.items self.new.watch) }
+        ensures same { IfOk result (λ behind.
+            outcome bytes.now self.new.watch self.new.entries.items self.new.lists.items (lex_at bytes.now behind)
+            ≡ outcome bytes.now self.old.watch self.old.entries.items self.old.lists.items (lex_at bytes.now place)) }
+        ensures fault { IfErr result (Refuses bytes.now
+            (outcome bytes.now self.old.watch self.old.entries.items self.old.lists.items (lex_at bytes.now place))) }
+    {
         match front_of(&bytes[place..]) {
             Front::Gap(length) => Ok(place + length),
             Front::Lexeme(item, length) => {
-                self.add(bytes, item, place, place + length)?;
+                self.add_atom(bytes, item, place, place + length)?;
                 Ok(place + length)
             }
             Front::BadByte(skipped) => Err(bad_byte(bytes, place + skipped)),
@@ -52,28 +85,6 @@ impl Builder {
         ensures { result ≡ (length self.now.lists.items == 0) }
     {
         self.lists.is_empty()
-    }
-
-    // Adds a token.
-    fn add(&mut self, bytes: &[u8], item: Item, start: usize, end: usize) -> Result<(), LexFault>
-        requires small { length bytes.now < 2 ^ 32 }
-        requires within { end ≤ length bytes.now }
-        requires some { start < end }
-        requires bars { item ≡ Item.Quoted → start + 1 < end }
-        requires built { IsBuilt start self.old.entries.items self.old.lists.items self.old.watch }
-        requires met { self.old.watch ≢ Watch.Met }
-        ensures built { OnOk result (IsBuilt end self.new.entries.items self.new.lists.items self.new.watch) }
-        ensures same { (behind : Lexed) → OnOk result (
-            outcome bytes.now self.new.watch self.new.entries.items self.new.lists.items behind
-            ≡ outcome bytes.now self.old.watch self.old.entries.items self.old.lists.items (next (token bytes.now item start end) behind)) }
-        ensures fault { (behind : Lexed) → IfErr result (Refuses bytes.now
-            (outcome bytes.now self.old.watch self.old.entries.items self.old.lists.items (next (token bytes.now item start end) behind))) }
-    {
-        match item {
-            Item::Left => self.add_left(bytes, start, end),
-            Item::Right => self.add_right(bytes, start, end),
-            _ => self.add_atom(bytes, item, start, end),
-        }
     }
 
     // Adds a token that is no parenthesis.

@@ -2,7 +2,7 @@
 
 ghost use Rattle.std.specs.Prelude.{◌≡◌, ◌≤◌, ◌==◌, ◌&&◌, length, not};
 ghost use Rattle.std.specs.Char.{is_ascii_digit};
-ghost use Rattle.smt_lex.specs.Lexicon.{is_symbol_byte, is_run_byte, is_line_end, length_while};
+ghost use Rattle.smt_lex.specs.Lexicon.{is_blank, is_symbol_byte, is_run_byte, is_line_end, length_while};
 
 // The class of each byte: `a` for the letters and marks of simple symbols, `0` for digits, `,` for all others.
 static CLASSES: [u8; 256] = *b"\
@@ -27,6 +27,13 @@ pub(crate) fn begins_word(byte: u8) -> bool
     ensures { result ≡ (is_symbol_byte byte && not (is_ascii_digit byte)) }
 {
     CLASSES[byte as usize] == b'a'
+}
+
+/// White space.
+pub(crate) fn is_blank(byte: u8) -> bool
+    ensures { result ≡ is_blank byte }
+{
+    matches!(byte, b'\t' | b'\n' | b'\r' | b' ')
 }
 
 /// A byte of a run: of a symbol, `:` or `#`.

@@ -1,10 +1,10 @@
 // What a text begins with.
 
-ghost use Rattle.std.specs.Prelude.{◌≡◌, ◌+◌, ◌<◌, ◌≤◌, true, false, length, IfSome};
+ghost use Rattle.std.specs.Prelude.{◌≡◌, ◌+◌, ◌<◌, ◌≤◌, ◌==◌, true, false, length, slice_index, IfSome};
 ghost use Rattle.std.specs.Char.{is_ascii_digit};
-ghost use Rattle.smt_lex.specs.Lexicon.{is_symbol_byte, starts_as};
+ghost use Rattle.smt_lex.specs.Lexicon.{left_parenthesis, right_parenthesis, is_blank, is_symbol_byte, starts_as};
 ghost use Rattle.smt_lex.specs.Lex.{front, run_front, literal_front, literal_length, quoted_front};
-ghost use Rattle.smt_lex.specs.Building.{FitsIn};
+ghost use Rattle.smt_lex.specs.Building.{FitsIn, HasAtom};
 
 use crate::classes::{begins_word, is_run_byte, length_until, line_length, run_length, symbol_length};
 use crate::items::Item;
@@ -25,20 +25,21 @@ pub(crate) enum Front {
     OpenText,
 }
 
-/// What the text begins with.
+/// What the text begins with, where that is no parenthesis and no white space.
 pub(crate) fn front_of(text: &[u8]) -> Front
-    requires { 0 < length text.now }
+    requires some { 0 < length text.now }
+    requires left { (slice_index text.now 0 == left_parenthesis) ≡ false }
+    requires right { (slice_index text.now 0 == right_parenthesis) ≡ false }
+    requires blank { is_blank (slice_index text.now 0) ≡ false }
     ensures within { FitsIn (length text.now) result }
+    ensures atom { HasAtom result }
     ensures value { result ≡ front text.now }
 {
     match text[0] {
         byte if begins_word(byte) => word_front(text),
-        b'(' => Front::Lexeme(Item::Left, 1),
-        b')' => Front::Lexeme(Item::Right, 1),
         b';' => Front::Gap(1 + line_length(&text[1..])),
         b'"' => literal_front(&text[1..]),
         b'|' => quoted_front(&text[1..]),
-        b'\t' | b'\n' | b'\r' | b' ' => Front::Gap(1),
         byte if is_run_byte(byte) => run_front(text),
         _ => Front::BadByte(0),
     }
@@ -49,6 +50,7 @@ fn word_front(text: &[u8]) -> Front
     requires symbol { starts_as is_symbol_byte text.now ≡ true }
     requires letter { starts_as is_ascii_digit text.now ≡ false }
     ensures within { FitsIn (length text.now) result }
+    ensures atom { HasAtom result }
     ensures value { result ≡ run_front text.now }
 {
     let length = symbol_length(text);
@@ -61,6 +63,7 @@ fn word_front(text: &[u8]) -> Front
 // What the run is that the text begins with.
 fn run_front(text: &[u8]) -> Front
     ensures within { FitsIn (length text.now) result }
+    ensures atom { HasAtom result }
     ensures value { result ≡ run_front text.now }
 {
     let length = run_length(text);
@@ -73,6 +76,7 @@ fn run_front(text: &[u8]) -> Front
 // The literal whose first quote stands before the text.
 fn literal_front(text: &[u8]) -> Front
     ensures within { FitsIn (length text.now + 1) result }
+    ensures atom { HasAtom result }
     ensures value { result ≡ literal_front text.now }
 {
     match literal_length(text) {
@@ -102,6 +106,7 @@ fn literal_length(text: &[u8]) -> Option<usize>
 // The quoted symbol whose first bar stands before the text.
 fn quoted_front(text: &[u8]) -> Front
     ensures within { FitsIn (length text.now + 1) result }
+    ensures atom { HasAtom result }
     ensures value { result ≡ quoted_front text.now }
 {
     let length = length_until(text, b'|');

@@ -1,15 +1,17 @@
 // Which token a run is.
 
-ghost use Rattle.std.specs.Prelude.{◌≡◌};
+ghost use Rattle.std.specs.Prelude.{◌≡◌, IfSome};
 ghost use Rattle.std.specs.Char.{is_ascii_digit, is_ascii_hexdigit};
 ghost use Rattle.smt_lex.specs.Lexicon.{is_word, is_numeral, is_keyword, is_decimal, is_hexadecimal, is_binary, is_some_of, is_symbol_byte, is_binary_digit, starts_as, run_item};
+ghost use Rattle.smt_lex.specs.Building.{IsAtom};
 
 use crate::classes::{digits_length, is_symbol_byte};
 use crate::items::Item;
 
 /// The token that the run is, or None where it is none.
 pub(crate) fn run_item(run: &[u8]) -> Option<Item>
-    ensures { result ≡ run_item run.now }
+    ensures item { result ≡ run_item run.now }
+    ensures atom { IfSome result IsAtom }
 {
     if is_word(run) {
         Some(Item::Word)

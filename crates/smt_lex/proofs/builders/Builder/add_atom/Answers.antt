@@ -1,6 +1,5 @@
-use Rattle.std.proofs.Common.{sym, ◌∙◌, ap, refl, subst, length, eqb}
+use Rattle.std.proofs.Common.{◌∙◌, ap, length, eqb}
 use Rattle.std.specs.Prelude.{◌&&◌, slice_range}
-use Rattle.smt_lex.specs.Lex.{next}
 use Rattle.smt_lex.specs.Building.{outcome, token, watch_after}
 use Rattle.smt_lex.proofs.Outcomes.{outcome_next}
 use Rattle.smt_lex.proofs.builders.Builder.add_atom.Goals as goal

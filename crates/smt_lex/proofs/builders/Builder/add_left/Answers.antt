@@ -1,7 +1,6 @@
-use Rattle.std.proofs.Common.{sym, ◌∙◌, ap, refl, subst, length, eqb}
-use Rattle.std.specs.Prelude.{◌&&◌, slice_range}
+use Rattle.std.proofs.Common.{◌∙◌, ap, refl}
+use Rattle.std.specs.Prelude.{slice_range}
 use Rattle.smt_lex.specs.declared.items.Item.TheVariants.{Left}
-use Rattle.smt_lex.specs.Lex.{next}
 use Rattle.smt_lex.specs.Building.{outcome, token, watch_after}
 use Rattle.smt_lex.proofs.Outcomes.{outcome_next}
 use Rattle.smt_lex.proofs.builders.Builder.add_left.Goals as goal

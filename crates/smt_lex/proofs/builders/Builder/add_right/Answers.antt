@@ -1,5 +1,5 @@
-use Rattle.std.proofs.Common.{sym, ◌∙◌, ap, refl, subst, length, eqb}
-use Rattle.std.specs.Prelude.{◌&&◌, slice_range}
+use Rattle.std.proofs.Common.{sym, ◌∙◌, ap, refl, subst}
+use Rattle.std.specs.Prelude.{slice_range}
 use Rattle.smt_lex.specs.declared.items.Item.TheVariants.{Right}
 use Rattle.smt_lex.specs.Forest.{Refuses}
 use Rattle.smt_lex.specs.Lex.{next}
