@@ -84,4 +84,3 @@ mod WritableText
 mod TextNames
 mod TokenTexts
 mod Turns
-mod ReservedWords

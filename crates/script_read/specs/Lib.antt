@@ -41,4 +41,3 @@ pub mod Quantifiers
 pub mod Openings
 pub mod Waiting
 pub mod ScriptSteps
-pub mod ReservedWords

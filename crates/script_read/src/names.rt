@@ -1,66 +1,10 @@
-//! Names: reserved words (SMT-LIB 2.6, section 3.1) and the names of the theories.
+//! The names of the theories, and the names that are reserved.
 
-ghost use Rattle.std.specs.Prelude.{◌≡◌, map, nat_eq};
-ghost use Rattle.std.specs.List.{list_any};
-ghost use Rattle.smt_lex.specs.Names.{is_among, is_syntax_word, is_command_word, is_reserved, is_theory_name, is_bit_vector_constant, is_theory_sort, is_internal, is_reserved_for_declaring, is_reserved_for_sorts};
+ghost use Rattle.std.specs.Prelude.{◌≡◌, map};
+ghost use Rattle.smt_lex.specs.Names.{is_among, is_theory_name, is_bit_vector_constant, is_theory_sort, is_internal, is_reserved_for_declaring, is_reserved_for_sorts};
 ghost use Rattle.smt_lex.specs.Lexicon.{is_some_of};
 ghost use Rattle.std.specs.Char.{is_ascii_digit};
 ghost use Rattle.script_read.specs.Heads.{real_names, takes_no_index};
-ghost use Rattle.script_read.specs.ReservedWords.{begins_like_reserved};
-
-// The words of the syntax.
-const SYNTAX_WORDS: [&[u8]; 13] = [
-    b"BINARY",
-    b"DECIMAL",
-    b"HEXADECIMAL",
-    b"NUMERAL",
-    b"STRING",
-    b"_",
-    b"!",
-    b"as",
-    b"exists",
-    b"forall",
-    b"let",
-    b"match",
-    b"par",
-];
-
-// The first bytes of these and of the names of commands.
-const RESERVED_FIRST_BYTES: &[u8] = b"!_BDHNSacdefglmprs";
-
-// The names of the commands.
-const COMMAND_WORDS: [&[u8]; 30] = [
-    b"assert",
-    b"check-sat",
-    b"check-sat-assuming",
-    b"declare-const",
-    b"declare-datatype",
-    b"declare-datatypes",
-    b"declare-fun",
-    b"declare-sort",
-    b"define-fun",
-    b"define-fun-rec",
-    b"define-funs-rec",
-    b"define-sort",
-    b"echo",
-    b"exit",
-    b"get-assertions",
-    b"get-assignment",
-    b"get-info",
-    b"get-model",
-    b"get-option",
-    b"get-proof",
-    b"get-unsat-assumptions",
-    b"get-unsat-core",
-    b"get-value",
-    b"pop",
-    b"push",
-    b"reset",
-    b"reset-assertions",
-    b"set-info",
-    b"set-logic",
-    b"set-option",
-];
 
 // The names of the theories, but for `bv` and digits.
 const CORE_NAMES: [&[u8]; 10] = [
@@ -149,48 +93,6 @@ fn is_among(names: &[&[u8]], name: &[u8]) -> bool
 {
     for other in names {
         if name == *other {
-            return true;
-        }
-    }
-    false
-}
-
-fn is_syntax_word(word: &[u8]) -> bool
-    ensures { result ≡ is_syntax_word word.now }
-{
-    is_among(&SYNTAX_WORDS, word)
-}
-
-/// Whether the word names a command.
-pub fn is_command_word(word: &[u8]) -> bool
-    ensures { result ≡ is_command_word word.now }
-{
-    is_among(&COMMAND_WORDS, word)
-}
-
-/// Whether the word belongs to the syntax or names a command.
-pub fn is_reserved(word: &[u8]) -> bool
-    ensures { result ≡ is_reserved word.now }
-{
-    may_be_reserved(word) && (is_syntax_word(word) || is_command_word(word))
-}
-
-// Whether a reserved word begins like this one; most symbols of a script don't, and so need no look at the lists.
-fn may_be_reserved(word: &[u8]) -> bool
-    ensures { result ≡ begins_like_reserved word.now }
-{
-    match word {
-        [first, ..] => has_byte(RESERVED_FIRST_BYTES, *first),
-        [] => false,
-    }
-}
-
-// Whether the byte is among them.
-fn has_byte(bytes: &[u8], byte: u8) -> bool
-    ensures { result ≡ list_any (nat_eq byte) bytes.now }
-{
-    for other in bytes {
-        if byte == *other {
             return true;
         }
     }

@@ -12,8 +12,7 @@ ghost use Rattle.script_read.specs.PlaceClauses.{BeginsForm, IsListAt, AreTwo};
 
 use crate::causes::Cause;
 use crate::faults::Fault;
-use crate::names::is_reserved;
-use smt_lex::{Forest, Item};
+use smt_lex::{Forest, Item, is_reserved};
 
 /// The least number that no numeral may have.
 pub const GREATEST: u128 = 1 << 127;

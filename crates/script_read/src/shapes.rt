@@ -11,9 +11,8 @@ ghost use Rattle.script_read.specs.Replies.{Agrees};
 use crate::causes::Cause;
 use crate::faults::Fault;
 use crate::lists::{Few, few_from};
-use crate::names::is_command_word;
 use crate::places::{bad_form, begins, fault, inside, is_symbol};
-use smt_lex::{Forest, Item};
+use smt_lex::{Forest, Item, is_command_word};
 
 /// Which parts a command has, by the numbers of their first tokens; a list is given by the first token inside it.
 #[derive(Clone, Copy, Debug, PartialEq, Eq)]

@@ -88,7 +88,13 @@ impl Builder {
     }
 
     // Adds a token that is no parenthesis.
-    fn add_atom(&mut self, bytes: &[u8], item: Item, start: usize, end: usize) -> Result<(), LexFault>
+    fn add_atom(
+        &mut self,
+        bytes: &[u8],
+        item: Item,
+        start: usize,
+        end: usize,
+    ) -> Result<(), LexFault>
         requires small { length bytes.now < 2 ^ 32 }
         requires within { end ≤ length bytes.now }
         requires some { start < end }
@@ -123,7 +129,9 @@ impl Builder {
         ensures fault { (behind : Lexed) → IfErr result (Refuses bytes.now
             (outcome bytes.now self.old.watch self.old.entries.items self.old.lists.items (next (token bytes.now Item.Left start end) behind))) }
     {
-        let watch = self.watch.after(self.lists.len(), Item::Left, &bytes[start..end]);
+        let watch = self
+            .watch
+            .after(self.lists.len(), Item::Left, &bytes[start..end]);
         self.put_left(start as u32, end as u32)?;
         self.watch = watch;
         Ok(())
@@ -146,7 +154,9 @@ impl Builder {
         if self.is_at_top() {
             return Err(unbalanced(bytes, start));
         }
-        let watch = self.watch.after(self.lists.len(), Item::Right, &bytes[start..end]);
+        let watch = self
+            .watch
+            .after(self.lists.len(), Item::Right, &bytes[start..end]);
         self.put_right(start as u32, end as u32)?;
         self.watch = watch;
         Ok(())

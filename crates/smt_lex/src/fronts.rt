@@ -6,7 +6,9 @@ ghost use Rattle.smt_lex.specs.Lexicon.{left_parenthesis, right_parenthesis, is_
 ghost use Rattle.smt_lex.specs.Lex.{front, run_front, literal_front, literal_length, quoted_front};
 ghost use Rattle.smt_lex.specs.Building.{FitsIn, HasAtom};
 
-use crate::classes::{begins_word, is_run_byte, length_until, line_length, run_length, symbol_length};
+use crate::classes::{
+    begins_word, is_run_byte, length_until, line_length, run_length, symbol_length,
+};
 use crate::items::Item;
 use crate::runs::run_item;
 
