@@ -12,6 +12,7 @@ pub mod KeepsLaws
 pub mod Laws
 pub mod Made
 pub mod Models
+pub mod NameHash
 pub mod NodeLaws
 pub mod Numeral
 pub mod Operators

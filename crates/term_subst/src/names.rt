@@ -5,6 +5,7 @@ ghost use Rattle.smt_terms.specs.Free.{name_among};
 ghost use Rattle.term_subst.specs.Names.{with_name};
 
 use indexmap::IndexSet;
+use smt_terms::BuildNameHasher;
 use std::alloc::{AllocError, Global};
 use std::marker::Model;
 
@@ -12,7 +13,7 @@ use std::marker::Model;
 #[derive(Drop)]
 pub struct NameSet {
     alloc: Global,
-    names: IndexSet<Vec<u8>>,
+    names: IndexSet<Vec<u8>, BuildNameHasher>,
 }
 
 impl Model for NameSet {
@@ -31,15 +32,18 @@ impl NameSet {
     {
         NameSet {
             alloc,
-            names: IndexSet::new(alloc),
+            names: IndexSet::with_hasher(alloc, BuildNameHasher::new()),
         }
     }
 
-    /// Puts a name into the set. Where it is refused, the set is as before.
+    /// Puts a name into the set, which takes no memory where it is there. Where it is refused, the set is as before.
     pub fn add(&mut self, name: &[u8]) -> Result<(), AllocError>
         ensures ok { OnOk result (self.new ≡ with_name self.old name.now) }
         ensures err { OnErr result (self.new ≡ self.old) }
     {
+        if self.has(name) {
+            return Ok(());
+        }
         let name = Vec::from_slice(self.alloc, name)?;
         self.names.insert(name)?;
         Ok(())

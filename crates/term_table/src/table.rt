@@ -8,7 +8,7 @@ ghost use Rattle.smt_values.specs.SortIds.{sort_at, IsSortId, IsPlain, AddsSort}
 
 use indexmap::{IndexMap, IndexSet};
 use smallvec::SmallVec;
-use smt_terms::NodeId;
+use smt_terms::{BuildNameHasher, NodeId};
 use smt_values::{Op, SortId, SortTable, SymId};
 use std::alloc::{AllocError, Global};
 use std::marker::Model;
@@ -35,7 +35,7 @@ struct Entry {
 pub struct Table {
     alloc: Global,
     sorts: SortTable,
-    symbols: IndexSet<Entry>,
+    symbols: IndexSet<Entry, BuildNameHasher>,
     nodes: IndexMap<Node, SortId>,
 }
 
@@ -68,7 +68,7 @@ impl Table {
         Table {
             alloc,
             sorts: SortTable::new(alloc),
-            symbols: IndexSet::new(alloc),
+            symbols: IndexSet::with_hasher(alloc, BuildNameHasher::new()),
             nodes: IndexMap::new(alloc),
         }
     }
