@@ -4,6 +4,7 @@
 #![tactic(auto)]
 
 pub mod fault;
+mod hashing;
 pub mod laws;
 pub mod lists;
 pub mod rank;

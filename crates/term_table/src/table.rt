@@ -6,11 +6,13 @@ ghost use Rattle.smt_terms.specs.Made.{minus};
 ghost use Rattle.smt_terms.specs.Rank.{sort_of, is_array};
 ghost use Rattle.smt_values.specs.SortIds.{sort_at, IsSortId, IsPlain, AddsSort};
 
+use crate::hashing::NodeHasher;
 use indexmap::{IndexMap, IndexSet};
 use smallvec::SmallVec;
 use smt_terms::{BuildNameHasher, NodeId};
 use smt_values::{Op, SortId, SortTable, SymId};
 use std::alloc::{AllocError, Global};
+use std::hash::BuildHasherDefault;
 use std::marker::Model;
 
 /// A node: its operator and its operands.
@@ -36,7 +38,7 @@ pub struct Table {
     alloc: Global,
     sorts: SortTable,
     symbols: IndexSet<Entry, BuildNameHasher>,
-    nodes: IndexMap<Node, SortId>,
+    nodes: IndexMap<Node, SortId, BuildHasherDefault<NodeHasher>>,
 }
 
 impl Model for Table {
@@ -69,7 +71,7 @@ impl Table {
             alloc,
             sorts: SortTable::new(alloc),
             symbols: IndexSet::with_hasher(alloc, BuildNameHasher::new()),
-            nodes: IndexMap::new(alloc),
+            nodes: IndexMap::with_hasher(alloc, BuildHasherDefault::new()),
         }
     }
 

@@ -1,0 +1,63 @@
+//! How nodes are hashed.
+
+ghost use Rattle.std.specs.Prelude.{◌≡◌};
+ghost use Rattle.term_table.specs.Hashing.{ranked, written, finished};
+
+use std::hash::{FoldHasher, Hasher};
+
+/// Numbers that differ in their last five bits alone are neighbours.
+const BLOCK: u64 = 32;
+
+/// The bits of a hash that tell neighbours apart: the tag, and which of four groups of an index table.
+const APART: u64 = 0xFF00_0003;
+
+/// The bits of a hash that neighbours have in common: which four groups of an index table.
+const TOGETHER: u64 = 0x00FF_FFFC;
+
+/// A hasher that keeps neighbours together. Neighbours are values which differ only in the last five bits of the
+/// greatest number of eight bytes that they write: of a node, mostly its latest operand. An index table looks for them
+/// first in the same four groups, which lie side by side in memory, so nodes that are made one after the other over one
+/// another are found without a walk through all of the table. No more than 32 values are neighbours, whatever the rest
+/// of them is, so that no four groups are first for many.
+#[derive(Clone, Copy, Default)]
+pub(crate) struct NodeHasher {
+    /// All that was written.
+    whole: FoldHasher,
+    /// The same, but for the greatest number.
+    rest: FoldHasher,
+    greatest: u64,
+}
+
+impl NodeHasher {
+    // A number that a greater one follows is written as its complement, so that the order of the numbers counts.
+    fn rank(&mut self, number: u64)
+        ensures { self.new ≡ ranked self.old number }
+    {
+        if self.greatest < number {
+            self.rest.write_u64(!self.greatest);
+            self.greatest = number;
+        } else {
+            self.rest.write_u64(number);
+        }
+    }
+}
+
+impl Hasher for NodeHasher {
+    ghost write = { written };
+
+    ghost finish = { finished };
+
+    fn finish(&self) -> u64 {
+        let mut block = self.rest;
+        block.write_u64(self.greatest / BLOCK);
+        self.whole.finish() & APART | block.finish() & TOGETHER
+    }
+
+    fn write(&mut self, bytes: &[u8]) {
+        self.whole.write(bytes);
+        match <[u8; 8]>::try_from(bytes) {
+            Ok(number) => self.rank(u64::from_le_bytes(number)),
+            Err(_) => self.rest.write(bytes),
+        }
+    }
+}
