@@ -1,4 +1,5 @@
 pub mod Answering
+pub mod Begun
 pub mod Folding
 pub mod Growing
 pub mod Linking

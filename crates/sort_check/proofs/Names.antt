@@ -1,5 +1,5 @@
 -- Written operators by name.
-use Rattle.std.proofs.Common.{◌≡◌, ℕ, suc, ◌+◌, ◌<◌, Bool, true, false, cond, List, [], ◌∷◌, ◌++◌, map, drop, length, get_or, Option, Some, refl, ap, ◌∙◌, subst, arith}
+use Rattle.std.proofs.Common.{◌≡◌, ℕ, suc, ◌+◌, ◌<◌, Bool, true, false, cond, List, [], ◌∷◌, ◌++◌, map, drop, length, get_or, Option, Some, None, IfSome, IsTrue, refl, ap, sym, ◌∙◌, subst, arith}
 use Rattle.std.specs.List.{list_all}
 use Rattle.std.proofs.Math.Seq.{drop-cons}
 use Rattle.std.proofs.lemmas.List.{get_or-map, length-map}
@@ -8,7 +8,8 @@ use Rattle.smt_terms.specs.Equal.{name_eq}
 use Rattle.smt_terms.specs.Rank.{shape}
 use Rattle.smt_terms.proofs.Tests.{both_true}
 use Rattle.smt_terms.specs.Written.{Indexed, core_operators, number_operators, vector_operators, array_operators, named_in, or_else, operator_named}
-use Rattle.sort_check.specs.Forms.{is_apt, is_apt_at, is_theory}
+use Rattle.sort_check.specs.declared.written.Form.{Form}
+use Rattle.sort_check.specs.Forms.{form_seen, found, is_apt, is_apt_at, is_theory}
 
 named_in-append : (ps qs : List (Name × Indexed)) (n : Name) → named_in (ps ++ qs) n ≡ or_else (named_in ps n) (named_in qs n)
 named_in-append [] qs n = refl
@@ -63,3 +64,7 @@ apt_among (p ∷ ps) n o all e =
 
 pub apt_named : (n : Name) (o : Indexed) → operator_named n ≡ Some o → is_apt_at o ≡ true
 apt_named n o e = apt_among all_operators n o are_apt (named_in-all n ∙ e)
+
+pub apt_found : (r : Option Form) (n : Name) → found r ≡ operator_named n → IfSome r (λ f. IsTrue (is_apt_at (form_seen f)))
+apt_found None n same = tt
+apt_found (Some f) n same = apt_named n (form_seen f) (sym same)

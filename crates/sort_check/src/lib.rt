@@ -17,7 +17,7 @@ mod written;
 pub use fault::MakeFault;
 pub use making::make;
 pub use operators::make_form;
-pub use written::indices_taken;
+pub use written::{Form, Operator, form_named};
 
 #[cfg(test)]
 mod tests;

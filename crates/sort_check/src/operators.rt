@@ -1,8 +1,8 @@
 //! Nodes by the names of written operators.
 
-ghost use Rattle.std.specs.Prelude.{◌≡◌, ◌<◌, ◌^◌, All, IfOk, IsSome, IsTrue};
+ghost use Rattle.std.specs.Prelude.{◌≡◌, ◌<◌, ◌^◌, IfOk, IsTrue};
 ghost use Rattle.smt_terms.specs.Rank.{shape};
-ghost use Rattle.smt_terms.specs.Written.{Written, plain, over_all, subtraction, divisibility, whole_in, written_named, written_rank, build};
+ghost use Rattle.smt_terms.specs.Written.{plain, over_all, subtraction, divisibility, whole_in, written_rank, build};
 ghost use Rattle.term_table.specs.Formulas.{tree, trees_at, AreNodes, IsNode, Grows};
 ghost use Rattle.term_table.specs.ShapeRank.{kid_sorts};
 ghost use Rattle.sort_check.specs.Forms.{written_seen, is_apt, is_several, is_theory};
@@ -16,33 +16,31 @@ use crate::vectors::{
     complemented, extraction, left_rotation, repetition, right_rotation, sign_extension,
     zero_extension,
 };
-use crate::written::{Operator, written_named};
+use crate::written::Operator;
 use smt_terms::{NodeId, Op};
 use std::alloc::{AllocError, Global};
 use term_table::{RankFault, Table};
 
-/// Makes what the written operator of this name and these indices stands for over these operands: exactly where it has a
-/// rank over them, memory aside. There is an operator of this name with so many indices, and each is at most 2^127 - 1.
-/// Nodes that were made before want of memory stay; after another refusal the table is as before.
+/// Makes what the written operator stands for over these operands: exactly where it has a rank over them, memory aside.
+/// The operator is one that `form_named` answers, with its indices. Nodes that were made before want of memory stay;
+/// after another refusal the table is as before.
 pub fn make_form(
     alloc: Global,
     table: &mut Table,
-    name: &[u8],
-    indices: &[u128],
+    operator: Operator,
     kids: &[NodeId],
 ) -> Result<NodeId, MakeFault>
-    requires named { IsSome (written_named name.now indices.now) }
-    requires indices { All (λ i. i < 2 ^ 127) indices.now }
+    requires apt { IsTrue (is_apt (written_seen operator)) }
     requires kids { AreNodes table.old kids.now }
-    ensures rank { (w : Written) → written_named name.now indices.now ≡ Some w → FollowsRank table.old.sorts (written_rank w (kid_sorts table.old kids.now)) result }
+    ensures rank { FollowsRank table.old.sorts (written_rank (written_seen operator) (kid_sorts table.old kids.now)) result }
     ensures node { IfOk result (λ k. IsNode table.new k) }
-    ensures term { (w : Written) → written_named name.now indices.now ≡ Some w → IfOk result (λ k. tree table.new k ≡ build term_algebra w (trees_at table.old kids.now)) }
+    ensures term { IfOk result (λ k. tree table.new k ≡ build term_algebra (written_seen operator) (trees_at table.old kids.now)) }
     ensures grows { Grows table.old.trees table.new.trees }
     ensures symbols { table.new.symbols ≡ table.old.symbols }
     ensures sorts { table.new.sorts ≡ table.old.sorts }
     ensures refused { OnRefusal result (table.new.trees ≡ table.old.trees) }
 {
-    build(alloc, table, written_named(name, indices), kids)
+    build(alloc, table, operator, kids)
 }
 
 #[tactic(auto, unfolding(crate::specs::Forms::is_apt))]

@@ -210,8 +210,8 @@ fn formed(
     indices: &[u128],
     kids: &[NodeId],
 ) -> Option<Result<NodeId, MakeFault>> {
-    let number = indices_taken(name)?;
-    if number != indices.len() {
+    let form = form_named(name)?;
+    if form.index_count() != indices.len() {
         return None;
     }
     if !are_indices(indices) {
@@ -220,7 +220,8 @@ fn formed(
     if !are_nodes(table, kids) {
         return None;
     }
-    Some(make_form(alloc, table, name, indices, kids))
+    let operator = form.at_indices(indices);
+    Some(make_form(alloc, table, operator, kids))
 }
 
 // Whether the answer is the node of this operator over these operands.

@@ -1,6 +1,6 @@
 //! The written operators by their names and indices.
 
-ghost use Rattle.std.specs.Prelude.{◌≡◌, ℕ, List, length, IfSome, option_map, ◌<◌, ◌^◌, All, map, IsSome, IsTrue, Some};
+ghost use Rattle.std.specs.Prelude.{◌≡◌, ℕ, List, slice_index_or, length, IfSome, option_map, ◌<◌, ◌^◌, All, map, IsSome, IsTrue, Some};
 ghost use Rattle.smt_terms.specs.Written.{operator_named, named_in, at_indices, written_named};
 ghost use Rattle.sort_check.specs.Forms.{form_seen, found, written_seen, is_apt, is_apt_at, index_count};
 
@@ -63,63 +63,112 @@ pub enum Form {
     Extract,
 }
 
-const OPERATORS: [(&[u8], Form); 56] = [
-    (b"not", WithoutIndex(Plain(Op::Not))),
-    (b"and", WithoutIndex(OverAll(Op::And))),
-    (b"or", WithoutIndex(OverAll(Op::Or))),
-    (b"xor", WithoutIndex(LeftAssociative(Op::Xor))),
-    (b"=>", WithoutIndex(RightAssociative(Op::Implies))),
-    (b"=", WithoutIndex(Chainable(Op::Equal))),
-    (b"distinct", WithoutIndex(Plain(Op::Distinct))),
-    (b"ite", WithoutIndex(Plain(Op::Ite))),
-    (b"-", WithoutIndex(Subtraction)),
-    (b"+", WithoutIndex(OverAll(Op::Add))),
-    (b"*", WithoutIndex(OverAll(Op::Mul))),
-    (b"div", WithoutIndex(LeftAssociative(Op::Div))),
-    (b"mod", WithoutIndex(Plain(Op::Mod))),
-    (b"abs", WithoutIndex(Plain(Op::Abs))),
+// The written operators: those whose names begin with each sign or letter, and with `bv` and each letter.
+const WITH_STAR: [(&[u8], Form); 1] = [(b"*", WithoutIndex(OverAll(Op::Mul)))];
+
+const WITH_PLUS: [(&[u8], Form); 1] = [(b"+", WithoutIndex(OverAll(Op::Add)))];
+
+const WITH_MINUS: [(&[u8], Form); 1] = [(b"-", WithoutIndex(Subtraction))];
+
+const WITH_LESS: [(&[u8], Form); 2] = [
     (b"<=", WithoutIndex(Chainable(Op::Le))),
     (b"<", WithoutIndex(Chainable(Op::Lt))),
+];
+
+const WITH_EQUALS: [(&[u8], Form); 2] = [
+    (b"=>", WithoutIndex(RightAssociative(Op::Implies))),
+    (b"=", WithoutIndex(Chainable(Op::Equal))),
+];
+
+const WITH_GREATER: [(&[u8], Form); 2] = [
     (b">=", WithoutIndex(ChainableExchanged(Op::Le))),
     (b">", WithoutIndex(ChainableExchanged(Op::Lt))),
+];
+
+const WITH_A: [(&[u8], Form); 2] = [
+    (b"and", WithoutIndex(OverAll(Op::And))),
+    (b"abs", WithoutIndex(Plain(Op::Abs))),
+];
+
+const WITH_C: [(&[u8], Form); 1] = [(b"concat", WithoutIndex(Plain(Op::Concat)))];
+
+const WITH_D: [(&[u8], Form); 3] = [
+    (b"distinct", WithoutIndex(Plain(Op::Distinct))),
+    (b"div", WithoutIndex(LeftAssociative(Op::Div))),
     (b"divisible", Divisible),
-    (b"concat", WithoutIndex(Plain(Op::Concat))),
-    (b"extract", Extract),
+];
+
+const WITH_E: [(&[u8], Form); 1] = [(b"extract", Extract)];
+
+const WITH_I: [(&[u8], Form); 1] = [(b"ite", WithoutIndex(Plain(Op::Ite)))];
+
+const WITH_M: [(&[u8], Form); 1] = [(b"mod", WithoutIndex(Plain(Op::Mod)))];
+
+const WITH_N: [(&[u8], Form); 1] = [(b"not", WithoutIndex(Plain(Op::Not)))];
+
+const WITH_O: [(&[u8], Form); 1] = [(b"or", WithoutIndex(OverAll(Op::Or)))];
+
+const WITH_R: [(&[u8], Form); 3] = [
+    (b"repeat", Repeat),
+    (b"rotate_left", RotateLeft),
+    (b"rotate_right", RotateRight),
+];
+
+const WITH_S: [(&[u8], Form); 3] = [
+    (b"sign_extend", SignExtend),
+    (b"select", WithoutIndex(Plain(Op::Select))),
+    (b"store", WithoutIndex(Plain(Op::Store))),
+];
+
+const WITH_X: [(&[u8], Form); 1] = [(b"xor", WithoutIndex(LeftAssociative(Op::Xor)))];
+
+const WITH_Z: [(&[u8], Form); 1] = [(b"zero_extend", ZeroExtend)];
+
+const WITH_BVA: [(&[u8], Form); 3] = [
+    (b"bvand", WithoutIndex(LeftAssociative(Op::BvAnd))),
+    (b"bvadd", WithoutIndex(LeftAssociative(Op::BvAdd))),
+    (b"bvashr", WithoutIndex(Plain(Op::BvAshr))),
+];
+
+const WITH_BVC: [(&[u8], Form); 1] = [(b"bvcomp", WithoutIndex(Plain(Op::BvComp)))];
+
+const WITH_BVL: [(&[u8], Form); 1] = [(b"bvlshr", WithoutIndex(Plain(Op::BvLshr)))];
+
+const WITH_BVM: [(&[u8], Form); 1] = [(b"bvmul", WithoutIndex(LeftAssociative(Op::BvMul)))];
+
+const WITH_BVN: [(&[u8], Form); 4] = [
     (b"bvnot", WithoutIndex(Plain(Op::BvNot))),
     (b"bvneg", WithoutIndex(Plain(Op::BvNeg))),
-    (b"bvand", WithoutIndex(LeftAssociative(Op::BvAnd))),
-    (b"bvor", WithoutIndex(LeftAssociative(Op::BvOr))),
-    (b"bvxor", WithoutIndex(LeftAssociative(Op::BvXor))),
-    (b"bvadd", WithoutIndex(LeftAssociative(Op::BvAdd))),
-    (b"bvmul", WithoutIndex(LeftAssociative(Op::BvMul))),
     (b"bvnand", WithoutIndex(Complemented(Op::BvAnd))),
     (b"bvnor", WithoutIndex(Complemented(Op::BvOr))),
-    (b"bvxnor", WithoutIndex(Complemented(Op::BvXor))),
+];
+
+const WITH_BVO: [(&[u8], Form); 1] = [(b"bvor", WithoutIndex(LeftAssociative(Op::BvOr)))];
+
+const WITH_BVS: [(&[u8], Form); 9] = [
     (b"bvsub", WithoutIndex(Plain(Op::BvSub))),
-    (b"bvudiv", WithoutIndex(Plain(Op::BvUdiv))),
-    (b"bvurem", WithoutIndex(Plain(Op::BvUrem))),
     (b"bvsdiv", WithoutIndex(Plain(Op::BvSdiv))),
     (b"bvsrem", WithoutIndex(Plain(Op::BvSrem))),
     (b"bvsmod", WithoutIndex(Plain(Op::BvSmod))),
     (b"bvshl", WithoutIndex(Plain(Op::BvShl))),
-    (b"bvlshr", WithoutIndex(Plain(Op::BvLshr))),
-    (b"bvashr", WithoutIndex(Plain(Op::BvAshr))),
-    (b"bvcomp", WithoutIndex(Plain(Op::BvComp))),
-    (b"bvult", WithoutIndex(Plain(Op::BvUlt))),
-    (b"bvule", WithoutIndex(Plain(Op::BvUle))),
     (b"bvslt", WithoutIndex(Plain(Op::BvSlt))),
     (b"bvsle", WithoutIndex(Plain(Op::BvSle))),
-    (b"bvugt", WithoutIndex(Exchanged(Op::BvUlt))),
-    (b"bvuge", WithoutIndex(Exchanged(Op::BvUle))),
     (b"bvsgt", WithoutIndex(Exchanged(Op::BvSlt))),
     (b"bvsge", WithoutIndex(Exchanged(Op::BvSle))),
-    (b"repeat", Repeat),
-    (b"zero_extend", ZeroExtend),
-    (b"sign_extend", SignExtend),
-    (b"rotate_left", RotateLeft),
-    (b"rotate_right", RotateRight),
-    (b"select", WithoutIndex(Plain(Op::Select))),
-    (b"store", WithoutIndex(Plain(Op::Store))),
+];
+
+const WITH_BVU: [(&[u8], Form); 6] = [
+    (b"bvudiv", WithoutIndex(Plain(Op::BvUdiv))),
+    (b"bvurem", WithoutIndex(Plain(Op::BvUrem))),
+    (b"bvult", WithoutIndex(Plain(Op::BvUlt))),
+    (b"bvule", WithoutIndex(Plain(Op::BvUle))),
+    (b"bvugt", WithoutIndex(Exchanged(Op::BvUlt))),
+    (b"bvuge", WithoutIndex(Exchanged(Op::BvUle))),
+];
+
+const WITH_BVX: [(&[u8], Form); 2] = [
+    (b"bvxor", WithoutIndex(LeftAssociative(Op::BvXor))),
+    (b"bvxnor", WithoutIndex(Complemented(Op::BvXor))),
 ];
 
 // The form of this name.
@@ -134,56 +183,99 @@ fn form_in(operators: &[(&[u8], Form)], name: &[u8]) -> Option<Form>
     None
 }
 
-fn form_named(name: &[u8]) -> Option<Form>
+/// The form of the written operator of this name, and None exactly where there is no operator of this name. It takes no
+/// memory.
+pub fn form_named(name: &[u8]) -> Option<Form>
+    ensures named { found result ≡ operator_named name.now }
+    ensures apt { IfSome result (λ form. IsTrue (is_apt_at (form_seen form))) }
+{
+    form_by_byte(name)
+}
+
+fn form_by_byte(name: &[u8]) -> Option<Form>
     ensures { found result ≡ operator_named name.now }
 {
-    form_in(&OPERATORS, name)
-}
-
-// The operator with its indices, which are as many as it takes.
-#[tactic(auto, unfolding(crate::specs::Forms::is_apt, crate::specs::Forms::is_theory, smt_terms::specs::Rank::shape))]
-fn at_indices(form: Form, indices: &[u128]) -> Operator
-    requires number { IsSome (at_indices (form_seen form) indices.now) }
-    requires indices { All (λ i. i < 2 ^ 127) indices.now }
-    requires apt { IsTrue (is_apt_at (form_seen form)) }
-    ensures named { at_indices (form_seen form) indices.now ≡ Some (written_seen result) }
-    ensures apt { IsTrue (is_apt (written_seen result)) }
-{
-    match form {
-        WithoutIndex(written) => written,
-        Divisible => Operator::Divisibility(indices[0]),
-        Repeat => Operator::Repetition(indices[0]),
-        RotateLeft => Operator::LeftRotation(indices[0]),
-        RotateRight => Operator::RightRotation(indices[0]),
-        ZeroExtend => Operator::ZeroExtension(indices[0]),
-        SignExtend => Operator::SignExtension(indices[0]),
-        Extract => Operator::Extraction {
-            high: indices[0],
-            low: indices[1],
-        },
+    let [first, ..] = name else { return None };
+    match *first {
+        b'b' => vector_form(name),
+        b'*' => form_in(&WITH_STAR, name),
+        b'+' => form_in(&WITH_PLUS, name),
+        b'-' => form_in(&WITH_MINUS, name),
+        b'<' => form_in(&WITH_LESS, name),
+        b'=' => form_in(&WITH_EQUALS, name),
+        b'>' => form_in(&WITH_GREATER, name),
+        b'a' => form_in(&WITH_A, name),
+        b'c' => form_in(&WITH_C, name),
+        b'd' => form_in(&WITH_D, name),
+        b'e' => form_in(&WITH_E, name),
+        b'i' => form_in(&WITH_I, name),
+        b'm' => form_in(&WITH_M, name),
+        b'n' => form_in(&WITH_N, name),
+        b'o' => form_in(&WITH_O, name),
+        b'r' => form_in(&WITH_R, name),
+        b's' => form_in(&WITH_S, name),
+        b'x' => form_in(&WITH_X, name),
+        b'z' => form_in(&WITH_Z, name),
+        _ => None,
     }
 }
 
-/// How many indices the written operator of this name takes, and None exactly where there is no operator of this name.
-/// It takes no memory.
-pub fn indices_taken(name: &[u8]) -> Option<usize>
-    ensures number { result ≡ option_map index_count (operator_named name.now) }
-    ensures named { IfSome result (λ n. (indices : List ℕ) → length indices ≡ n → IsSome (written_named name.now indices)) }
+// The form of this name, which begins with a `b`.
+fn vector_form(name: &[u8]) -> Option<Form>
+    requires { slice_index_or name.now 0 0 ≡ 98 }
+    ensures { found result ≡ operator_named name.now }
 {
-    match form_named(name)? {
-        WithoutIndex(_) => Some(0),
-        Extract => Some(2),
-        _ => Some(1),
+    let [_, _, third, ..] = name else {
+        return None;
+    };
+    match *third {
+        b'a' => form_in(&WITH_BVA, name),
+        b'c' => form_in(&WITH_BVC, name),
+        b'l' => form_in(&WITH_BVL, name),
+        b'm' => form_in(&WITH_BVM, name),
+        b'n' => form_in(&WITH_BVN, name),
+        b'o' => form_in(&WITH_BVO, name),
+        b's' => form_in(&WITH_BVS, name),
+        b'u' => form_in(&WITH_BVU, name),
+        b'x' => form_in(&WITH_BVX, name),
+        _ => None,
     }
 }
 
-/// The written operator of this name and these indices. It takes no memory.
-pub fn written_named(name: &[u8], indices: &[u128]) -> Operator
-    requires named { IsSome (written_named name.now indices.now) }
-    requires indices { All (λ i. i < 2 ^ 127) indices.now }
-    ensures named { written_named name.now indices.now ≡ Some (written_seen result) }
-    ensures apt { IsTrue (is_apt (written_seen result)) }
-{
-    let form = form_named(name).unwrap();
-    at_indices(form, indices)
+impl Form {
+    /// How many indices the operator takes.
+    pub fn index_count(self) -> usize
+        ensures number { result ≡ index_count (form_seen self) }
+        ensures indices { (indices : List ℕ) → length indices ≡ result → IsSome (at_indices (form_seen self) indices) }
+    {
+        match self {
+            WithoutIndex(_) => 0,
+            Extract => 2,
+            _ => 1,
+        }
+    }
+
+    /// The operator with these indices, which are as many as it takes; each is at most 2^127 - 1.
+    #[tactic(auto, unfolding(crate::specs::Forms::is_apt, crate::specs::Forms::is_theory, smt_terms::specs::Rank::shape))]
+    pub fn at_indices(self, indices: &[u128]) -> Operator
+        requires number { IsSome (at_indices (form_seen self) indices.now) }
+        requires indices { All (λ i. i < 2 ^ 127) indices.now }
+        requires apt { IsTrue (is_apt_at (form_seen self)) }
+        ensures named { at_indices (form_seen self) indices.now ≡ Some (written_seen result) }
+        ensures apt { IsTrue (is_apt (written_seen result)) }
+    {
+        match self {
+            WithoutIndex(written) => written,
+            Divisible => Operator::Divisibility(indices[0]),
+            Repeat => Operator::Repetition(indices[0]),
+            RotateLeft => Operator::LeftRotation(indices[0]),
+            RotateRight => Operator::RightRotation(indices[0]),
+            ZeroExtend => Operator::ZeroExtension(indices[0]),
+            SignExtend => Operator::SignExtension(indices[0]),
+            Extract => Operator::Extraction {
+                high: indices[0],
+                low: indices[1],
+            },
+        }
+    }
 }

@@ -1,6 +1,5 @@
-use Rattle.std.proofs.Common.{◌∙◌}
-use Rattle.sort_check.proofs.Names.{named_in-all}
+use Rattle.sort_check.proofs.Names.{apt_found}
 use Rattle.sort_check.proofs.written.form_named.Goals as goal
 
-pub returns : goal.returns
-returns c = c.form_in.ensures ∙ named_in-all c.args.name.now
+pub returns-clause-apt : goal.returns-clause-apt
+returns-clause-apt c = apt_found c.form_by_byte.result c.args.name.now c.form_by_byte.ensures
