@@ -1,19 +1,17 @@
 -- The texts of numbers and of sorts, piece by piece.
-use Rattle.std.proofs.Common.{◌≡◌, ℕ, zero, suc, ◌+◌, ◌-◌, ◌*◌, ◌/◌, ◌%◌, ◌^◌, ◌<◌, ◌≤◌, nat_lt, Bool, true, false, ℤ, pos, to_z, of_z, FitsSigned, List, [], ◌∷◌, ◌++◌, replicate, refl, ap, sym, ◌∙◌, subst, arith}
+use Rattle.std.proofs.Common.{◌≡◌, ℕ, zero, suc, ◌+◌, ◌-◌, ◌*◌, ◌/◌, ◌%◌, ◌^◌, ◌<◌, ◌≤◌, Bool, true, false, ℤ, pos, to_z, of_z, FitsSigned, List, [], ◌∷◌, ◌++◌, replicate, refl, ap, sym, ◌∙◌, subst, arith}
 use Rattle.std.specs.Int.{w128}
 use Rattle.std.proofs.lemmas.Int.{to_z-of_z, ints}
-use Rattle.std.specs.Fmt.{decimal, digits, digits_onto}
+use Rattle.std.specs.Fmt.{decimal, digits}
 use Rattle.std.specs.Char.{digit_char}
 use Rattle.std.specs.Prelude.{codes, unsigned_abs, int_lt, int_le, if◌then◌else◌}
-use Rattle.std.proofs.lemmas.Bool.{ltb-true, ltb-false}
-use Rattle.std.proofs.lemmas.Bool.Decides.{nat_tests}
 use Rattle.std.proofs.lemmas.Nat.{pow-add, pow_pos, one_shl}
 use Rattle.std.proofs.lemmas.List.{append_assoc, append-nil}
-use Rattle.std.proofs.Math.Nat.{div-lt_iff_lt-mul, div-lt_self, pow-suc, pow-le-pow_right, mod-lt, div-div-eq-div-mul, div-one}
+use Rattle.std.proofs.Math.Nat.{pow-le-pow_right, mod-lt, div-div-eq-div-mul, div-one}
 use Rattle.smt_lex.specs.Forms.{Form}
 use Rattle.smt_lex.specs.FormText.{form_text}
 use Rattle.smt_lex.specs.declared.items.Item.TheVariants.{Numeral}
-use Rattle.smt_terms.specs.Numeral.{digits_before, numeral}
+use Rattle.smt_terms.specs.Numeral.{numeral}
 use Rattle.smt_terms.specs.Sorts.{bit_vector}
 use Rattle.smt_terms.proofs.DecimalTexts.{decimal-numeral}
 use Rattle.term_table.specs.WrittenForms.{token_form, list_form, word_form, numeral_form, integer_form, sort_form, last_digits}
