@@ -1,5 +1,4 @@
 mod Assertions
-pub mod CommandsStay
 pub mod InForm
 mod Kept
 pub mod Literals

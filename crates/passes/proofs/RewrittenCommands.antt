@@ -18,7 +18,7 @@ use Rattle.script_read.specs.Commands.{Command as CommandOf, assert}
 use Rattle.script_read.proofs.Grown.{none_later}
 use Rattle.passes.specs.Assertion.{assertion_of}
 use Rattle.passes.specs.Behind.{Form, IsRewritable, AreRewritable}
-use Rattle.passes.proofs.CommandsStay.{commands_within, commands_stay}
+use Rattle.script_read.proofs.CommandsStay.{commands_within, commands_stay}
 use Rattle.passes.proofs.InForm.{IsUnderWay, is_assertion, kept_step, changed_step, its_own}
 
 all_at : {X : Type 0} (P : X → Type 0) (xs : List X) (i : ℕ) (x : X) → slice_get xs i ≡ Some x → All P xs → P x

@@ -3,8 +3,8 @@
 ghost use Rattle.std.specs.Prelude.{◌≡◌, ◌∷◌, ◌++◌, [], List, true, IfOk, OnOk};
 ghost use Rattle.smt_terms.specs.Sorts.{Variable};
 ghost use Rattle.smt_terms.specs.SubstLaws.{GivesNone, names_within};
-ghost use Rattle.smt_terms.specs.Term.{constant_of, variable};
-ghost use Rattle.term_table.specs.Formulas.{tree, symbol_at, variable_of, IsNode, IsSymbol};
+ghost use Rattle.smt_terms.specs.Term.{variable};
+ghost use Rattle.term_table.specs.Formulas.{tree, variable_of, IsNode};
 ghost use Rattle.term_walk.specs.Walking.{GrowsTo};
 ghost use Rattle.term_subst.specs.Renaming.{Binds};
 ghost use Rattle.term_subst.specs.State.{Gains};
@@ -14,10 +14,10 @@ ghost use Rattle.quantifier_forms.specs.Pulling.{AreFresh, AreFronts, behind_fro
 ghost use Rattle.quantifier_forms.specs.Reaching.{parts_of, IsBinder};
 ghost use Rattle.quantifier_forms.specs.Working.{AreVariables};
 
-use crate::quantifying::{quantify, variables_below};
+use crate::quantifying::{quantify, symbol_of, variables_below};
 use crate::rebuilding::body_below;
 use normal_forms::binding::is_universal;
-use smt_terms::{NodeId, SymId};
+use smt_terms::NodeId;
 use smt_values::Op;
 use std::alloc::{AllocError, Global};
 use term_subst::{Fresh, SymMap, substitute};
@@ -28,20 +28,6 @@ use term_table::Table;
 pub(crate) struct Bound {
     pub(crate) universal: bool,
     pub(crate) variables: Vec<NodeId>,
-}
-
-// The symbol of a variable's node.
-#[tactic(auto, unfolding(term_table::specs::Formulas::kind))]
-fn symbol_of(table: &Table, id: NodeId) -> SymId
-    requires node { IsNode table.now id }
-    requires variable { tree table.now id ≡ variable (variable_of (tree table.now id)) }
-    ensures symbol { symbol_at table.now result ≡ constant_of (variable_of (tree table.now id)) }
-    ensures within { IsSymbol table.now result }
-{
-    match table.op(id) {
-        Op::Sym(symbol) => symbol,
-        _ => unreachable!(),
-    }
 }
 
 // A variable of a fresh name, to which the given one is mapped.

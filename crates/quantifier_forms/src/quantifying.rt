@@ -3,8 +3,8 @@
 ghost use Rattle.std.specs.Prelude.{◌≡◌, true, List, map, IfOk};
 ghost use Rattle.smt_terms.specs.Sorts.{Variable};
 ghost use Rattle.smt_terms.specs.Rank.{are_bindable};
-ghost use Rattle.smt_terms.specs.Term.{quantified, variable};
-ghost use Rattle.term_table.specs.Formulas.{tree, trees_at, IsNode, AreNodes};
+ghost use Rattle.smt_terms.specs.Term.{constant_of, quantified, variable};
+ghost use Rattle.term_table.specs.Formulas.{tree, trees_at, symbol_at, variable_of, IsNode, IsSymbol, AreNodes};
 ghost use Rattle.term_walk.specs.Walking.{GrowsTo};
 ghost use Rattle.normal_forms.specs.Nodes.{IsFormula};
 ghost use Rattle.normal_forms.specs.Shape.{quantifier_seen, is_quantified, variables_of};
@@ -12,10 +12,24 @@ ghost use Rattle.normal_forms.specs.Quantifiers.{not_bool};
 ghost use Rattle.quantifier_forms.specs.Working.{AreVariables};
 
 use normal_forms::shapes::is_formula;
-use smt_terms::NodeId;
+use smt_terms::{NodeId, SymId};
 use smt_values::Op;
 use std::alloc::{AllocError, Global};
 use term_table::Table;
+
+// The symbol of a variable's node.
+#[tactic(auto, unfolding(term_table::specs::Formulas::kind))]
+pub(crate) fn symbol_of(table: &Table, id: NodeId) -> SymId
+    requires node { IsNode table.now id }
+    requires variable { tree table.now id ≡ variable (variable_of (tree table.now id)) }
+    ensures symbol { symbol_at table.now result ≡ constant_of (variable_of (tree table.now id)) }
+    ensures within { IsSymbol table.now result }
+{
+    match table.op(id) {
+        Op::Sym(symbol) => symbol,
+        _ => unreachable!(),
+    }
+}
 
 // The variables of a quantified node.
 pub(crate) fn variables_below(

@@ -9,7 +9,7 @@ ghost use Rattle.smt_terms.specs.Sorts.{Variable};
 ghost use Rattle.smt_terms.specs.Subst.{subst};
 ghost use Rattle.smt_terms.specs.SubstLaws.{GivesNone, names_within};
 ghost use Rattle.smt_terms.specs.Term.{constant_of};
-ghost use Rattle.term_table.specs.Formulas.{tree, variable_of, symbol_at, IsNode, IsSymbol};
+ghost use Rattle.term_table.specs.Formulas.{tree, variable_of, IsNode};
 ghost use Rattle.term_walk.specs.Walking.{GrowsTo};
 ghost use Rattle.term_subst.specs.Substituting.{IsLater};
 ghost use Rattle.normal_forms.specs.Quantifiers as plain;
@@ -21,30 +21,16 @@ ghost use Rattle.quantifier_forms.specs.Working.{AreVariables, IsTruthVariable, 
 
 use crate::listing::list_all;
 use crate::memo::Memo;
-use crate::quantifying::{quantify, variables_below, without_truths};
+use crate::quantifying::{quantify, symbol_of, variables_below, without_truths};
 use crate::rebuilding::{body_below, is_binder, rebuilt};
 use crate::truths::{at_truth, quantified_truths};
 use crate::work::{Case, Work};
 use normal_forms::binding::is_universal;
 use normal_forms::shapes::is_formula;
-use smt_terms::{NodeId, SymId};
-use smt_values::Op;
+use smt_terms::NodeId;
 use std::alloc::{AllocError, Global};
 use term_subst::{Fresh, SymMap, substitute};
 use term_table::Table;
-
-// The symbol of a variable.
-#[tactic(auto, unfolding(term_table::specs::Formulas::kind))]
-fn symbol_of(table: &Table, variable: NodeId) -> SymId
-    requires { IsVariable table.now variable }
-    ensures symbol { IsSymbol table.now result }
-    ensures is { symbol_at table.now result ≡ constant_of (variable_of (tree table.now variable)) }
-{
-    match table.op(variable) {
-        Op::Sym(f) => f,
-        _ => unreachable!(),
-    }
-}
 
 // The formula with another one for a Bool variable.
 fn substituted(

@@ -13,6 +13,7 @@ mod ClearBuilt
 mod ClearReads
 mod ClearScript
 mod ClearTerms
+pub mod CommandsStay
 mod DefinedName
 mod DefinitionSteps
 mod Defining

@@ -29,52 +29,25 @@ use Rattle.script_read.specs.Replies.{refused_seen, Refuses}
 use Rattle.script_read.specs.Script.{Standing, Step, read_command, Numbered, numbered, behind, read_commands, fresh, first_standing, commands_or_refusal, read_forms, script, refusal}
 use Rattle.script_read.specs.ScriptSteps.{IsScriptFault, ReadsCommands}
 use Rattle.script_read.specs.Steps.{StandsAt, Steps}
+use Rattle.script_read.proofs.CommandsStay.{command_within, command_stays}
 use Rattle.script_read.proofs.Grown.{node_stays, tree_stays, nodes_stay, trees_stay, symbol_within, symbol_stays, sort_within, sort_stays, same_map}
 use Rattle.script_read.proofs.Showing.{shows_nothing}
 
 -- ---- commands that were read
 
 module _ (t u : Formulas) (grows : GrowsTo t u) where
-  command_within : (c : Command) → IsCommandOf t c → IsCommandOf u c
-  command_within (Passed text) is = tt
-  command_within (DeclareSort s) is = sort_within t.sorts u.sorts grows.sorts s is
-  command_within (Declare f) is = symbol_within t u grows f is
-  command_within (Assert id number) is = node_stays t u grows id is
-  command_within Check is = tt
-  command_within (CheckAssuming ids) is = nodes_stay t u grows ids is
-  command_within (Push n) is = tt
-  command_within (Pop n) is = tt
-  command_within Reset is = tt
-  command_within ResetAssertions is = tt
-  command_within (Globals b) is = tt
-  command_within Exit is = tt
-
-  command_stays : (c : Command) → IsCommandOf t c → command_of u c ≡ command_of t c
-  command_stays (Passed text) is = refl
-  command_stays (DeclareSort s) is = ap (λ to. declare_sort (free_name to)) (sort_stays t.sorts u.sorts grows.sorts s is)
-  command_stays (Declare f) is = ap declare (symbol_stays t u grows f is)
-  command_stays (Assert id number) is = ap (assert number) (tree_stays t u grows id is)
-  command_stays Check is = refl
-  command_stays (CheckAssuming ids) is = ap check_assuming (trees_stay t u grows ids is)
-  command_stays (Push n) is = refl
-  command_stays (Pop n) is = refl
-  command_stays Reset is = refl
-  command_stays ResetAssertions is = refl
-  command_stays (Globals b) is = refl
-  command_stays Exit is = refl
-
   module _ (cs new : List Command) (o : Option Command) (are : AreCommandsOf t cs) (is : new ≡ cs ++ option_to_list o) where
     pub commands_more : commands_of u new ≡ commands_of t cs ++ commands_of u (option_to_list o)
     commands_more =
         ap (commands_of u) is ∙ map-append (command_of u) cs (option_to_list o)
-        ∙ ap (λ ds. ds ++ commands_of u (option_to_list o)) (same_map (command_of u) (command_of t) cs (All-weaker (IsCommandOf t) (λ c. command_of u c ≡ command_of t c) command_stays cs are))
+        ∙ ap (λ ds. ds ++ commands_of u (option_to_list o)) (same_map (command_of u) (command_of t) cs (All-weaker (IsCommandOf t) (λ c. command_of u c ≡ command_of t c) (command_stays t u grows) cs are))
 
     given_within : (p : Option Command) → IfSome p (IsCommandOf u) → AreCommandsOf u (option_to_list p)
     given_within None given = All-nil (IsCommandOf u)
     given_within (Some c) given = All-cons (IsCommandOf u) c [] given (All-nil (IsCommandOf u))
 
     pub commands_within : IfSome o (IsCommandOf u) → AreCommandsOf u new
-    commands_within given = subst (AreCommandsOf u) (sym is) (All-append (IsCommandOf u) cs (option_to_list o) (All-weaker (IsCommandOf t) (IsCommandOf u) command_within cs are) (given_within o given))
+    commands_within given = subst (AreCommandsOf u) (sym is) (All-append (IsCommandOf u) cs (option_to_list o) (All-weaker (IsCommandOf t) (IsCommandOf u) (command_within t u grows) cs are) (given_within o given))
 
 -- ---- what is left to read
 

@@ -1,5 +1,5 @@
 -- What is known of each operand of a connective: they are Bool, and as many as the connective has.
-use Rattle.std.proofs.Common.{◌≡◌, ℕ, zero, suc, Bool, List, [], ◌∷◌, map, length, replicate, Option, Some, refl, ap, sym, ◌∙◌}
+use Rattle.std.proofs.Common.{◌≡◌, ℕ, zero, suc, Bool, List, [], ◌∷◌, map, length, replicate, Some, refl, ap, sym, ◌∙◌}
 use Rattle.std.specs.Prelude.{⊤}
 use Rattle.smt_terms.specs.Sorts.{Sort, bool}
 use Rattle.smt_terms.specs.Term.{Head, Term, Terms, none, ◌⨾◌, list}

@@ -8,6 +8,7 @@ pub mod Built
 pub mod Connected
 pub mod ConstantTerms
 pub mod Cuts
+pub mod DecimalTexts
 pub mod Depends
 pub mod Equal
 pub mod Fresh

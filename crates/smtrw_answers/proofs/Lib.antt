@@ -6,5 +6,4 @@ pub mod ClapWords
 pub mod ClapMatches
 pub mod ClapCalls
 pub mod GrammarWords
-pub mod Numerals
 pub mod ErrorLines

@@ -13,14 +13,12 @@ ghost use Rattle.script_read.specs.Heads.{vector_of_width};
 ghost use Rattle.script_read.specs.Known.{IsSpared};
 
 use crate::causes::Cause;
+use crate::places::GREATEST;
 use crate::terms::numbers::number_of;
 use smt_lex::Item;
 use smt_terms::{NodeId, Op};
 use std::alloc::AllocError;
 use term_table::Table;
-
-// The least number that no numeral may have.
-const GREATEST: u128 = 1 << 127;
 
 // The greatest width of a bit vector.
 const MOST_BITS: u128 = 128;

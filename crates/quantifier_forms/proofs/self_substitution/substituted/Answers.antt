@@ -1,10 +1,14 @@
-use Rattle.std.proofs.Common.{ap, sym}
+use Rattle.std.proofs.Common.{◌∙◌, ap, sym}
 use Rattle.smt_terms.specs.Fresh.{Supply}
-use Rattle.smt_terms.specs.Term.{Term}
+use Rattle.smt_terms.specs.Term.{Term, variable}
+use Rattle.term_table.specs.Formulas.{variable_of}
 use Rattle.quantifier_forms.proofs.AtTruth.{variable-images}
 use Rattle.quantifier_forms.proofs.Cases.{work-stays}
 use Rattle.quantifier_forms.proofs.SelfNodes.{plain-put}
 use Rattle.quantifier_forms.proofs.self_substitution.substituted.Goals as goal
+
+pub symbol_of-requires-clause-variable : goal.symbol_of-requires-clause-variable
+symbol_of-requires-clause-variable c = let is = c.requires.variable.is in is ∙ sym (ap (λ u. variable (variable_of u)) is)
 
 pub put-requires-clause-images : goal.put-requires-clause-images
 put-requires-clause-images c = variable-images c.args.table.now (record { variable = c.args.variable; image = c.args.image }) c.requires.variable c.requires.image

@@ -1,5 +1,5 @@
 use Rattle.std.proofs.Common.{◌++◌, ◌∙◌, ap, arith}
-use Rattle.smtrw_answers.proofs.Numerals.{decimal-numeral}
+use Rattle.smt_terms.proofs.DecimalTexts.{decimal-numeral}
 use Rattle.smtrw_answers.proofs.lines.push_number.Goals as goal
 
 pub returns-clause-bytes : goal.returns-clause-bytes

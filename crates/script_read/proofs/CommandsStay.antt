@@ -10,7 +10,7 @@ use Rattle.script_read.specs.Commands.{declare_sort, declare, assert, check_assu
 use Rattle.script_read.proofs.Grown.{same_map, node_stays, tree_stays, nodes_stay, trees_stay, symbol_within, symbol_stays, sort_within, sort_stays}
 
 module _ (t u : Formulas) (grows : GrowsTo t u) where
-  command_within : (c : Command) → IsCommandOf t c → IsCommandOf u c
+  pub command_within : (c : Command) → IsCommandOf t c → IsCommandOf u c
   command_within (Passed text) is = tt
   command_within (DeclareSort s) is = sort_within t.sorts u.sorts grows.sorts s is
   command_within (Declare f) is = symbol_within t u grows f is
@@ -24,7 +24,7 @@ module _ (t u : Formulas) (grows : GrowsTo t u) where
   command_within (Globals b) is = tt
   command_within Exit is = tt
 
-  command_stays : (c : Command) → IsCommandOf t c → command_of u c ≡ command_of t c
+  pub command_stays : (c : Command) → IsCommandOf t c → command_of u c ≡ command_of t c
   command_stays (Passed text) is = refl
   command_stays (DeclareSort s) is = ap (λ to. declare_sort (free_name to)) (sort_stays t.sorts u.sorts grows.sorts s is)
   command_stays (Declare f) is = ap declare (symbol_stays t u grows f is)
