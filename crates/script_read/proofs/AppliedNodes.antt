@@ -114,20 +114,6 @@ module _ (t : Formulas) where
   made_as u (Ok k) x y same is = is ∙ same
   made_as u (Err e) x y same is = tt
 
--- ---- a written operator is one of a token
-
-nothing_named : (indices : List ℕ) (w : Written) → written_named [] indices ≡ Some w → ⊥
-unfolding operator_named
-nothing_named indices w is = absurd cc
-
-pub operator_token : (ts : List Token) (i : ℕ) (indices : List ℕ) (w : Written) → written_named (name_at ts i) indices ≡ Some w → i < length ts
-operator_token ts i indices w named = elim (cases_lt i (length ts)) [
-  | inl within ↦ within
-  | inr past ↦
-      let nothing : token_at ts i ≡ no_token = get_or_past ts i no_token past in
-      absurd (nothing_named indices w (ap (λ t. written_named (name_of t) indices) (sym nothing) ∙ named))
-]
-
 -- ---- answers
 
 same_cause : (ss : List Sort) (e : RankFault) → cause_of (fault_seen ss e) ≡ cause_for e

@@ -39,7 +39,7 @@ module _ (ts : List Token) (defines : Option Name) (v w : World) (gains : Gains 
       (All-weaker _ _ (λ f within. ap (λ g. g.result) (symbol_stays v.table w.table gains.table f within)) d.params is.symbols)
 
   pub callee_stays : All (IsDefinition v.table v.supply) v.definitions → (c : Callee) (o : CalleeOf) → ShowsCallee ts v c o → ShowsCallee ts w c o
-  callee_stays definitions (WrittenCallee name indices) o shows = shows
+  callee_stays definitions (WrittenCallee operator) o shows = shows
   callee_stays definitions (ArrayOf s) o shows =
       (sort_within v.table.sorts w.table.sorts gains.table.sorts s shows.0, shows.1 ∙ ap array_of_sort (sym (sort_stays v.table.sorts w.table.sorts gains.table.sorts s shows.0)))
   callee_stays definitions (Called f) o shows =

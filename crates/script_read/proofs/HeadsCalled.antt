@@ -1,7 +1,7 @@
 -- What heads of applications call, as the code finds it.
-use Rattle.std.proofs.Common.{◌≡◌, ◌≢◌, ℕ, ◌<◌, ◌^◌, true, false, List, [], ◌∷◌, map, length, get_or, All, Option, Some, None, option_map, is_some, Result, Ok, Err, refl, ap, sym, ◌∙◌, subst, arith, if◌then◌else◌}
+use Rattle.std.proofs.Common.{◌≡◌, ◌≢◌, ℕ, ◌<◌, ◌^◌, true, false, List, [], ◌∷◌, map, length, get_or, All, IsTrue, Option, Some, None, option_map, is_some, Result, Ok, Err, refl, ap, sym, ◌∙◌, subst, arith, if◌then◌else◌}
 use Rattle.std.proofs.lemmas.List.{length-map}
-use Rattle.std.specs.Prelude.{codes, bytes_eq, option_and_then}
+use Rattle.std.specs.Prelude.{codes, bytes_eq}
 use Rattle.smt_lex.specs.Lex.{Token}
 use Rattle.smt_lex.specs.Names.{Name, is_among, is_theory_name}
 use Rattle.smt_lex.specs.Forms.{Form, atom, node, Forms, none, ◌⨾◌}
@@ -10,7 +10,8 @@ use Rattle.smt_terms.specs.Sorts.{Variable}
 use Rattle.smt_terms.specs.Written.{Indexed, operator_named, at_indices}
 use Rattle.smt_values.specs.SortIds.{sort_at, IsSortId}
 use Rattle.smt_terms.specs.declared.ids.SortId.{SortId}
-use Rattle.sort_check.specs.Forms.{index_count}
+use Rattle.sort_check.specs.declared.written.Operator.{Operator}
+use Rattle.sort_check.specs.Forms.{index_count, written_seen, is_apt}
 use Rattle.term_table.specs.Formulas.{Formulas, tree, symbol_at}
 use Rattle.script_read.specs.declared.causes.Cause.{Cause}
 use Rattle.script_read.specs.declared.causes.Cause.TheVariants.{BadForm, UnknownName, NumberLimit}
@@ -51,6 +52,15 @@ module _ (ts : List Token) (w : World) where
 
 -- ---- written operators
 
+module _ (fs : Forms) (ns : List ℕ) (x : Indices) (are : AreIndices fs ns x) where
+  same_values : x.beyond ≡ None → (x.values.items ≡ ns) × All (λ i. i < 2 ^ 127) x.values.items
+  same_values beyond =
+      let values = values_within fs ns are.numerals (sym are.beyond ∙ beyond) in
+      let here : x.values.items ≡ ns = are.values ∙ values.0 in (here, subst (All (λ i. i < 2 ^ 127)) (sym here) values.1)
+
+  pub indices_small : x.beyond ≡ None → All (λ i. i < 2 ^ 127) x.values.items
+  indices_small beyond = (same_values beyond).1
+
 module _ (ts : List Token) (w : World) (place : ℕ) (fs : Forms) (ns : List ℕ) (x : Indices) (are : AreIndices fs ns x) where
   pub as_many : length x.values.items ≡ length ns
   as_many = ap length are.values ∙ length-map ns capped
@@ -60,20 +70,13 @@ module _ (ts : List Token) (w : World) (place : ℕ) (fs : Forms) (ns : List ℕ
       let found = as_many_indices o ns (sym as_many ∙ same) in
       ap (written_at place fs) found.1 ∙ beyond_limit fs (written found.0) n (sym are.beyond ∙ beyond)
 
-  pub operator_called : (o : Indexed) (name : ℕ) → operator_named (name_at ts name) ≡ Some o → length x.values.items ≡ index_count o → x.beyond ≡ None → ReadsCallee ts w (written_at place fs (at_indices o ns)) (Ok (WrittenCallee name x.values))
-  operator_called o name named same beyond =
-      let found = as_many_indices o ns (sym as_many ∙ same) in
-      let few : beyond_in fs ≡ None = sym are.beyond ∙ beyond in
-      let values = values_within fs ns are.numerals few in
-      let here : x.values.items ≡ ns = are.values ∙ values.0 in (
-        written found.0,
-        (
-          found.0,
-          refl,
-          ap (λ p. option_and_then (λ (y : Indexed). at_indices y x.values.items) p) named ∙ ap (at_indices o) here ∙ found.1,
-          subst (λ is. All (λ i. i < 2 ^ 127) is) (sym here) values.1,
-        ),
-        ap (written_at place fs) found.1 ∙ within_limit fs (written found.0) few,
+  pub operator_called : (o : Indexed) (operator : Operator) → at_indices o x.values.items ≡ Some (written_seen operator) → IsTrue (is_apt (written_seen operator)) → x.beyond ≡ None
+      → ReadsCallee ts w (written_at place fs (at_indices o ns)) (Ok (WrittenCallee operator))
+  operator_called o operator named apt beyond =
+      let given : at_indices o ns ≡ Some (written_seen operator) = ap (at_indices o) (sym (same_values fs ns x are beyond).0) ∙ named in (
+        written (written_seen operator),
+        (refl, apt),
+        ap (written_at place fs) given ∙ within_limit fs (written (written_seen operator)) (sym are.beyond ∙ beyond),
       )
 
   -- ---- other names of the theories
@@ -114,13 +117,6 @@ module _ (ts : List Token) (w : World) (place : ℕ) (fs : Forms) (ns : List ℕ
   no_indices is = empty_indices ns (sym as_many ∙ is)
 
 -- ---- names of the theories
-
-operator_of : (o : Option Indexed) (count : ℕ) → Some count ≡ option_map index_count o → (i : Indexed) × (o ≡ Some i) × (index_count i ≡ count)
-operator_of None count is = absurd cc
-operator_of (Some i) count is = (i, refl, let same : count ≡ index_count i = cc in sym same)
-
-pub named_operator : (n : Name) (count : ℕ) → Some count ≡ option_map index_count (operator_named n) → (i : Indexed) × (operator_named n ≡ Some i) × (index_count i ≡ count)
-named_operator n count is = operator_of (operator_named n) count is
 
 pub nothing_mapped : {A B : Type 0} (f : A → B) (o : Option A) → None ≡ option_map f o → o ≡ None
 nothing_mapped f None is = refl

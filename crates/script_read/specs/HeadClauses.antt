@@ -25,6 +25,10 @@ pub record AreIndices (fs : Forms) (ns : List ℕ) (x : Indices) : Type 0 where
   pub values : x.values.items ≡ map capped ns
   pub beyond : x.beyond ≡ beyond_in fs
 
+-- they are some forms' indices
+abbrev pub SomeIndices : Indices → Type 0
+SomeIndices x = (fs : Forms) × (ns : List ℕ) × AreIndices fs ns x
+
 -- one or more numerals
 abbrev pub some_of : Option (List ℕ) → Option (List ℕ)
 some_of (Some (n ∷ ns)) = Some (n ∷ ns)

@@ -1,5 +1,5 @@
 -- Terms under way: what waits for the term that is being read, from the innermost form out, and what the reading then gives.
-use Rattle.std.specs.Prelude.{◌≡◌, true, false, ℕ, suc, ◌+◌, ◌<◌, ◌≤◌, ◌^◌, List, [], ◌∷◌, ◌++◌, map, reverse, length, drop, get_or, All, Option, Some, option_map, Result, Ok, Err}
+use Rattle.std.specs.Prelude.{◌≡◌, true, false, ℕ, suc, ◌+◌, ◌<◌, ◌≤◌, ◌^◌, List, [], ◌∷◌, ◌++◌, map, reverse, length, drop, get_or, All, IsTrue, Option, Some, option_map, Result, Ok, Err}
 use Rattle.smt_lex.specs.Lex.{Token}
 use Rattle.smt_lex.specs.Names.{Name, is_among}
 use Rattle.smt_lex.specs.Forest.{token_at, after_at}
@@ -9,9 +9,9 @@ use Rattle.smt_terms.specs.Fresh.{Supply, NeverGives}
 use Rattle.smt_terms.specs.Rank.{are_bindable}
 use Rattle.smt_terms.specs.Sorts.{Variable}
 use Rattle.smt_terms.specs.Term.{Term}
-use Rattle.smt_terms.specs.Written.{Written, written_named}
 use Rattle.smt_values.specs.SortIds.{sort_at, IsSortId}
 use Rattle.term_table.specs.Formulas.{Formulas, tree, trees_at, symbol_at, IsSymbol}
+use Rattle.sort_check.specs.Forms.{written_seen, is_apt}
 use Rattle.term_subst.specs.declared.maps.Definition.{Definition}
 use Rattle.term_subst.specs.Substituting.{IsLater}
 use Rattle.term_walk.specs.Walking.{GrowsTo}
@@ -86,7 +86,7 @@ module _ (ts : List Token) where
 
   -- the callee that the code's stands for
   abbrev pub ShowsCallee : World → Callee → CalleeOf → Type 0
-  ShowsCallee w (WrittenCallee name indices) c = (o : Written) × (c ≡ written o) × (written_named (name_at ts name) indices.items ≡ Some o) × All (λ i. i < 2 ^ 127) indices.items
+  ShowsCallee w (WrittenCallee operator) c = (c ≡ written (written_seen operator)) × IsTrue (is_apt (written_seen operator))
   ShowsCallee w (ArrayOf s) c = IsSortId w.table.sorts s × (c ≡ array_of_sort (sort_at w.table.sorts s))
   ShowsCallee w (Called f) c = IsSymbol w.table f × (c ≡ called (symbol_at w.table f)) × NeverGives w.supply (symbol_at w.table f).name
   ShowsCallee w (Defined k) c =

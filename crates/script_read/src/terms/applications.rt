@@ -1,10 +1,10 @@
 //! Applications of heads to terms.
 
-ghost use Rattle.std.specs.Prelude.{◌≡◌, ◌<◌, ◌^◌, All, List, Some, length, map};
+ghost use Rattle.std.specs.Prelude.{◌≡◌, ◌<◌, IsTrue, List, length, map};
 ghost use Rattle.smt_lex.specs.Forest.{token_at};
 ghost use Rattle.smt_terms.specs.Fresh.{Supply, NeverGives};
 ghost use Rattle.smt_terms.specs.Sorts.{Variable};
-ghost use Rattle.smt_terms.specs.Written.{Written, written_named};
+ghost use Rattle.sort_check.specs.Forms.{written_seen, is_apt};
 ghost use Rattle.smt_values.specs.SortIds.{sort_at, IsSortId};
 ghost use Rattle.term_table.specs.Formulas.{tree, trees_at, symbol_at, IsSymbol, IsTable};
 ghost use Rattle.term_subst.specs.Substituting.{IsLater};
@@ -12,7 +12,6 @@ ghost use Rattle.term_walk.specs.Walking.{GrowsTo};
 ghost use Rattle.script_read.specs.Heads.{Callee as CalleeOf, applied, written, array_of_sort, called, defined};
 ghost use Rattle.script_read.specs.ApplicationClauses.{answer_of, cause_for, ReadsWith};
 ghost use Rattle.script_read.specs.Reading.{ReadBinding};
-ghost use Rattle.script_read.specs.Bound.{name_at};
 ghost use Rattle.script_read.specs.Known.{Shows, AreSpared, IsDefinition, ReadsTerm, parameter_sorts};
 ghost use Rattle.script_read.specs.Waiting.{ShowsCallee, Gains, now_at};
 ghost use Rattle.script_read.specs.Places.{IsRead, IsForm};
@@ -25,7 +24,7 @@ use crate::terms::arguments::arguments_fault;
 use crate::terms::callees::Callee;
 use smt_lex::Forest;
 use smt_terms::{NodeId, Op, SortId, SymId};
-use sort_check::{MakeFault, make, make_form};
+use sort_check::{MakeFault, Operator, make, make_form};
 use std::alloc::Global;
 use term_subst::{Definition, Fresh, expand};
 use term_table::{RankFault, Table};
@@ -50,9 +49,7 @@ pub fn apply(
 {
     know_table(table);
     match callee {
-        Callee::Written { name, indices } => {
-            apply_operator(alloc, table, forest, list, *name, indices, kids)
-        }
+        Callee::Written(operator) => apply_operator(alloc, table, forest, list, *operator, kids),
         Callee::ArrayOf(sort) => apply_array(alloc, table, forest, list, *sort, kids),
         Callee::Called(symbol) => apply_symbol(alloc, table, forest, list, *symbol, kids),
         Callee::Defined(number) => {
@@ -78,26 +75,23 @@ fn know_table(table: &Table)
     let _ = table.len();
 }
 
-// The written operator of the name of token `name` and these indices over operands.
+// A written operator over operands.
 fn apply_operator(
     alloc: Global,
     table: &mut Table,
     forest: &Forest,
     list: usize,
-    name: usize,
-    indices: &[u128],
+    operator: Operator,
     kids: &[NodeId],
 ) -> Result<NodeId, ReadFault>
     requires table { IsTable table.old }
     requires list { IsForm forest.now.tokens list }
-    requires name { name < length forest.now.tokens }
-    requires operator { (w : Written) × (written_named (name_at forest.now.tokens name) indices.now ≡ Some w) }
-    requires indices { All (λ i. i < 2 ^ 127) indices.now }
+    requires apt { IsTrue (is_apt (written_seen operator)) }
     requires kids { (supply : Supply) × AreSpared table.old supply kids.now }
-    ensures term { (w : Written) (supply : Supply) (live : List ReadBinding) → written_named (name_at forest.now.tokens name) indices.now ≡ Some w → AreSpared table.old supply kids.now → ReadsWith table.new supply live (applied (written w) (token_at forest.now.tokens list).start (trees_at table.old kids.now) (record { live = live; supply = supply })) result }
+    ensures term { (supply : Supply) (live : List ReadBinding) → AreSpared table.old supply kids.now → ReadsWith table.new supply live (applied (written (written_seen operator)) (token_at forest.now.tokens list).start (trees_at table.old kids.now) (record { live = live; supply = supply })) result }
     ensures grows { GrowsTo table.old table.new }
 {
-    let made = make_form(alloc, table, forest.name(name), indices, kids);
+    let made = make_form(alloc, table, operator, kids);
     answered(forest, list, made)
 }
 

@@ -1,12 +1,13 @@
 //! Heads of applications (SMT-LIB 2.6, section 3.6).
 
 use smt_terms::{SortId, SymId};
+use sort_check::Operator;
 
 /// What the head of an application calls.
-#[derive(Drop)]
+#[derive(Clone, Copy)]
 pub enum Callee {
-    /// The written operator of a name, by its token, at these indices.
-    Written { name: usize, indices: Vec<u128> },
+    /// A written operator, with its indices.
+    Written(Operator),
     /// The constant array of a sort.
     ArrayOf(SortId),
     /// A declared symbol.

@@ -1,17 +1,17 @@
 //! The head of an application is read.
 
-ghost use Rattle.std.specs.Prelude.{◌≡◌, ◌≤◌, ℕ, List, length, Some};
+ghost use Rattle.std.specs.Prelude.{◌≡◌, ◌≤◌, ℕ, List, length, IsTrue, Some};
 ghost use Rattle.smt_lex.specs.Lex.{Token};
 ghost use Rattle.smt_lex.specs.Names.{Name};
 ghost use Rattle.smt_lex.specs.Forest.{token_at};
 ghost use Rattle.smt_lex.specs.Forms.{Forms, atom, node};
 ghost use Rattle.smt_terms.specs.Fresh.{Supply};
-ghost use Rattle.smt_terms.specs.Written.{Indexed, operator_named, at_indices};
-ghost use Rattle.sort_check.specs.Forms.{index_count};
+ghost use Rattle.smt_terms.specs.Written.{operator_named, at_indices};
+ghost use Rattle.sort_check.specs.Forms.{form_seen, is_apt_at};
 ghost use Rattle.term_table.specs.Formulas.{Formulas};
 ghost use Rattle.term_walk.specs.Walking.{GrowsTo};
 ghost use Rattle.script_read.specs.Heads.{callee_of, named_head, live_head, theory_head, written_at, constant_head, filling_head};
-ghost use Rattle.script_read.specs.HeadClauses.{AreIndices, is_constant_with, world_of, indexed_list};
+ghost use Rattle.script_read.specs.HeadClauses.{AreIndices, SomeIndices, is_constant_with, world_of, indexed_list};
 ghost use Rattle.script_read.specs.Reading.{ReadBinding, ReadLocal, entry_of};
 ghost use Rattle.script_read.specs.Bound.{ShowsLocals, name_at};
 ghost use Rattle.script_read.specs.Known.{Scoping, Shows, AreScopedSorts, find};
@@ -30,7 +30,7 @@ use crate::sorts::read_sort;
 use crate::terms::callees::Callee;
 use crate::terms::indices::Indices;
 use smt_lex::Forest;
-use sort_check::indices_taken;
+use sort_check::{Form, form_named};
 use std::alloc::Global;
 use term_table::Table;
 
@@ -70,7 +70,7 @@ fn token_callee(
     if !is_symbol(forest, i) {
         return Err(ReadFault::Refused(bad_form(forest, i)));
     }
-    named_callee(forest, i, i, Indices::none(alloc), scope, locals)
+    named_callee(forest, i, i, &Indices::none(alloc), scope, locals)
 }
 
 // What the list of token `i` calls, whose forms begin at token `first`.
@@ -123,7 +123,7 @@ fn indexed_callee(
         return Err(fault);
     }
     match Indices::read(alloc, forest, forest.after(name))? {
-        Some(indices) => named_callee(forest, i, name, indices, scope, locals),
+        Some(indices) => named_callee(forest, i, name, &indices, scope, locals),
         None => Err(fault),
     }
 }
@@ -159,13 +159,14 @@ fn named_callee(
     forest: &Forest,
     i: usize,
     name: usize,
-    indices: Indices,
+    indices: &Indices,
     scope: &Scope,
     locals: &Locals,
 ) -> Result<Callee, ReadFault>
     requires form { IsForm forest.now.tokens i }
     requires name { IsForm forest.now.tokens name }
-    ensures { (t : Formulas) (supply : Supply) (live : List ReadBinding) (bound : List ReadLocal) (fs : Forms) (ns : List ℕ) → Shows t supply scope.now live → ShowsLocals t supply locals.now bound → AreIndices fs ns indices → ReadsCallee forest.now.tokens (world_of t supply scope.now) (named_head bound live (token_at forest.now.tokens i).start (name_at forest.now.tokens name) fs ns) result }
+    requires indices { SomeIndices indices.now }
+    ensures { (t : Formulas) (supply : Supply) (live : List ReadBinding) (bound : List ReadLocal) (fs : Forms) (ns : List ℕ) → Shows t supply scope.now live → ShowsLocals t supply locals.now bound → AreIndices fs ns indices.now → ReadsCallee forest.now.tokens (world_of t supply scope.now) (named_head bound live (token_at forest.now.tokens i).start (name_at forest.now.tokens name) fs ns) result }
 {
     let text = forest.name(name);
     let place = place_of(forest, i);
@@ -173,7 +174,7 @@ fn named_callee(
         return Err(refused(Cause::UnknownName, place));
     }
     match scope.find(text) {
-        Some(entry) => live_callee(entry, &indices, place),
+        Some(entry) => live_callee(entry, indices, place),
         None => theory_callee(forest, name, indices, place),
     }
 }
@@ -196,44 +197,39 @@ fn live_callee(entry: Entry, indices: &Indices, place: u32) -> Result<Callee, Re
 fn theory_callee(
     forest: &Forest,
     name: usize,
-    indices: Indices,
+    indices: &Indices,
     place: u32,
 ) -> Result<Callee, ReadFault>
-    requires { IsForm forest.now.tokens name }
-    ensures { (t : Formulas) (supply : Supply) (s : Scoping) (fs : Forms) (ns : List ℕ) → AreIndices fs ns indices → ReadsCallee forest.now.tokens (world_of t supply s) (theory_head place (name_at forest.now.tokens name) fs ns (operator_named (name_at forest.now.tokens name))) result }
+    requires name { IsForm forest.now.tokens name }
+    requires indices { SomeIndices indices.now }
+    ensures { (t : Formulas) (supply : Supply) (s : Scoping) (fs : Forms) (ns : List ℕ) → AreIndices fs ns indices.now → ReadsCallee forest.now.tokens (world_of t supply s) (theory_head place (name_at forest.now.tokens name) fs ns (operator_named (name_at forest.now.tokens name))) result }
 {
     let text = forest.name(name);
-    if let Some(count) = indices_taken(text) {
-        return written_callee(name, indices, count, place);
+    if let Some(form) = form_named(text) {
+        return written_callee(form, indices, place);
     }
     if is_real_name(text) {
         return Err(refused(Cause::RealSort, place));
     }
     if is_theory_name(text) {
-        return constant_callee(text, &indices, place);
+        return constant_callee(text, indices, place);
     }
     Err(refused(Cause::UnknownName, place))
 }
 
-// The written operator of the name of token `name`, which takes so many indices.
-fn written_callee(
-    name: usize,
-    indices: Indices,
-    count: usize,
-    place: u32,
-) -> Result<Callee, ReadFault>
-    ensures { (ts : List Token) (t : Formulas) (supply : Supply) (s : Scoping) (fs : Forms) (ns : List ℕ) (o : Indexed) → operator_named (name_at ts name) ≡ Some o → index_count o ≡ count → AreIndices fs ns indices → ReadsCallee ts (world_of t supply s) (written_at place fs (at_indices o ns)) result }
+// The written operator of this form, with these indices.
+fn written_callee(form: Form, indices: &Indices, place: u32) -> Result<Callee, ReadFault>
+    requires apt { IsTrue (is_apt_at (form_seen form)) }
+    requires indices { SomeIndices indices.now }
+    ensures { (ts : List Token) (t : Formulas) (supply : Supply) (s : Scoping) (fs : Forms) (ns : List ℕ) → AreIndices fs ns indices.now → ReadsCallee ts (world_of t supply s) (written_at place fs (at_indices (form_seen form) ns)) result }
 {
-    if indices.values.len() != count {
+    if indices.values.len() != form.index_count() {
         return Err(refused(Cause::BadForm, place));
     }
     if let Some(beyond) = indices.beyond {
         return Err(refused(Cause::NumberLimit, beyond));
     }
-    Ok(Callee::Written {
-        name,
-        indices: indices.values,
-    })
+    Ok(Callee::Written(form.at_indices(&indices.values)))
 }
 
 // A name of the theories that takes no operands, with these indices.

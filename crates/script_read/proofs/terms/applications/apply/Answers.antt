@@ -1,21 +1,17 @@
-use Rattle.std.proofs.Common.{◌≡◌, Some, ap, sym, subst, ◌∙◌}
+use Rattle.std.proofs.Common.{sym, subst}
 use Rattle.smt_lex.specs.Forest.{token_at}
-use Rattle.smt_terms.specs.Written.{written_named}
 use Rattle.term_table.specs.Formulas.{trees_at}
 use Rattle.script_read.specs.ApplicationClauses.{ReadsWith}
-use Rattle.script_read.specs.Bound.{name_at}
 use Rattle.script_read.specs.Heads.{applied}
 use Rattle.script_read.specs.Waiting.{ShowsCallee, now_at}
-use Rattle.script_read.proofs.AppliedNodes.{operator_token, definition_is, definition_meant, reads_term}
+use Rattle.script_read.proofs.AppliedNodes.{definition_is, definition_meant, reads_term}
 use Rattle.script_read.proofs.Showing.{shows_stays}
 use Rattle.script_read.proofs.Stepped.{still_shows}
 use Rattle.script_read.proofs.terms.applications.apply.Goals as goal
 
-pub apply_operator-requires-clause-name : goal.apply_operator-requires-clause-name
-apply_operator-requires-clause-name c =
-    let ts = c.args.forest.now.tokens in
-    let shown = subst (λ k. ShowsCallee ts (now_at c.args.table.now c.args.sofar.now) k c.requires.callee.0) c.in-Written.is c.requires.callee.1 in
-    operator_token ts c.in-Written.name c.in-Written.indices.items shown.0 shown.2
+pub apply_operator-requires-clause-apt : goal.apply_operator-requires-clause-apt
+apply_operator-requires-clause-apt c =
+    (subst (λ k. ShowsCallee c.args.forest.now.tokens (now_at c.args.table.now c.args.sofar.now) k c.requires.callee.0) c.in-Written.is c.requires.callee.1).1
 
 pub apply_definition-requires-clause-definition : goal.apply_definition-requires-clause-definition
 apply_definition-requires-clause-definition c =
@@ -31,11 +27,10 @@ returns-in-Written-clause-term c o live callee shows =
     let sofar = c.args.sofar.now in
     let place = (token_at ts c.args.list).start in
     let shown = subst (λ k. ShowsCallee ts (now_at t sofar) k o) c.in-Written.is callee in
-    let named : written_named (name_at ts c.in-Written.name) c.deref.result.now ≡ Some shown.0 = ap (written_named (name_at ts c.in-Written.name)) c.deref.ensures.value ∙ shown.2 in
     reads_term u sofar.scope sofar.fresh live (applied o place (trees_at t c.args.kids.now) (record { live = live; supply = sofar.fresh })) c.apply_operator.result
     (still_shows t u sofar live c.apply_operator.ensures.grows shows)
-    (subst (λ x. ReadsWith u sofar.fresh live (applied x place (trees_at t c.args.kids.now) (record { live = live; supply = sofar.fresh })) c.apply_operator.result) (sym shown.1)
-    (c.apply_operator.ensures.term shown.0 sofar.fresh live named c.requires.kids))
+    (subst (λ x. ReadsWith u sofar.fresh live (applied x place (trees_at t c.args.kids.now) (record { live = live; supply = sofar.fresh })) c.apply_operator.result) (sym shown.0)
+    (c.apply_operator.ensures.term sofar.fresh live c.requires.kids))
 
 pub returns-in-ArrayOf-clause-term : goal.returns-in-ArrayOf-clause-term
 returns-in-ArrayOf-clause-term c o live callee shows =
