@@ -1,16 +1,17 @@
 -- What a hasher of nodes computes.
-use Rattle.std.specs.Prelude.{ℕ, ◌-◌, ◌/◌, ◌^◌, List, length, nat_eq, nat_lt, if◌then◌else◌, bit_and, bit_or}
+use Rattle.std.specs.Prelude.{ℕ, ◌-◌, ◌/◌, List, length, min, max, nat_eq, nat_lt, if◌then◌else◌, bit_and, bit_or}
 use Rattle.std.specs.Hash.{le_bytes}
 use Rattle.std.specs.Hash.FoldHasher as folding
 use Rattle.std.specs.Int.{from_le_bytes, w64}
 use Rattle.term_table.specs.declared.hashing.NodeHasher.{NodeHasher}
 
--- after a number, where the greatest so far is kept aside
+-- after a number, where the greatest so far is kept aside, and the lesser of the two counts by how far it is from the other where it is near
 abbrev pub ranked : NodeHasher → ℕ → NodeHasher
 ranked h n =
-    if nat_lt h.greatest n
-    then record h { rest = folding.write h.rest (le_bytes 8 (2 ^ 64 - 1 - h.greatest)); greatest = n }
-    else record h { rest = folding.write h.rest (le_bytes 8 n) }
+    let least = min h.greatest n in
+    let most = max h.greatest n in
+    let apart = most - least in
+    record h { rest = folding.write h.rest (le_bytes 8 (if nat_lt apart 4096 then apart else least)); greatest = most }
 
 -- after bytes, eight of which are a number
 abbrev pub written : NodeHasher → List ℕ → NodeHasher

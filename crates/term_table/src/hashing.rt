@@ -8,6 +8,9 @@ use std::hash::{FoldHasher, Hasher};
 /// Numbers that differ in their last five bits alone are neighbours.
 const BLOCK: u64 = 32;
 
+/// Numbers that are less than this apart count by how far they are apart.
+const NEAR: u64 = 4096;
+
 /// The bits of a hash that tell neighbours apart: the tag, and which of four groups of an index table.
 const APART: u64 = 0xFF00_0003;
 
@@ -15,30 +18,30 @@ const APART: u64 = 0xFF00_0003;
 const TOGETHER: u64 = 0x00FF_FFFC;
 
 /// A hasher that keeps neighbours together. Neighbours are values which differ only in the last five bits of the
-/// greatest number of eight bytes that they write: of a node, mostly its latest operand. An index table looks for them
-/// first in the same four groups, which lie side by side in memory, so nodes that are made one after the other over one
-/// another are found without a walk through all of the table. No more than 32 values are neighbours, whatever the rest
-/// of them is, so that no four groups are first for many.
+/// greatest number of eight bytes that they write: of a node, mostly its latest operand. A number that is near the
+/// greatest so far counts by how far it is from it, so operands that move together make neighbours too. An index table
+/// looks for neighbours first in the same four groups, which lie side by side in memory, so nodes that are made one after
+/// the other over one another are found without a walk through all of the table. Of one operator and as many operands
+/// only a few dozen nodes are neighbours, so that no four groups are first for many.
 #[derive(Clone, Copy, Default)]
 pub(crate) struct NodeHasher {
     /// All that was written.
     whole: FoldHasher,
-    /// The same, but for the greatest number.
+    /// The same, but for the greatest number and for the order of numbers.
     rest: FoldHasher,
     greatest: u64,
 }
 
 impl NodeHasher {
-    // A number that a greater one follows is written as its complement, so that the order of the numbers counts.
     fn rank(&mut self, number: u64)
         ensures { self.new ≡ ranked self.old number }
     {
-        if self.greatest < number {
-            self.rest.write_u64(!self.greatest);
-            self.greatest = number;
-        } else {
-            self.rest.write_u64(number);
-        }
+        let least = self.greatest.min(number);
+        let most = self.greatest.max(number);
+        let apart = most - least;
+        self.rest
+            .write_u64(if apart < NEAR { apart } else { least });
+        self.greatest = most;
     }
 }
 
