@@ -39,6 +39,10 @@ number_in None = 0
 
 -- ---- what is found
 
+pub none_bound : (bs : List Binding) (n : Name) → length bs ≡ 0 → (innermost (names_bound (reverse bs)) n ≡ None) × (quantified_among (names_bound (reverse bs)) n ≡ false)
+none_bound [] n e = (refl, refl)
+none_bound (b ∷ bs) n e = absurd (omega (arith, e))
+
 pub record IsFound (bs : List Binding) (n : Name) (i : ℕ) (d : Binding) : Type 0 where
   pub within : i < length bs
   pub local : innermost (names_bound bs) n ≡ Some (get_or (reverse bs) i d).local

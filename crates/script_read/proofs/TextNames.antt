@@ -1,12 +1,12 @@
 -- The names of a text, token by token.
-use Rattle.std.proofs.Common.{◌≡◌, ℕ, zero, suc, ◌+◌, ◌<◌, ◌≤◌, inl, inr, Bool, true, false, not, cond, List, [], ◌∷◌, ◌++◌, length, Some, None, refl, ap, sym, ◌∙◌, arith, ◌&&◌, ◌==◌, true≢false}
+use Rattle.std.proofs.Common.{◌≡◌, ℕ, zero, suc, ◌+◌, ◌<◌, ◌≤◌, inl, inr, Bool, true, false, not, cond, List, [], ◌∷◌, ◌++◌, length, Some, refl, ap, sym, ◌∙◌, arith, ◌&&◌, ◌==◌, true≢false}
 use Rattle.std.proofs.lemmas.List.{drop_more, drop_all}
 use Rattle.std.proofs.lemmas.Bool.Decides.{eqb_tells}
 use Rattle.smt_lex.specs.declared.items.Item.{Item}
 use Rattle.smt_lex.specs.declared.items.Item.TheVariants.{Left, Right, Numeral, Decimal, Hex, Bin, Text, Word, Quoted, Keyword}
 use Rattle.smt_lex.specs.Lex.{Token, symbol_by, symbol_of}
 use Rattle.smt_lex.specs.Names.{Name}
-use Rattle.smt_lex.specs.Forms.{Form, Forms, none, ◌⨾◌, is_right, depth_after, before, rest}
+use Rattle.smt_lex.specs.Forms.{Forms, is_right, depth_after, before, rest}
 use Rattle.smt_lex.specs.Forest.{no_token, token_at, items, rest_at, closes, IsBalanced}
 use Rattle.smt_terms.specs.Free.{name_among}
 use Rattle.smt_terms.specs.Fresh.{Supply}
@@ -14,7 +14,6 @@ use Rattle.term_subst.specs.Names.{with_name as with_name_held}
 use Rattle.script_read.specs.Places.{SparesText, forms_from}
 use Rattle.script_read.specs.Script.{with_name, names_with_all}
 use Rattle.script_read.proofs.NameFacts.{among_alike, among_new, kept_by_forms}
-use Rattle.script_read.proofs.Placing.{forms_begin}
 
 sure_left : (a b : Bool) → (a && b) ≡ true → a ≡ true
 sure_left true b h = refl
@@ -79,32 +78,9 @@ names_before Word t ns (fs, gss) is = ap (λ k. names_left (with_name ns (symbol
 names_before Quoted t ns (fs, gss) is = ap (λ k. names_left (with_name ns (symbol_by k t.text)) (fs, gss)) is
 names_before Keyword t ns (fs, gss) is = ap (λ k. names_left (with_name ns (symbol_by k t.text)) (fs, gss)) is
 
-right_no_symbol : (item : Item) (text : List ℕ) → is_right item ≡ true → symbol_by item text ≡ None
-right_no_symbol Right text right = refl
-right_no_symbol Left text right = refl
-right_no_symbol Numeral text right = refl
-right_no_symbol Decimal text right = refl
-right_no_symbol Hex text right = refl
-right_no_symbol Bin text right = refl
-right_no_symbol Text text right = refl
-right_no_symbol Word text right = absurd (true≢false (sym right))
-right_no_symbol Quoted text right = absurd (true≢false (sym right))
-right_no_symbol Keyword text right = refl
-
 module _ (ts : List Token) (i : ℕ) (within : i < length ts) where
   pub names_next : (ns : List Name) → names_left ns (rest_at ts i) ≡ names_left (with_name ns (symbol_of (token_at ts i))) (rest_at ts (i + 1))
   names_next ns = ap (λ us. names_left ns (rest us)) (drop_more ts i no_token within) ∙ names_before (token_at ts i).item (token_at ts i) ns (rest_at ts (i + 1)) refl
-
-  -- a token that begins no form is no symbol
-  pub no_form_symbol : forms_from ts i ≡ none → symbol_of (token_at ts i) ≡ None
-  no_form_symbol nothing = by (is_right (token_at ts i).item) refl
-    where
-      begun : (f : Form) (fs : Forms) → none ≡ f ⨾ fs → ⊥
-      begun f fs is = absurd (cc)
-
-      by : (b : Bool) → is_right (token_at ts i).item ≡ b → symbol_of (token_at ts i) ≡ None
-      by true right = right_no_symbol (token_at ts i).item (token_at ts i).text right
-      by false right = absurd (begun _ _ (sym nothing ∙ forms_begin ts i within right))
 
 pub names_at_end : (ts : List Token) (i : ℕ) (ns : List Name) → length ts ≤ i → names_left ns (rest_at ts i) ≡ ns
 names_at_end ts i ns past = ap (λ us. names_left ns (rest us)) (drop_all i ts past)

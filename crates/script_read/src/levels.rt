@@ -6,6 +6,7 @@ ghost use Rattle.script_read.specs.Known.{find, is_mark, is_symbol_entry, declar
 
 use crate::scopes::Entry;
 use indexmap::IndexMap;
+use smt_terms::BuildNameHasher;
 use std::alloc::{AllocError, Global};
 use std::marker::Model;
 
@@ -13,7 +14,7 @@ use std::marker::Model;
 #[derive(Drop)]
 pub struct Leveled<T> {
     alloc: Global,
-    entries: IndexMap<Vec<u8>, T>,
+    entries: IndexMap<Vec<u8>, T, BuildNameHasher>,
     // how many names stand below each level
     marks: Vec<usize>,
 }
@@ -37,7 +38,7 @@ impl<T: Copy + Drop> Leveled<T> {
     {
         Leveled {
             alloc,
-            entries: IndexMap::new(alloc),
+            entries: IndexMap::with_hasher(alloc, BuildNameHasher::new()),
             marks: Vec::new(alloc),
         }
     }
@@ -136,7 +137,7 @@ fn names_below(marks: &[usize], level: usize, all: usize) -> usize
 }
 
 // Leaves the first `len` entries. Each one that goes costs the same, however many stay.
-fn cut<T: Drop>(entries: &mut IndexMap<Vec<u8>, T>, len: usize)
+fn cut<T: Drop>(entries: &mut IndexMap<Vec<u8>, T, BuildNameHasher>, len: usize)
     ensures { entries.new.entries ≡ take len entries.old.entries }
 {
     while entries.len() > len {

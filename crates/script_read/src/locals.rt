@@ -7,7 +7,7 @@ ghost use Rattle.script_read.specs.Bound.{innermost, is_quantified_local, quanti
 ghost use Rattle.script_read.specs.Linked.{at_name};
 
 use indexmap::IndexMap;
-use smt_terms::{NodeId, SymId};
+use smt_terms::{BuildNameHasher, NodeId, SymId};
 use std::alloc::{AllocError, Global};
 use std::marker::Model;
 
@@ -46,7 +46,7 @@ pub struct Locals {
     alloc: Global,
     bindings: Vec<Binding>,
     // the innermost binding of each name that is bound
-    places: IndexMap<Vec<u8>, usize>,
+    places: IndexMap<Vec<u8>, usize, BuildNameHasher>,
     constants: Vec<SymId>,
 }
 
@@ -71,7 +71,7 @@ impl Locals {
         Locals {
             alloc,
             bindings: Vec::new(alloc),
-            places: IndexMap::new(alloc),
+            places: IndexMap::with_hasher(alloc, BuildNameHasher::new()),
             constants: Vec::new(alloc),
         }
     }
@@ -80,6 +80,9 @@ impl Locals {
     pub fn find(&self, name: &[u8]) -> Option<Local>
         ensures { result ≡ innermost self.now name.now }
     {
+        if self.bindings.is_empty() {
+            return None;
+        }
         match self.places.get(name) {
             Some(place) => Some(self.bindings[*place].local),
             None => None,
@@ -90,6 +93,9 @@ impl Locals {
     pub fn is_quantified(&self, name: &[u8]) -> bool
         ensures { result ≡ quantified_among self.now name.now }
     {
+        if self.bindings.is_empty() {
+            return false;
+        }
         match self.places.get(name) {
             Some(place) => self.bindings[*place].is_quantified,
             None => false,
@@ -161,7 +167,11 @@ impl Locals {
 }
 
 // Gives a name that is bound the place of another of its bindings, or none.
-fn point_to(places: &mut IndexMap<Vec<u8>, usize>, name: Vec<u8>, place: Option<usize>)
+fn point_to(
+    places: &mut IndexMap<Vec<u8>, usize, BuildNameHasher>,
+    name: Vec<u8>,
+    place: Option<usize>,
+)
     requires { IsSome (at_name places.old.entries name.items) }
     ensures { (n : Name) → at_name places.new.entries n ≡ (if name_eq name.items n then place else at_name places.old.entries n) }
 {

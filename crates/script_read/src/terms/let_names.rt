@@ -17,7 +17,7 @@ use crate::names::is_theory_name;
 use crate::places::{bad_form, fault, is_symbol, two_inside};
 use indexmap::IndexMap;
 use smt_lex::Forest;
-use smt_terms::NodeId;
+use smt_terms::{BuildNameHasher, NodeId};
 use std::alloc::{AllocError, Global};
 use std::marker::Model;
 
@@ -25,7 +25,7 @@ use std::marker::Model;
 #[derive(Drop)]
 pub struct LetNames {
     alloc: Global,
-    terms: IndexMap<Vec<u8>, NodeId>,
+    terms: IndexMap<Vec<u8>, NodeId, BuildNameHasher>,
 }
 
 impl Model for LetNames {
@@ -46,7 +46,7 @@ impl LetNames {
     {
         LetNames {
             alloc,
-            terms: IndexMap::new(alloc),
+            terms: IndexMap::with_hasher(alloc, BuildNameHasher::new()),
         }
     }
 

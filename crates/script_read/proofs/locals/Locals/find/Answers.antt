@@ -1,6 +1,7 @@
 use Rattle.std.proofs.Common.{◌≡◌, ◌∙◌, length, Some, None, ap, sym, reverse, option_copied, vec_len, rules, arith}
+use Rattle.std.proofs.lemmas.Bool.Decides.{Decides-eqb}
 use Rattle.script_read.specs.Bound.{innermost}
-use Rattle.script_read.proofs.Linking.{found-in, found-before, absent}
+use Rattle.script_read.proofs.Linking.{none_bound, found-in, found-before, absent}
 use Rattle.script_read.proofs.locals.Locals.find.Goals as goal
 
 pub index-requires : goal.index-requires
@@ -21,3 +22,9 @@ pub returns-in-None : goal.returns-in-None
 returns-in-None c =
     let none : option_copied c.get.result ≡ None = ap option_copied c.in-None.is in
     sym (ap (λ ps. innermost ps c.args.name.now) (sym c.self.view_is) ∙ (absent (reverse c.self.inside.bindings.items) c.args.name.now (sym (c.self.invariant.places c.args.name.now) ∙ sym c.get.ensures.value ∙ none)).0)
+
+pub returns-then-is_empty : goal.returns-then-is_empty
+returns-then-is_empty c =
+    let held : vec_len c.self.inside.bindings ≡ length c.self.inside.bindings.items = search rules in
+    let none : vec_len c.self.inside.bindings ≡ 0 = (Decides-eqb (vec_len c.self.inside.bindings) 0).0 (sym c.is_empty.ensures ∙ c.if-is_empty.true) in
+    sym (ap (λ ps. innermost ps c.args.name.now) (sym c.self.view_is) ∙ (none_bound c.self.inside.bindings.items c.args.name.now (omega (arith, held, none))).0)
