@@ -10,11 +10,10 @@ use Rattle.smt_terms.specs.Term.{Head, Term, apply, quantified, Terms, none, ◌
 use Rattle.smt_terms.proofs.Equal.{Decides-term_eq}
 use Rattle.smt_terms.proofs.Tests.{either_true, right_true}
 use Rattle.term_table.specs.Formulas.{Formulas, tree, trees_at, operands, IsNode, AreNodes, IsTable}
-use Rattle.smt_print.specs.declared.scope.Scopes.{Scopes}
 use Rattle.smt_print.specs.declared.dag.Step.{Step}
 use Rattle.smt_print.specs.declared.dag.Step.TheVariants.{Visit, Define, Close}
 use Rattle.smt_print.specs.DagSteps.{definition_of, definitions_at, IsKnown, AreKnown, IsScope, AreScopes, let_opening, let_text, lets, lets_in, end_text, visits, quantified_body, IsDefinable, IsClosable, Leads, LeadsFrom, weights}
-use Rattle.smt_print.specs.Defined.{has_node}
+use Rattle.smt_print.specs.Defined.{Nodes, has_node}
 use Rattle.smt_print.specs.NodeForms.{is_quantified, Binds, opening}
 use Rattle.smt_print.specs.Sizes.{sizes}
 use Rattle.smt_print.specs.TermForms.{Definition, is_defined, definitions, definitions_in, dag_form}
@@ -119,24 +118,27 @@ module _ (t : Formulas) (root : NodeId) where
 
 -- ---- a definition
 
-pub define-leads : (t : Formulas) (root : NodeId) (ks : List NodeId) (dss : List (List Definition)) (k : NodeId) (steps : List Step) (before after done whole : List ℕ)
-    → after ≡ before ++ let_text (length ks) (definition_of (tree t k) (definitions_at t ks)).form
-    → Leads t root (definitions_at t ks) dss (Define k ∷ steps) (done ++ before) whole → Leads t root (definitions_at t (k ∷ ks)) dss steps (done ++ after) whole
-define-leads t root ks dss k steps before after done whole is leads =
-    subst (λ (xs : List ℕ). Leads t root (definitions_at t (k ∷ ks)) dss steps xs whole)
+pub define-leads : (t : Formulas) (root : NodeId) (ss new : Nodes) (k : NodeId) (steps : List Step) (before after done whole : List ℕ)
+    → after ≡ before ++ let_text (length ss.current) (definition_of (tree t k) (definitions_at t ss.current)).form → new.current ≡ k ∷ ss.current → new.outer ≡ ss.outer
+    → LeadsFrom t root ss (Define k ∷ steps) (done ++ before) whole → LeadsFrom t root new steps (done ++ after) whole
+define-leads t root ss new k steps before after done whole is current outer leads =
+    let ks = ss.current in
+    subst (λ (js : List NodeId). Leads t root (definitions_at t js) (map (definitions_at t) new.outer) steps (done ++ after) whole) (sym current)
+    (subst (λ (kss : List (List NodeId)). Leads t root (definitions_at t (k ∷ ks)) (map (definitions_at t) kss) steps (done ++ after) whole) (sym outer)
+    (subst (λ (xs : List ℕ). Leads t root (definitions_at t (k ∷ ks)) (map (definitions_at t) ss.outer) steps xs whole)
     (ap (λ n. (done ++ before) ++ let_text n (definition_of (tree t k) (definitions_at t ks)).form) (length-definitions t ks)
     ∙ append_assoc done before (let_text (length ks) (definition_of (tree t k) (definitions_at t ks)).form) ∙ ap (λ xs. done ++ xs) (sym is))
-    leads.1
+    leads.1))
 
-pub define-scopes : (t : Formulas) (ss : Scopes) (k : NodeId) (ks : List NodeId) → AreScopes t ss → IsDefinable t (definitions_at t ss.current) k → ks ≡ k ∷ ss.current → AreScopes t (record { current = ks; outer = ss.outer })
-define-scopes t ss k ks scopes is e = record {
-  current = subst (IsScope t) (sym e) (scope-more t ss.current k scopes.current is.node (applied-known (tree t k) (definitions_at t ss.current) is.known));
-  outer = scopes.outer;
+pub define-scopes : (t : Formulas) (ss new : Nodes) (k : NodeId) → AreScopes t ss → IsDefinable t (definitions_at t ss.current) k → new.current ≡ k ∷ ss.current → new.outer ≡ ss.outer → AreScopes t new
+define-scopes t ss new k scopes is current outer = record {
+  current = subst (IsScope t) (sym current) (scope-more t ss.current k scopes.current is.node (applied-known (tree t k) (definitions_at t ss.current) is.known));
+  outer = subst (All (IsScope t)) (sym outer) scopes.outer;
 }
 
 -- ---- the end of a quantified term
 
-module _ (t : Formulas) (root : NodeId) (ss : Scopes) (k : NodeId) (steps : List Step) (done whole : List ℕ) (inner : List NodeId) (outer : List (List NodeId)) (split : ss.outer ≡ inner ∷ outer)
+module _ (t : Formulas) (root : NodeId) (ss : Nodes) (k : NodeId) (steps : List Step) (done whole : List ℕ) (inner : List NodeId) (outer : List (List NodeId)) (split : ss.outer ≡ inner ∷ outer)
     (leads : LeadsFrom t root ss (Close k ∷ steps) done whole) where
   pub closable : IsClosable t (definitions_at t ss.current) (definitions_at t inner) k
   closable = (subst (λ (kss : List (List NodeId)). Leads t root (definitions_at t ss.current) (map (definitions_at t) kss) (Close k ∷ steps) done whole) split leads).0
@@ -144,23 +146,20 @@ module _ (t : Formulas) (root : NodeId) (ss : Scopes) (k : NodeId) (steps : List
   pub around : AreScopes t ss → IsScope t inner
   around scopes = All-head (IsScope t) inner outer (subst (All (IsScope t)) split scopes.outer)
 
-  pub close-new : IsTable t → AreScopes t ss → has_node inner k ≡ false
-  close-new table scopes = sym (node-defined t table inner k (around scopes).nodes closable.node) ∙ closable.new
-
-  pub close-scopes : (ks : List NodeId) → AreScopes t ss → ks ≡ k ∷ inner → AreScopes t (record { current = ks; outer = outer })
-  close-scopes ks scopes e = record {
-    current = subst (IsScope t) (sym e) (scope-more t inner k (around scopes) closable.node (bound-known (tree t k) (definitions_at t inner) closable.bound));
-    outer = All-tail (IsScope t) inner outer (subst (All (IsScope t)) split scopes.outer);
+  pub close-scopes : (new : Nodes) → AreScopes t ss → new.current ≡ k ∷ inner → new.outer ≡ outer → AreScopes t new
+  close-scopes new scopes current rest = record {
+    current = subst (IsScope t) (sym current) (scope-more t inner k (around scopes) closable.node (bound-known (tree t k) (definitions_at t inner) closable.bound));
+    outer = subst (All (IsScope t)) (sym rest) (All-tail (IsScope t) inner outer (subst (All (IsScope t)) split scopes.outer));
   }
 
 -- ---- a visit, by cases
 
-pub visit-leaf : (t : Formulas) (root : NodeId) (ss : Scopes) (k : NodeId) (steps : List Step) (done whole : List ℕ) → AreScopes t ss → operands (tree t k) ≡ []
+pub visit-leaf : (t : Formulas) (root : NodeId) (ss : Nodes) (k : NodeId) (steps : List Step) (done whole : List ℕ) → AreScopes t ss → operands (tree t k) ≡ []
     → LeadsFrom t root ss (Visit k ∷ steps) done whole → LeadsFrom t root ss steps done whole
 visit-leaf t root ss k steps done whole scopes leaf =
     visit-known t root (definitions_at t ss.current) (map (definitions_at t) ss.outer) k steps done whole scopes.current.closed (leaf-known (definitions_at t ss.current) (tree t k) leaf)
 
-pub visit-defined : (t : Formulas) (root : NodeId) (ss : Scopes) (k : NodeId) (steps : List Step) (done whole : List ℕ) → IsTable t → IsNode t k → AreScopes t ss → has_node ss.current k ≡ true
+pub visit-defined : (t : Formulas) (root : NodeId) (ss : Nodes) (k : NodeId) (steps : List Step) (done whole : List ℕ) → IsTable t → IsNode t k → AreScopes t ss → has_node ss.current k ≡ true
     → LeadsFrom t root ss (Visit k ∷ steps) done whole → LeadsFrom t root ss steps done whole
 visit-defined t root ss k steps done whole table node scopes has =
     visit-known t root (definitions_at t ss.current) (map (definitions_at t) ss.outer) k steps done whole scopes.current.closed
@@ -188,7 +187,7 @@ nearer-application t k ks steps new applied kids pushed =
     let same : sizes (terms (trees_at t ks)) ≡ sizes (terms (operands (tree t k))) = ap (λ ts. sizes (terms ts)) kids in
     omega (arith, inside, all, same)
 
-pub enter-leads : (t : Formulas) (root : NodeId) (ss new : Scopes) (k b : NodeId) (vs : List NodeId) (steps more : List Step) (before after done whole : List ℕ) → Binds t (tree t k) vs b
+pub enter-leads : (t : Formulas) (root : NodeId) (ss new : Nodes) (k b : NodeId) (vs : List NodeId) (steps more : List Step) (before after done whole : List ℕ) → Binds t (tree t k) vs b
     → IsTable t → IsNode t k → AreScopes t ss → has_node ss.current k ≡ false
     → new.current ≡ [] → new.outer ≡ ss.current ∷ ss.outer → more ≡ Visit b ∷ (Close k ∷ steps) → after ≡ before ++ (let_opening (length ss.current) ++ (opening (tree t k) ++ space ∷ []))
     → LeadsFrom t root ss (Visit k ∷ steps) (done ++ before) whole → LeadsFrom t root new more (done ++ after) whole
@@ -205,13 +204,13 @@ enter-leads t root ss new k b vs steps more before after done whole bound table 
     (subst (λ (s : List Step). Leads t root [] (map (definitions_at t) (ss.current ∷ ss.outer)) s (done ++ after) whole) (sym pushed)
     (subst (λ (xs : List ℕ). Leads t root [] (map (definitions_at t) (ss.current ∷ ss.outer)) (Visit b ∷ (Close k ∷ steps)) xs whole) shown begun)))
 
-pub enter-scopes : (t : Formulas) (ss new : Scopes) → AreScopes t ss → new.current ≡ [] → new.outer ≡ ss.current ∷ ss.outer → AreScopes t new
+pub enter-scopes : (t : Formulas) (ss new : Nodes) → AreScopes t ss → new.current ≡ [] → new.outer ≡ ss.current ∷ ss.outer → AreScopes t new
 enter-scopes t ss new scopes current outer = record {
   current = subst (IsScope t) (sym current) (no-scope t);
   outer = subst (All (IsScope t)) (sym outer) (All-cons (IsScope t) ss.current ss.outer scopes.current scopes.outer);
 }
 
-pub application-leads : (t : Formulas) (root : NodeId) (ss : Scopes) (k : NodeId) (ks : List NodeId) (steps more : List Step) (done whole : List ℕ)
+pub application-leads : (t : Formulas) (root : NodeId) (ss : Nodes) (k : NodeId) (ks : List NodeId) (steps more : List Step) (done whole : List ℕ)
     → IsTable t → IsNode t k → AreScopes t ss → has_node ss.current k ≡ false → is_quantified (tree t k) ≡ false → 0 < length (operands (tree t k)) → trees_at t ks ≡ operands (tree t k) → AreNodes t ks
     → more ≡ visits ks ++ (Define k ∷ steps) → LeadsFrom t root ss (Visit k ∷ steps) done whole → LeadsFrom t root ss more done whole
 application-leads t root ss k ks steps more done whole table node scopes fresh applied some kids nodes pushed leads =
@@ -220,27 +219,28 @@ application-leads t root ss k ks steps more done whole table node scopes fresh a
 
 -- ---- the turns of the loop
 
-pub step-is : (t : Formulas) (root : NodeId) (ss : Scopes) (step other : Step) (steps : List Step) (done whole : List ℕ) → step ≡ other → LeadsFrom t root ss (step ∷ steps) done whole → LeadsFrom t root ss (other ∷ steps) done whole
+pub step-is : (t : Formulas) (root : NodeId) (ss : Nodes) (step other : Step) (steps : List Step) (done whole : List ℕ) → step ≡ other → LeadsFrom t root ss (step ∷ steps) done whole → LeadsFrom t root ss (other ∷ steps) done whole
 step-is t root ss step other steps done whole e leads = subst (λ (s : Step). LeadsFrom t root ss (s ∷ steps) done whole) e leads
 
--- the next step, with nothing written yet
-pub next-step : (t : Formulas) (root : NodeId) (ss : Scopes) (steps others : List Step) (text done whole : List ℕ) → steps ≡ others → text ≡ [] → LeadsFrom t root ss steps done whole → LeadsFrom t root ss others (done ++ text) whole
-next-step t root ss steps others text done whole split empty leads =
-    subst (λ (xs : List ℕ). LeadsFrom t root ss others xs whole) (sym (ap (λ xs. done ++ xs) empty ∙ append-nil done)) (subst (λ (s : List Step). LeadsFrom t root ss s done whole) split leads)
+-- the next step
+pub next-step : (t : Formulas) (root : NodeId) (ss : Nodes) (steps others : List Step) (done whole : List ℕ) → steps ≡ others → LeadsFrom t root ss steps done whole → LeadsFrom t root ss others done whole
+next-step t root ss steps others done whole split leads = subst (λ (s : List Step). LeadsFrom t root ss s done whole) split leads
 
-pub root-begun : (t : Formulas) (root : NodeId) (ss : Scopes) (steps : List Step) → IsNode t root → ss.current ≡ [] → ss.outer ≡ [] → steps ≡ Visit root ∷ []
-    → LeadsFrom t root ss steps [] (form_text (dag_form (tree t root)))
-root-begun t root ss steps node current outer pushed =
-    let whole = form_text (dag_form (tree t root)) in
-    subst (λ (ks : List NodeId). Leads t root (definitions_at t ks) (map (definitions_at t) ss.outer) steps [] whole) (sym current)
-    (subst (λ (kss : List (List NodeId)). Leads t root [] (map (definitions_at t) kss) steps [] whole) (sym outer)
-    (subst (λ (s : List Step). Leads t root [] [] s [] whole) (sym pushed) (node, (refl, (defined-known (tree t root) [], sym (dag-text (tree t root)))))))
+pub root-begun : (t : Formulas) (root : NodeId) (ss : Nodes) (steps : List Step) (before : List ℕ) → IsNode t root → ss.current ≡ [] → ss.outer ≡ [] → steps ≡ Visit root ∷ []
+    → LeadsFrom t root ss steps before (before ++ form_text (dag_form (tree t root)))
+root-begun t root ss steps before node current outer pushed =
+    let whole = before ++ form_text (dag_form (tree t root)) in
+    let u = tree t root in
+    let ends : (before ++ lets u []) ++ end_text (definitions u []) u ≡ whole = append_assoc before (lets u []) (end_text (definitions u []) u) ∙ ap (λ xs. before ++ xs) (sym (dag-text u)) in
+    subst (λ (ks : List NodeId). Leads t root (definitions_at t ks) (map (definitions_at t) ss.outer) steps before whole) (sym current)
+    (subst (λ (kss : List (List NodeId)). Leads t root [] (map (definitions_at t) kss) steps before whole) (sym outer)
+    (subst (λ (s : List Step). Leads t root [] [] s before whole) (sym pushed) (node, (refl, (defined-known u [], ends)))))
 
-pub scopes-begun : (t : Formulas) (ss : Scopes) → ss.current ≡ [] → ss.outer ≡ [] → AreScopes t ss
+pub scopes-begun : (t : Formulas) (ss : Nodes) → ss.current ≡ [] → ss.outer ≡ [] → AreScopes t ss
 scopes-begun t ss current outer = record { current = subst (IsScope t) (sym current) (no-scope t); outer = subst (All (IsScope t)) (sym outer) (All-nil (IsScope t)) }
 
 -- only the root's end is left
-pub root-left : (t : Formulas) (root : NodeId) (ss : Scopes) (steps : List Step) (done whole : List ℕ) → steps ≡ [] → LeadsFrom t root ss steps done whole
+pub root-left : (t : Formulas) (root : NodeId) (ss : Nodes) (steps : List Step) (done whole : List ℕ) → steps ≡ [] → LeadsFrom t root ss steps done whole
     → IsKnown (definitions_at t ss.current) (tree t root) × (done ++ end_text (definitions_at t ss.current) (tree t root) ≡ whole)
 root-left t root ss steps done whole e leads = let last = subst (λ (s : List Step). LeadsFrom t root ss s done whole) e leads in (last.1.0, last.1.1)
 
@@ -260,5 +260,5 @@ leads-whole t root ds (es ∷ dss) (Close k ∷ steps) done whole leads =
     let (rest, is) = leads-whole t root (definition_of (tree t k) es ∷ es) dss steps (done ++ more) whole leads.1 in
     (more ++ rest, sym (append_assoc done more rest) ∙ is)
 
-pub leads-whole-from : (t : Formulas) (root : NodeId) (ss : Scopes) (steps : List Step) (done whole : List ℕ) → LeadsFrom t root ss steps done whole → (rest : List ℕ) × (done ++ rest ≡ whole)
+pub leads-whole-from : (t : Formulas) (root : NodeId) (ss : Nodes) (steps : List Step) (done whole : List ℕ) → LeadsFrom t root ss steps done whole → (rest : List ℕ) × (done ++ rest ≡ whole)
 leads-whole-from t root ss steps done whole leads = leads-whole t root (definitions_at t ss.current) (map (definitions_at t) ss.outer) steps done whole leads

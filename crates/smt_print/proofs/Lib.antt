@@ -32,7 +32,7 @@ pub mod Writable
 pub mod WritableTerms
 pub mod HeadTexts
 pub mod NumberTexts
-pub mod Names
+pub mod NumbersFound
 pub mod ListTexts
 pub mod TreeTexts
 pub mod Prefixes

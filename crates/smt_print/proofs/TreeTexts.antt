@@ -149,11 +149,14 @@ some-below t u ks b is false_here kids =
 
 -- ---- the turns of the loop
 
--- the next step, with nothing written yet
-pub next-step : (t : Formulas) (steps others : List Step) (step : Step) (text done whole : List ℕ) → steps ≡ step ∷ others → text ≡ [] → Leads t steps done whole → Leads t (step ∷ others) (done ++ text) whole
-next-step t steps others step text done whole split empty leads =
-    subst (λ (xs : List ℕ). Leads t (step ∷ others) xs whole) (sym (ap (λ xs. done ++ xs) empty ∙ append-nil done)) (subst (λ (s : List Step). Leads t s done whole) split leads)
+-- the next step
+pub next-step : (t : Formulas) (steps others : List Step) (step : Step) (done whole : List ℕ) → steps ≡ step ∷ others → Leads t steps done whole → Leads t (step ∷ others) done whole
+next-step t steps others step done whole split leads = subst (λ (s : List Step). Leads t s done whole) split leads
 
 -- the root's beginning leads to its text
-pub root-begun : (t : Formulas) (u : Term) (steps : List Step) (text : List ℕ) → steps ≡ [] → text ≡ [] → Leads t steps ([] ++ (text ++ form_text (tree_form u))) (form_text (tree_form u))
-root-begun t u steps text first empty = subst (λ (s : List Step). Leads t s ([] ++ (text ++ form_text (tree_form u))) (form_text (tree_form u))) (sym first) (ap (λ xs. xs ++ form_text (tree_form u)) empty)
+pub root-begun : (t : Formulas) (u : Term) (steps : List Step) (text : List ℕ) → steps ≡ [] → Leads t steps ([] ++ (text ++ form_text (tree_form u))) (text ++ form_text (tree_form u))
+root-begun t u steps text first = subst (λ (s : List Step). Leads t s ([] ++ (text ++ form_text (tree_form u))) (text ++ form_text (tree_form u))) (sym first) refl
+
+-- nothing is left
+pub leads-ended : (t : Formulas) (steps : List Step) (done whole : List ℕ) → steps ≡ [] → Leads t steps done whole → done ≡ whole
+leads-ended t steps done whole last leads = subst (λ (s : List Step). Leads t s done whole) last leads

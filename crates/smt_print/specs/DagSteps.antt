@@ -6,9 +6,9 @@ use Rattle.smt_lex.specs.FormText.{form_text}
 use Rattle.smt_terms.specs.declared.ids.NodeId.{NodeId}
 use Rattle.smt_terms.specs.Term.{Head, Term, apply, quantified, Terms, none, ◌⨾◌, list}
 use Rattle.term_table.specs.Formulas.{Formulas, no_tree, tree, operands, IsNode, AreNodes}
-use Rattle.smt_print.specs.declared.scope.Scopes.{Scopes}
 use Rattle.smt_print.specs.declared.dag.Step.{Step}
 use Rattle.smt_print.specs.declared.dag.Step.TheVariants.{Visit, Define, Close}
+use Rattle.smt_print.specs.Defined.{Nodes}
 use Rattle.smt_print.specs.NodeForms.{is_quantified}
 use Rattle.smt_print.specs.Sizes.{size}
 use Rattle.smt_print.specs.TermForms.{head_form, application_form, quantified_form, Definition, definition_name, is_defined, reference, references, definitions, definitions_in, dag_form}
@@ -40,7 +40,7 @@ pub record IsScope (t : Formulas) (ks : List NodeId) : Type 0 where
   pub nodes : AreNodes t ks
   pub closed : (h : Head) (ts : Terms) → is_defined (definitions_at t ks) (apply h ts) ≡ true → AreKnown (definitions_at t ks) (list ts)
 
-pub record AreScopes (t : Formulas) (ss : Scopes) : Type 0 where
+pub record AreScopes (t : Formulas) (ss : Nodes) : Type 0 where
   pub current : IsScope t ss.current
   pub outer : All (IsScope t) ss.outer
 
@@ -116,7 +116,7 @@ Leads t root ds (es ∷ dss) (Close k ∷ steps) done whole =
     IsClosable t ds es k × Leads t root (definition_of (tree t k) es ∷ es) dss steps (done ++ (end_text ds (quantified_body (tree t k)) ++ codes "))) ")) whole
 
 -- the same, with the scopes as they stand
-abbrev pub LeadsFrom : Formulas → NodeId → Scopes → List Step → List ℕ → List ℕ → Type 0
+abbrev pub LeadsFrom : Formulas → NodeId → Nodes → List Step → List ℕ → List ℕ → Type 0
 LeadsFrom t root ss steps done whole = Leads t root (definitions_at t ss.current) (map (definitions_at t) ss.outer) steps done whole
 
 -- how many turns these steps may take

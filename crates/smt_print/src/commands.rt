@@ -13,8 +13,9 @@ ghost use Rattle.smt_print.specs.Text.{command_form, command_text, declaration, 
 ghost use Rattle.smt_print.specs.TermForms.{tree_form};
 ghost use Rattle.smt_print.specs.CommandTexts.{is_assertion};
 
+use crate::layout::Layout;
 use crate::numbers::{push_number, push_separator};
-use crate::tree::print_tree;
+use crate::terms::push_term;
 use script_read::Command;
 use smt_lex::symbol_text;
 use smt_values::{SortId, SymId};
@@ -116,7 +117,7 @@ fn push_assumptions(
     out.extend_from_slice(b"(check-sat-assuming (")?;
     for i in 0..literals.len() {
         push_separator(i, out)?;
-        print_tree(alloc, table, literals.get(i), out)?;
+        push_term(alloc, table, literals.get(i), Layout::Tree, out)?;
     }
     out.extend_from_slice(b"))")?;
     Ok(())

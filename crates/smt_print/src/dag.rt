@@ -7,13 +7,14 @@ ghost use Rattle.term_table.specs.Formulas.{tree, operands, IsNode, IsTable};
 ghost use Rattle.smt_print.specs.DagSteps.{definition_of, definitions_at, IsKnown, IsScope, AreScopes, IsDefinable, let_opening, let_text, end_text, visits, LeadsFrom, weights};
 ghost use Rattle.smt_print.specs.Defined.{has_node};
 ghost use Rattle.smt_print.specs.NodeForms.{is_quantified, Binds, opening};
-ghost use Rattle.smt_print.specs.Prefix.{AppendsPrefix};
+ghost use Rattle.smt_print.specs.Prefix.{AppendsPrefix, Drafts};
 ghost use Rattle.smt_print.specs.TermForms.{definition_name, reference, dag_form};
 
-use crate::heads::{binding, push_head, push_opening};
+use crate::draft::{Draft, pass_on};
+use crate::heads::{binding, push_application, push_binder, push_head};
 use crate::numbers::push_number;
 use crate::output::Output;
-use crate::scope::{Scope, Scopes};
+use crate::scope::Scopes;
 use crate::stack::Stack;
 use smt_terms::NodeId;
 use std::alloc::{AllocError, Global};
@@ -54,21 +55,21 @@ fn push_let(number: usize, text: &mut Vec<u8>) -> Result<(), AllocError>
 fn push_reference(
     alloc: Global,
     table: &Table,
-    scope: &Scope,
+    scopes: &Scopes,
     id: NodeId,
     text: &mut Vec<u8>,
 ) -> Result<(), AllocError>
     requires node { IsNode table.now id }
-    requires scope { IsScope table.now scope.now }
-    requires known { IsKnown (definitions_at table.now scope.now) (tree table.now id) }
-    ensures { OnOk result (text.new.items ≡ text.old.items ++ form_text (reference (definitions_at table.now scope.now) (tree table.now id))) }
+    requires scope { IsScope table.now scopes.now.current }
+    requires known { IsKnown (definitions_at table.now scopes.now.current) (tree table.now id) }
+    ensures { OnOk result (text.new.items ≡ text.old.items ++ form_text (reference (definitions_at table.now scopes.now.current) (tree table.now id))) }
 {
     let kids = table.kids(id);
     if kids.is_empty() {
         push_head(alloc, table, id, text)?;
         return Ok(());
     }
-    push_name(scope.number(id).unwrap(), text)?;
+    push_name(scopes.number(id).unwrap(), text)?;
     Ok(())
 }
 
@@ -76,17 +77,17 @@ fn push_reference(
 fn push_end(
     alloc: Global,
     table: &Table,
-    scope: &Scope,
+    scopes: &Scopes,
     id: NodeId,
     text: &mut Vec<u8>,
 ) -> Result<(), AllocError>
     requires node { IsNode table.now id }
-    requires scope { IsScope table.now scope.now }
-    requires known { IsKnown (definitions_at table.now scope.now) (tree table.now id) }
-    ensures { OnOk result (text.new.items ≡ text.old.items ++ end_text (definitions_at table.now scope.now) (tree table.now id)) }
+    requires scope { IsScope table.now scopes.now.current }
+    requires known { IsKnown (definitions_at table.now scopes.now.current) (tree table.now id) }
+    ensures { OnOk result (text.new.items ≡ text.old.items ++ end_text (definitions_at table.now scopes.now.current) (tree table.now id)) }
 {
-    push_reference(alloc, table, scope, id, text)?;
-    for _ in 0..scope.len() {
+    push_reference(alloc, table, scopes, id, text)?;
+    for _ in 0..scopes.len() {
         text.push(b')')?;
     }
     Ok(())
@@ -109,22 +110,23 @@ fn define(
     alloc: Global,
     table: &Table,
     id: NodeId,
-    scope: &mut Scope,
+    scopes: &mut Scopes,
     text: &mut Vec<u8>,
 ) -> Result<(), AllocError>
-    requires scope { IsScope table.now scope.old }
-    requires definable { IsDefinable table.now (definitions_at table.now scope.old) id }
-    ensures text { OnOk result (text.new.items ≡ text.old.items ++ let_text (length scope.old) (definition_of (tree table.now id) (definitions_at table.now scope.old)).form) }
-    ensures scope { OnOk result (scope.new ≡ id ∷ scope.old) }
+    requires scope { IsScope table.now scopes.old.current }
+    requires definable { IsDefinable table.now (definitions_at table.now scopes.old.current) id }
+    ensures text { OnOk result (text.new.items ≡ text.old.items ++ let_text (length scopes.old.current) (definition_of (tree table.now id) (definitions_at table.now scopes.old.current)).form) }
+    ensures current { OnOk result (scopes.new.current ≡ id ∷ scopes.old.current) }
+    ensures outer { OnOk result (scopes.new.outer ≡ scopes.old.outer) }
 {
-    push_let(scope.len(), text)?;
-    push_opening(alloc, table, id, text)?;
+    push_let(scopes.len(), text)?;
+    push_application(alloc, table, id, text)?;
     for kid in table.kids(id) {
         text.push(b' ')?;
-        push_reference(alloc, table, scope, *kid, text)?;
+        push_reference(alloc, table, scopes, *kid, text)?;
     }
     text.extend_from_slice(b"))) ")?;
-    scope.define(id)?;
+    scopes.define(id)?;
     Ok(())
 }
 
@@ -138,14 +140,15 @@ fn enter(
     steps: &mut Stack<Step>,
     text: &mut Vec<u8>,
 ) -> Result<(), AllocError>
-    requires { IsNode table.now id }
+    requires node { IsNode table.now id }
+    requires quantified { is_quantified (tree table.now id) ≡ true }
     ensures text { OnOk result (text.new.items ≡ text.old.items ++ (let_opening (length scopes.old.current) ++ (opening (tree table.now id) ++ space ∷ []))) }
     ensures current { OnOk result (scopes.new.current ≡ []) }
     ensures outer { OnOk result (scopes.new.outer ≡ scopes.old.current ∷ scopes.old.outer) }
     ensures steps { OnOk result (steps.new ≡ Step.Visit body ∷ (Step.Close id ∷ steps.old)) }
 {
-    push_let(scopes.current.len(), text)?;
-    push_opening(alloc, table, id, text)?;
+    push_let(scopes.len(), text)?;
+    push_binder(alloc, table, id, text)?;
     text.push(b' ')?;
     scopes.enter(alloc)?;
     steps.push(Step::Close(id))?;
@@ -173,7 +176,7 @@ fn visit(
     if kids.is_empty() {
         return Ok(());
     }
-    if scopes.current.number(id).is_some() {
+    if scopes.number(id).is_some() {
         return Ok(());
     }
     match binding(table, id) {
@@ -204,10 +207,10 @@ fn close(
     ensures scopes { OnOk result (AreScopes table.now scopes.new) }
 {
     let (_, body) = binding(table, id).unwrap();
-    push_end(alloc, table, &scopes.current, body, text)?;
+    push_end(alloc, table, scopes, body, text)?;
     text.extend_from_slice(b"))) ")?;
     scopes.leave();
-    scopes.current.define(id)?;
+    scopes.define(id)?;
     Ok(())
 }
 
@@ -233,7 +236,7 @@ fn take_step(
             Ok(())
         }
         Step::Define(id) => {
-            define(alloc, table, id, &mut scopes.current, text)?;
+            define(alloc, table, id, scopes, text)?;
             Ok(())
         }
         Step::Close(id) => {
@@ -248,23 +251,27 @@ pub(crate) fn print_dag<O: Output>(
     alloc: Global,
     table: &Table,
     root: NodeId,
+    draft: &mut Draft,
     out: &mut O,
 ) -> Result<(), AllocError>
     requires { IsNode table.now root }
-    ensures ok { OnOk result (O.text out.new ≡ O.text out.old ++ form_text (dag_form (tree table.now root))) }
-    ensures prefix { OnErr result (AppendsPrefix (O.text out.old) (O.text out.new) (form_text (dag_form (tree table.now root)))) }
+    ensures ok { OnOk result (Drafts (O.text out.old) draft.old.text.items (O.text out.new) draft.new.text.items (form_text (dag_form (tree table.now root)))) }
+    ensures prefix { OnErr result (AppendsPrefix (O.text out.old) (O.text out.new) (draft.old.text.items ++ form_text (dag_form (tree table.now root)))) }
 {
-    let mut scopes = Scopes::new(alloc);
-    let mut steps = Stack::new(alloc);
-    let mut text = Vec::new(alloc);
-    steps.push(Step::Visit(root))?;
-    while let Some(step) = steps.pop() {
-        text.clear();
-        take_step(alloc, table, step, &mut scopes, &mut steps, &mut text)?;
-        out.append(&text)?;
+    draft.scopes.clear();
+    draft.dag.clear();
+    draft.dag.push(Step::Visit(root))?;
+    while let Some(step) = draft.dag.pop() {
+        take_step(
+            alloc,
+            table,
+            step,
+            &mut draft.scopes,
+            &mut draft.dag,
+            &mut draft.text,
+        )?;
+        pass_on(&mut draft.text, out)?;
     }
-    text.clear();
-    push_end(alloc, table, &scopes.current, root, &mut text)?;
-    out.append(&text)?;
+    push_end(alloc, table, &draft.scopes, root, &mut draft.text)?;
     Ok(())
 }

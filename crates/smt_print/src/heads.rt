@@ -1,6 +1,6 @@
 // The heads of terms.
 
-ghost use Rattle.std.specs.Prelude.{◌≡◌, ◌++◌, List, OnOk, IfNone, IfSome, map, false};
+ghost use Rattle.std.specs.Prelude.{◌≡◌, ◌++◌, List, OnOk, IfNone, IfSome, map, true, false};
 ghost use Rattle.smt_lex.specs.FormText.{form_text};
 ghost use Rattle.smt_terms.specs.Sorts.{Variable};
 ghost use Rattle.smt_terms.specs.Term.{variable};
@@ -165,24 +165,37 @@ fn push_variables(
     Ok(())
 }
 
-// Appends the beginning of the list of a node that has operands: its head, and the variables that it binds.
-pub(crate) fn push_opening(
+// Appends the beginning of the list of an application: its head.
+pub(crate) fn push_application(
     alloc: Global,
     table: &Table,
     id: NodeId,
     out: &mut Vec<u8>,
 ) -> Result<(), AllocError>
-    requires { IsNode table.now id }
+    requires node { IsNode table.now id }
+    requires applied { is_quantified (tree table.now id) ≡ false }
     ensures { OnOk result (out.new.items ≡ out.old.items ++ opening (tree table.now id)) }
 {
     out.push(b'(')?;
     push_head(alloc, table, id, out)?;
-    match binding(table, id) {
-        Some((variables, _)) => {
-            out.push(b' ')?;
-            push_variables(alloc, table, variables, out)?;
-            Ok(())
-        }
-        None => Ok(()),
-    }
+    Ok(())
+}
+
+// Appends the beginning of the list of a quantified node: its head, and the variables that it binds.
+pub(crate) fn push_binder(
+    alloc: Global,
+    table: &Table,
+    id: NodeId,
+    out: &mut Vec<u8>,
+) -> Result<(), AllocError>
+    requires node { IsNode table.now id }
+    requires quantified { is_quantified (tree table.now id) ≡ true }
+    ensures { OnOk result (out.new.items ≡ out.old.items ++ opening (tree table.now id)) }
+{
+    let (variables, _) = binding(table, id).unwrap();
+    out.push(b'(')?;
+    push_head(alloc, table, id, out)?;
+    out.push(b' ')?;
+    push_variables(alloc, table, variables, out)?;
+    Ok(())
 }

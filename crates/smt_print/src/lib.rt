@@ -5,6 +5,7 @@
 
 mod commands;
 mod dag;
+mod draft;
 mod heads;
 mod laws;
 mod layout;

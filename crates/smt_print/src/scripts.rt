@@ -5,11 +5,13 @@ ghost use Rattle.script_read.specs.CommandLists.{command_of, commands_of, IsComm
 ghost use Rattle.smt_lex.specs.FormText.{form_text};
 ghost use Rattle.smt_lex.specs.Lexicon.{line_feed};
 ghost use Rattle.smt_print.specs.CommandTexts.{is_assertion};
-ghost use Rattle.smt_print.specs.Prefix.{AppendsPrefix};
+ghost use Rattle.smt_print.specs.Prefix.{AppendsPrefix, Drafts};
+ghost use Rattle.smt_print.specs.declared.layout.Layout.{Layout};
 ghost use Rattle.smt_print.specs.Text.{term_form, command_form, command_text, lines};
 ghost use Rattle.term_table.specs.Formulas.{tree, IsNode};
 
 use crate::commands::push_command;
+use crate::draft::{Draft, pass_all, pass_on};
 use crate::layout::Layout;
 use crate::output::Output;
 use crate::terms::print_term;
@@ -25,35 +27,32 @@ fn print_assertion<O: Output>(
     table: &Table,
     id: NodeId,
     layout: Layout,
+    draft: &mut Draft,
     out: &mut O,
 ) -> Result<(), AllocError>
     requires { IsNode table.now id }
-    ensures ok { OnOk result (O.text out.new ≡ O.text out.old ++ (form_text (command_form (codes "assert") (term_form layout (tree table.now id) ∷ [])) ++ line_feed ∷ [])) }
-    ensures prefix { OnErr result (AppendsPrefix (O.text out.old) (O.text out.new) (form_text (command_form (codes "assert") (term_form layout (tree table.now id) ∷ [])) ++ line_feed ∷ [])) }
+    ensures ok { OnOk result (Drafts (O.text out.old) draft.old.text.items (O.text out.new) draft.new.text.items (form_text (command_form (codes "assert") (term_form layout (tree table.now id) ∷ [])) ++ line_feed ∷ [])) }
+    ensures prefix { OnErr result (AppendsPrefix (O.text out.old) (O.text out.new) (draft.old.text.items ++ (form_text (command_form (codes "assert") (term_form layout (tree table.now id) ∷ [])) ++ line_feed ∷ []))) }
 {
-    out.append(b"(assert ")?;
-    print_term(alloc, table, id, layout, out)?;
-    out.append(b")\n")?;
+    draft.text.extend_from_slice(b"(assert ")?;
+    print_term(alloc, table, id, layout, draft, out)?;
+    draft.text.extend_from_slice(b")\n")?;
     Ok(())
 }
 
 // Prints the line of a command that is no assertion.
-fn print_short<O: Output>(
+fn print_short(
     alloc: Global,
     table: &Table,
     command: &Command,
-    layout: Layout,
-    out: &mut O,
+    text: &mut Vec<u8>,
 ) -> Result<(), AllocError>
     requires numbers { IsCommandOf table.now command.now }
     requires other { is_assertion command.now ≡ false }
-    ensures ok { OnOk result (O.text out.new ≡ O.text out.old ++ (command_text (term_form layout) (command_of table.now command.now) ++ line_feed ∷ [])) }
-    ensures prefix { OnErr result (AppendsPrefix (O.text out.old) (O.text out.new) (command_text (term_form layout) (command_of table.now command.now) ++ line_feed ∷ [])) }
+    ensures { (layout : Layout) → OnOk result (text.new.items ≡ text.old.items ++ (command_text (term_form layout) (command_of table.now command.now) ++ line_feed ∷ [])) }
 {
-    let mut line = Vec::new(alloc);
-    push_command(alloc, table, command, &mut line)?;
-    line.push(b'\n')?;
-    out.append(&line)?;
+    push_command(alloc, table, command, text)?;
+    text.push(b'\n')?;
     Ok(())
 }
 
@@ -63,15 +62,16 @@ fn print_command<O: Output>(
     table: &Table,
     command: &Command,
     layout: Layout,
+    draft: &mut Draft,
     out: &mut O,
 ) -> Result<(), AllocError>
     requires { IsCommandOf table.now command.now }
-    ensures ok { OnOk result (O.text out.new ≡ O.text out.old ++ (command_text (term_form layout) (command_of table.now command.now) ++ line_feed ∷ [])) }
-    ensures prefix { OnErr result (AppendsPrefix (O.text out.old) (O.text out.new) (command_text (term_form layout) (command_of table.now command.now) ++ line_feed ∷ [])) }
+    ensures ok { OnOk result (Drafts (O.text out.old) draft.old.text.items (O.text out.new) draft.new.text.items (command_text (term_form layout) (command_of table.now command.now) ++ line_feed ∷ [])) }
+    ensures prefix { OnErr result (AppendsPrefix (O.text out.old) (O.text out.new) (draft.old.text.items ++ (command_text (term_form layout) (command_of table.now command.now) ++ line_feed ∷ []))) }
 {
     match command {
-        Command::Assert { id, .. } => print_assertion(alloc, table, *id, layout, out),
-        _ => print_short(alloc, table, command, layout, out),
+        Command::Assert { id, .. } => print_assertion(alloc, table, *id, layout, draft, out),
+        _ => print_short(alloc, table, command, &mut draft.text),
     }
 }
 
@@ -87,9 +87,19 @@ fn print_script<O: Output>(
     ensures ok { OnOk result (O.text out.new ≡ O.text out.old ++ lines layout (commands_of table.now script.now.commands)) }
     ensures prefix { OnErr result (AppendsPrefix (O.text out.old) (O.text out.new) (lines layout (commands_of table.now script.now.commands))) }
 {
+    let mut draft = Draft::new(alloc);
     for i in 0..script.commands.len() {
-        print_command(alloc, table, script.commands.get(i), layout, out)?;
+        print_command(
+            alloc,
+            table,
+            script.commands.get(i),
+            layout,
+            &mut draft,
+            out,
+        )?;
+        pass_on(&mut draft.text, out)?;
     }
+    pass_all(&mut draft.text, out)?;
     Ok(())
 }
 

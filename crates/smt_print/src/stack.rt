@@ -36,6 +36,12 @@ impl<T> Stack<T> {
 }
 
 impl<T: Drop> Stack<T> {
+    pub(crate) fn clear(&mut self)
+        ensures { self.new ≡ [] }
+    {
+        self.items.clear();
+    }
+
     pub(crate) fn push(&mut self, item: T) -> Result<(), AllocError>
         ensures ok { OnOk result (self.new ≡ item ∷ self.old) }
     {

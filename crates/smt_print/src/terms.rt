@@ -2,10 +2,11 @@
 
 ghost use Rattle.std.specs.Prelude.{◌≡◌, ◌++◌, IfOk, OnOk, OnErr};
 ghost use Rattle.term_table.specs.Formulas.{tree, IsNode};
-ghost use Rattle.smt_print.specs.Prefix.{AppendsPrefix};
+ghost use Rattle.smt_print.specs.Prefix.{AppendsPrefix, Drafts};
 ghost use Rattle.smt_print.specs.Text.{text};
 
 use crate::dag::print_dag;
+use crate::draft::Draft;
 use crate::layout::Layout;
 use crate::output::Output;
 use crate::tree::print_tree;
@@ -19,16 +20,34 @@ pub(crate) fn print_term<O: Output>(
     table: &Table,
     id: NodeId,
     layout: Layout,
+    draft: &mut Draft,
     out: &mut O,
 ) -> Result<(), AllocError>
     requires { IsNode table.now id }
-    ensures ok { OnOk result (O.text out.new ≡ O.text out.old ++ text layout (tree table.now id)) }
-    ensures prefix { OnErr result (AppendsPrefix (O.text out.old) (O.text out.new) (text layout (tree table.now id))) }
+    ensures ok { OnOk result (Drafts (O.text out.old) draft.old.text.items (O.text out.new) draft.new.text.items (text layout (tree table.now id))) }
+    ensures prefix { OnErr result (AppendsPrefix (O.text out.old) (O.text out.new) (draft.old.text.items ++ text layout (tree table.now id))) }
 {
     match layout {
-        Layout::Tree => print_tree(alloc, table, id, out),
-        Layout::Dag => print_dag(alloc, table, id, out),
+        Layout::Tree => print_tree(alloc, table, id, draft, out),
+        Layout::Dag => print_dag(alloc, table, id, draft, out),
     }
+}
+
+// Appends the text of a term.
+pub(crate) fn push_term(
+    alloc: Global,
+    table: &Table,
+    id: NodeId,
+    layout: Layout,
+    out: &mut Vec<u8>,
+) -> Result<(), AllocError>
+    requires { IsNode table.now id }
+    ensures { OnOk result (out.new.items ≡ out.old.items ++ text layout (tree table.now id)) }
+{
+    let mut draft = Draft::new(alloc);
+    print_term(alloc, table, id, layout, &mut draft, out)?;
+    out.extend_from_slice(&draft.text)?;
+    Ok(())
 }
 
 /// The text of a term (SMT-LIB 2.6, section 3.6). Only want of memory refuses it. A term that shares subterms can have a
@@ -43,6 +62,6 @@ pub fn term_text(
     ensures { IfOk result (λ bytes. bytes.items ≡ text layout (tree table.now id)) }
 {
     let mut bytes = Vec::new(alloc);
-    print_term(alloc, table, id, layout, &mut bytes)?;
+    push_term(alloc, table, id, layout, &mut bytes)?;
     Ok(bytes)
 }

@@ -3,11 +3,12 @@
 ghost use Rattle.std.specs.Prelude.{◌≡◌, ◌<◌, ◌++◌, ◌∷◌, ℕ, List, OnOk, OnErr, map};
 ghost use Rattle.smt_lex.specs.FormText.{form_text};
 ghost use Rattle.term_table.specs.Formulas.{tree, IsNode, AreNodes};
-ghost use Rattle.smt_print.specs.Prefix.{AppendsPrefix};
+ghost use Rattle.smt_print.specs.Prefix.{AppendsPrefix, Drafts};
 ghost use Rattle.smt_print.specs.TermForms.{tree_form};
 ghost use Rattle.smt_print.specs.TreeSteps.{Leads, weights, operand_steps};
 
-use crate::heads::{binding, push_head, push_opening};
+use crate::draft::{Draft, pass_on};
+use crate::heads::{binding, push_application, push_binder, push_head};
 use crate::output::Output;
 use crate::stack::Stack;
 use smt_terms::NodeId;
@@ -53,14 +54,16 @@ fn open_term(
         push_head(alloc, table, id, text)?;
         return Ok(());
     }
-    push_opening(alloc, table, id, text)?;
-    steps.push(Step::Close)?;
     match binding(table, id) {
         Some((_, body)) => {
+            push_binder(alloc, table, id, text)?;
+            steps.push(Step::Close)?;
             push_operands(steps, &[body])?;
             Ok(())
         }
         None => {
+            push_application(alloc, table, id, text)?;
+            steps.push(Step::Close)?;
             push_operands(steps, kids)?;
             Ok(())
         }
@@ -97,20 +100,18 @@ pub(crate) fn print_tree<O: Output>(
     alloc: Global,
     table: &Table,
     root: NodeId,
+    draft: &mut Draft,
     out: &mut O,
 ) -> Result<(), AllocError>
     requires { IsNode table.now root }
-    ensures ok { OnOk result (O.text out.new ≡ O.text out.old ++ form_text (tree_form (tree table.now root))) }
-    ensures prefix { OnErr result (AppendsPrefix (O.text out.old) (O.text out.new) (form_text (tree_form (tree table.now root)))) }
+    ensures ok { OnOk result (Drafts (O.text out.old) draft.old.text.items (O.text out.new) draft.new.text.items (form_text (tree_form (tree table.now root)))) }
+    ensures prefix { OnErr result (AppendsPrefix (O.text out.old) (O.text out.new) (draft.old.text.items ++ form_text (tree_form (tree table.now root)))) }
 {
-    let mut steps = Stack::new(alloc);
-    let mut text = Vec::new(alloc);
-    open_term(alloc, table, root, &mut steps, &mut text)?;
-    out.append(&text)?;
-    while let Some(step) = steps.pop() {
-        text.clear();
-        take_step(alloc, table, step, &mut steps, &mut text)?;
-        out.append(&text)?;
+    draft.tree.clear();
+    open_term(alloc, table, root, &mut draft.tree, &mut draft.text)?;
+    while let Some(step) = draft.tree.pop() {
+        take_step(alloc, table, step, &mut draft.tree, &mut draft.text)?;
+        pass_on(&mut draft.text, out)?;
     }
     Ok(())
 }

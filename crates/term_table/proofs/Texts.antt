@@ -57,9 +57,12 @@ pub plain_integer : (n : ℤ) (ds : List ℕ) → FitsSigned w128 n → int_le (
 plain_integer n ds fits sign is =
     is ∙ decimal-numeral (unsigned_abs n) (magnitude n fits) ∙ ap (λ b. form_text (signed_form b (unsigned_abs n))) (sym (not_negative n sign))
 
-pub negative_integer : (n : ℤ) (a b c ds : List ℕ) → FitsSigned w128 n → int_le (pos 0) n ≡ false → a ≡ codes "(- " → ds ≡ decimal (unsigned_abs n) → b ≡ a ++ ds → c ≡ b ++ 41 ∷ [] → c ≡ form_text (integer_form n)
-negative_integer n a b c ds fits sign first is second third =
-    negative_text a b c ds (unsigned_abs n) (magnitude n fits) first is second third ∙ ap (λ b. form_text (signed_form b (unsigned_abs n))) (sym (negative n sign))
+pub negative_integer : (n : ℤ) (old a b c ds : List ℕ) → FitsSigned w128 n → int_le (pos 0) n ≡ false → a ≡ old ++ codes "(- " → ds ≡ decimal (unsigned_abs n) → b ≡ a ++ ds → c ≡ b ++ 41 ∷ []
+    → c ≡ old ++ form_text (integer_form n)
+negative_integer n old a b c ds fits sign first is second third =
+    third ∙ ap (λ xs. xs ++ 41 ∷ []) (second ∙ ap (λ xs. xs ++ ds) first ∙ append_assoc old (codes "(- ") ds) ∙ append_assoc old (codes "(- " ++ ds) (41 ∷ [])
+    ∙ ap (λ xs. old ++ xs)
+    (negative_text (codes "(- ") (codes "(- " ++ ds) ((codes "(- " ++ ds) ++ 41 ∷ []) ds (unsigned_abs n) (magnitude n fits) refl is refl refl ∙ ap (λ b. form_text (signed_form b (unsigned_abs n))) (sym (negative n sign)))
 
 -- ---- so many digits
 

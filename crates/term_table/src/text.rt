@@ -1,6 +1,6 @@
 //! The texts of sorts and of scalars.
 
-ghost use Rattle.std.specs.Prelude.{◌≡◌, ◌<◌, ◌≤◌, ◌*◌, ◌^◌, ◌++◌, ◌∷◌, [], false, IfOk, OnOk, OnErr};
+ghost use Rattle.std.specs.Prelude.{◌≡◌, ◌<◌, ◌≤◌, ◌*◌, ◌^◌, ◌++◌, ◌∷◌, ◌+◌, [], false, vec_len, vec_capacity, IfOk, IsOk, OnOk, OnErr};
 ghost use Rattle.std.specs.Char.{digit_char};
 ghost use Rattle.smt_lex.specs.FormText.{form_text};
 ghost use Rattle.smt_terms.specs.Rank.{is_array};
@@ -28,6 +28,9 @@ pub fn sort_text(
     ensures ok { OnOk result (out.new.items ≡ out.old.items ++ form_text (sort_form (sort_at table.now.sorts sort))) }
     ensures refused { OnErr result (out.new.items ≡ out.old.items) }
 {
+    if table.sorts().parts(sort).is_none() {
+        return push_plain_sort(alloc, table.sorts(), sort, out);
+    }
     let text = written_sort(alloc, table.sorts(), sort)?;
     out.extend_from_slice(&text)
 }
@@ -54,7 +57,7 @@ fn written_sort(alloc: Global, sorts: &SortTable, sort: SortId) -> Result<Vec<u8
     Ok(text)
 }
 
-// Appends the text of a sort that is no array sort.
+// Appends the text of a sort that is no array sort. A refusal leaves `out` as before.
 fn push_plain_sort(
     alloc: Global,
     sorts: &SortTable,
@@ -63,7 +66,8 @@ fn push_plain_sort(
 ) -> Result<(), AllocError>
     requires sort { IsSortId sorts.now sort }
     requires plain { is_array (sort_at sorts.now sort) ≡ false }
-    ensures { OnOk result (out.new.items ≡ out.old.items ++ form_text (sort_form (sort_at sorts.now sort))) }
+    ensures ok { OnOk result (out.new.items ≡ out.old.items ++ form_text (sort_form (sort_at sorts.now sort))) }
+    ensures refused { OnErr result (out.new.items ≡ out.old.items) }
 {
     if let Some(name) = sorts.name(sort) {
         return symbol_text(alloc, name, out);
@@ -75,13 +79,16 @@ fn push_plain_sort(
     }
 }
 
-// Appends the sort of the bit vectors of a width.
+// Appends the sort of the bit vectors of a width. A refusal leaves `out` as before.
 fn push_width(width: u64, out: &mut Vec<u8>) -> Result<(), AllocError>
-    ensures { OnOk result (out.new.items ≡ out.old.items ++ form_text (sort_form (bit_vector width))) }
+    ensures ok { OnOk result (out.new.items ≡ out.old.items ++ form_text (sort_form (bit_vector width))) }
+    ensures refused { OnErr result (out.new.items ≡ out.old.items) }
 {
     let mut buffer = Buffer::new();
+    let digits = buffer.format(width).as_bytes();
+    out.reserve(11 + digits.len())?;
     out.extend_from_slice(b"(_ BitVec ")?;
-    out.extend_from_slice(buffer.format(width).as_bytes())?;
+    out.extend_from_slice(digits)?;
     out.push(b')')?;
     Ok(())
 }
@@ -97,53 +104,54 @@ pub fn scalar_text(alloc: Global, scalar: Scalar, out: &mut Vec<u8>) -> Result<(
     match scalar {
         Scalar::Truth(true) => out.extend_from_slice(b"true"),
         Scalar::Truth(false) => out.extend_from_slice(b"false"),
-        Scalar::Whole(n) => {
-            let text = written_integer(alloc, n)?;
-            out.extend_from_slice(&text)
-        }
-        Scalar::Bits { width, bits } => {
-            let text = written_bits(alloc, width, bits)?;
-            out.extend_from_slice(&text)
-        }
+        Scalar::Whole(n) => push_integer(n, out),
+        Scalar::Bits { width, bits } => push_bits(width, bits, out),
     }
 }
 
-// A whole number in decimal digits, a negative one as the unary minus of its magnitude.
-fn written_integer(alloc: Global, n: i128) -> Result<Vec<u8>, AllocError>
-    ensures { IfOk result (λ text. text.items ≡ form_text (integer_form n)) }
+// Appends a whole number in decimal digits, a negative one as the unary minus of its magnitude. A refusal leaves `out` as
+// before.
+fn push_integer(n: i128, out: &mut Vec<u8>) -> Result<(), AllocError>
+    ensures ok { OnOk result (out.new.items ≡ out.old.items ++ form_text (integer_form n)) }
+    ensures refused { OnErr result (out.new.items ≡ out.old.items) }
 {
     let mut buffer = Buffer::new();
     let digits = buffer.format(n.unsigned_abs()).as_bytes();
     if n >= 0 {
-        return Vec::from_slice(alloc, digits);
+        out.extend_from_slice(digits)?;
+        return Ok(());
     }
-    let mut text = Vec::from_slice(alloc, b"(- ")?;
-    text.extend_from_slice(digits)?;
-    text.push(b')')?;
-    Ok(text)
+    out.reserve(4 + digits.len())?;
+    out.extend_from_slice(b"(- ")?;
+    out.extend_from_slice(digits)?;
+    out.push(b')')?;
+    Ok(())
 }
 
-// The bit vector of this width that is this number.
-fn written_bits(alloc: Global, width: u32, bits: u128) -> Result<Vec<u8>, AllocError>
+// Appends the bit vector of this width that is this number. A refusal leaves `out` as before.
+fn push_bits(width: u32, bits: u128, out: &mut Vec<u8>) -> Result<(), AllocError>
     requires { width ≤ 128 }
-    ensures { IfOk result (λ text. text.items ≡ form_text (vector_form width bits)) }
+    ensures ok { OnOk result (out.new.items ≡ out.old.items ++ form_text (vector_form width bits)) }
+    ensures refused { OnErr result (out.new.items ≡ out.old.items) }
 {
-    let mut text = Vec::new(alloc);
     if width % 4 == 0 {
-        text.extend_from_slice(b"#x")?;
-        push_digits(4, width / 4, bits, &mut text)?;
-    } else {
-        text.extend_from_slice(b"#b")?;
-        push_digits(1, width, bits, &mut text)?;
+        out.reserve(2 + width as usize / 4)?;
+        out.extend_from_slice(b"#x")?;
+        push_digits(4, width / 4, bits, out)?;
+        return Ok(());
     }
-    Ok(text)
+    out.reserve(2 + width as usize)?;
+    out.extend_from_slice(b"#b")?;
+    push_digits(1, width, bits, out)?;
+    Ok(())
 }
 
 // Appends the last digits of a number, so many, highest first, each of which stands for this many bits.
 fn push_digits(size: u32, count: u32, bits: u128, out: &mut Vec<u8>) -> Result<(), AllocError>
     requires small { (1 ≤ size) × (size ≤ 4) }
     requires within { size * count ≤ 128 }
-    ensures { OnOk result (out.new.items ≡ out.old.items ++ last_digits (2 ^ size) count bits []) }
+    ensures ok { OnOk result (out.new.items ≡ out.old.items ++ last_digits (2 ^ size) count bits []) }
+    ensures room { vec_len out.old + count ≤ vec_capacity out.old → IsOk result }
 {
     for k in 0..count {
         let lower = size * (count - 1 - k);

@@ -1,12 +1,8 @@
-use Rattle.smt_print.proofs.DagTurns.{close-new, close-scopes}
+use Rattle.smt_print.proofs.DagTurns.{close-scopes}
 use Rattle.smt_print.proofs.dag.close.Goals as goal
-
-pub define-requires : goal.define-requires
-define-requires c =
-    let (root, steps, done, whole, leads) = c.requires.closable in
-    close-new c.args.table.now root c.args.scopes.now c.args.id steps done whole c.leave.new.self.current c.leave.new.self.outer c.leave.ensures leads c.binding.ensures.table c.requires.scopes
 
 pub returns-clause-scopes : goal.returns-clause-scopes
 returns-clause-scopes c =
     let (root, steps, done, whole, leads) = c.requires.closable in
-    close-scopes c.args.table.now root c.args.scopes.now c.args.id steps done whole c.leave.new.self.current c.leave.new.self.outer c.leave.ensures leads c.define.new.self c.requires.scopes c.in_ok-define.ensures
+    close-scopes c.args.table.now root c.args.scopes.now c.args.id steps done whole c.leave.new.self.current c.leave.new.self.outer c.leave.ensures leads c.define.new.self c.requires.scopes
+    c.in_ok-define.ensures.current c.in_ok-define.ensures.outer

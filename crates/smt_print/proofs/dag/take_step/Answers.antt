@@ -1,7 +1,5 @@
-use Rattle.std.proofs.Common.{List, map, ◌++◌, sym, subst}
-use Rattle.smt_terms.specs.declared.ids.NodeId.{NodeId}
+use Rattle.std.proofs.Common.{◌++◌}
 use Rattle.smt_print.specs.declared.dag.Step.TheVariants.{Visit, Define, Close}
-use Rattle.smt_print.specs.DagSteps.{definitions_at, Leads}
 use Rattle.smt_print.proofs.DagTurns.{step-is, define-leads, define-scopes}
 use Rattle.smt_print.proofs.dag.take_step.Goals as goal
 
@@ -17,19 +15,16 @@ returns-in_ok-visit-in-Visit-clause-leads c root done whole leads =
 
 pub returns-in_ok-define-in-Define-clause-leads : goal.returns-in_ok-define-in-Define-clause-leads
 returns-in_ok-define-in-Define-clause-leads c root done whole leads =
-    let t = c.args.table.now in
-    let ss = c.args.scopes.now in
-    let more =
-    define-leads t root ss.current (map (definitions_at t) ss.outer) c.in-Define.id c.args.steps.now c.args.text.now.items c.define.new.text.items done whole c.in_ok-define-in-Define.ensures.text
-    (step-is t root ss c.args.step (Define c.in-Define.id) c.args.steps.now (done ++ c.args.text.now.items) whole c.in-Define.is leads)
-    in
-    subst (λ (ks : List NodeId). Leads t root (definitions_at t ks) (map (definitions_at t) ss.outer) c.args.steps.now (done ++ c.define.new.text.items) whole) (sym c.in_ok-define-in-Define.ensures.scope) more
+    define-leads c.args.table.now root c.args.scopes.now c.define.new.scopes c.in-Define.id c.args.steps.now c.args.text.now.items c.define.new.text.items done whole
+    c.in_ok-define-in-Define.ensures.text c.in_ok-define-in-Define.ensures.current c.in_ok-define-in-Define.ensures.outer
+    (step-is c.args.table.now root c.args.scopes.now c.args.step (Define c.in-Define.id) c.args.steps.now (done ++ c.args.text.now.items) whole c.in-Define.is leads)
 
 pub returns-in_ok-define-in-Define-clause-scopes : goal.returns-in_ok-define-in-Define-clause-scopes
 returns-in_ok-define-in-Define-clause-scopes c =
     let (root, done, whole, leads) = c.requires.standing in
-    define-scopes c.args.table.now c.args.scopes.now c.in-Define.id c.define.new.scope c.requires.scopes
-    (step-is c.args.table.now root c.args.scopes.now c.args.step (Define c.in-Define.id) c.args.steps.now done whole c.in-Define.is leads).0 c.in_ok-define-in-Define.ensures.scope
+    define-scopes c.args.table.now c.args.scopes.now c.define.new.scopes c.in-Define.id c.requires.scopes
+    (step-is c.args.table.now root c.args.scopes.now c.args.step (Define c.in-Define.id) c.args.steps.now done whole c.in-Define.is leads).0
+    c.in_ok-define-in-Define.ensures.current c.in_ok-define-in-Define.ensures.outer
 
 pub returns-in_ok-close-in-Close-clause-leads : goal.returns-in_ok-close-in-Close-clause-leads
 returns-in_ok-close-in-Close-clause-leads c root done whole leads =

@@ -1,7 +1,8 @@
-use Rattle.std.proofs.Common.{◌≡◌, ◌++◌, take}
+use Rattle.std.proofs.Common.{[], take}
 use Rattle.script_read.specs.CommandLists.{commands_of}
+use Rattle.smt_print.specs.Prefix.{Drafts}
 use Rattle.smt_print.specs.Text.{lines}
 use Rattle.smt_print.proofs.scripts.print_script.Given as goal
 
 abbrev pub invariant-loop-i : goal.invariant-loop-i
-invariant-loop-i g l = g.O.Output.text l.out ≡ g.O.Output.text l.fn.out ++ lines l.layout (commands_of l.table (take l.i l.script.commands))
+invariant-loop-i g l = Drafts (g.O.Output.text l.fn.out) [] (g.O.Output.text l.out) l.draft.text.items (lines l.layout (commands_of l.table (take l.i l.script.commands)))

@@ -13,21 +13,21 @@ returns-then-is_empty-clause-leads c done whole leads =
 pub returns-in_ok-push_operands-in-Some-clause-leads : goal.returns-in_ok-push_operands-in-Some-clause-leads
 returns-in_ok-push_operands-in-Some-clause-leads c done whole leads =
     let bound = c.in-Some.ensures.some in
-    leads-opened c.args.table.now (tree c.args.table.now c.args.id) (c.in-Some.body ∷ []) c.args.steps.now c.push_operands.new.steps c.args.text.now.items c.push_opening.new.out.items done whole
+    leads-opened c.args.table.now (tree c.args.table.now c.args.id) (c.in-Some.body ∷ []) c.args.steps.now c.push_operands.new.steps c.args.text.now.items c.push_binder.new.out.items done whole
     (some-below c.args.table.now (tree c.args.table.now c.args.id) c.kids-kids.result.now c.is_empty.result c.is_empty.ensures c.if-is_empty.false c.kids-kids.ensures.terms)
-    c.in_ok-push_opening.ensures (body-parts c.args.table.now (tree c.args.table.now c.args.id) c.in-Some.field-0-0.now c.in-Some.body bound)
+    c.in_ok-push_binder-in-Some.ensures (body-parts c.args.table.now (tree c.args.table.now c.args.id) c.in-Some.field-0-0.now c.in-Some.body bound)
     (body-node c.args.table.now (tree c.args.table.now c.args.id) c.in-Some.field-0-0.now c.in-Some.body bound)
-    (c.in_ok-push_operands-in-Some.ensures ∙ ap (λ ss. operand_steps (c.in-Some.body ∷ []) ++ ss) c.in_ok-push.ensures.ok) leads
+    (c.in_ok-push_operands-in-Some.ensures ∙ ap (λ ss. operand_steps (c.in-Some.body ∷ []) ++ ss) c.in_ok-push-in-Some.ensures.ok) leads
 
 pub returns-in_ok-push_operands-in-None-clause-leads : goal.returns-in_ok-push_operands-in-None-clause-leads
 returns-in_ok-push_operands-in-None-clause-leads c done whole leads =
-    leads-opened c.args.table.now (tree c.args.table.now c.args.id) c.kids-kids.result.now c.args.steps.now c.push_operands-in-None.new.steps c.args.text.now.items c.push_opening.new.out.items done whole
+    leads-opened c.args.table.now (tree c.args.table.now c.args.id) c.kids-kids.result.now c.args.steps.now c.push_operands-in-None.new.steps c.args.text.now.items c.push_application.new.out.items done whole
     (some-below c.args.table.now (tree c.args.table.now c.args.id) c.kids-kids.result.now c.is_empty.result c.is_empty.ensures c.if-is_empty.false c.kids-kids.ensures.terms)
-    c.in_ok-push_opening.ensures (c.kids-kids.ensures.terms ∙ sym (parts-applied (tree c.args.table.now c.args.id) c.in-None.ensures.none))
+    c.in_ok-push_application-in-None.ensures (c.kids-kids.ensures.terms ∙ sym (parts-applied (tree c.args.table.now c.args.id) c.in-None.ensures.none))
     (kids-nodes c.args.table.now c.args.id c.kids-kids.result.now c.requires c.kids-kids.ensures.below)
-    (c.in_ok-push_operands-in-None.ensures ∙ ap (λ ss. operand_steps c.kids-kids.result.now ++ ss) c.in_ok-push.ensures.ok) leads
+    (c.in_ok-push_operands-in-None.ensures ∙ ap (λ ss. operand_steps c.kids-kids.result.now ++ ss) c.in_ok-push-in-None.ensures.ok) leads
 
 pub returns-in_ok-push_operands-in-None-clause-nearer : goal.returns-in_ok-push_operands-in-None-clause-nearer
 returns-in_ok-push_operands-in-None-clause-nearer c =
     nearer-opened c.args.table.now (tree c.args.table.now c.args.id) c.kids-kids.result.now c.args.steps.now c.push_operands-in-None.new.steps c.in-None.ensures.none c.kids-kids.ensures.terms
-    (c.in_ok-push_operands-in-None.ensures ∙ ap (λ ss. operand_steps c.kids-kids.result.now ++ ss) c.in_ok-push.ensures.ok)
+    (c.in_ok-push_operands-in-None.ensures ∙ ap (λ ss. operand_steps c.kids-kids.result.now ++ ss) c.in_ok-push-in-None.ensures.ok)
