@@ -1,5 +1,5 @@
 -- A reading from its first form to its term: how lists open, what is kept from step to step, and where it ends.
-use Rattle.std.proofs.Common.{◌≡◌, ℕ, ◌<◌, List, [], ◌∷◌, ◌++◌, reverse, length, Some, IfSome, Result, Ok, Err, refl, ap, sym, ◌∙◌, subst}
+use Rattle.std.proofs.Common.{◌≡◌, ℕ, ◌<◌, List, [], ◌∷◌, ◌++◌, reverse, length, false, Some, IfSome, Result, Ok, Err, refl, ap, sym, ◌∙◌, subst}
 use Rattle.smt_lex.specs.Lex.{Token}
 use Rattle.smt_lex.specs.Forest.{token_at, after_at}
 use Rattle.smt_lex.specs.Forms.{node}
@@ -22,7 +22,7 @@ use Rattle.script_read.specs.Bound.{ShowsLocals}
 use Rattle.script_read.specs.PlaceClauses.{BeginsForm, IsListAt}
 use Rattle.script_read.specs.Places.{IsForm, SparesText, form_from, forms_from}
 use Rattle.script_read.specs.TermClauses.{defined_name}
-use Rattle.script_read.specs.Waiting.{AllWait, ComesBack, Opens, SomeGoing, Keeps, now_at, defined_by, Going, GoingBack}
+use Rattle.script_read.specs.Waiting.{AllWait, is_call, awaits_operand, ComesBack, Opens, SomeGoing, Keeps, now_at, defined_by, Going, GoingBack}
 use Rattle.script_read.proofs.Grown.{later_on, never_later}
 use Rattle.script_read.proofs.Stepping.{at_state, gains_self}
 use Rattle.script_read.proofs.Stepped.{reading_of, opened_is, reverse_push}
@@ -68,6 +68,9 @@ module _ (ts : List Token) (t : Formulas) (sofar : SofarSeen) (reader now : Term
     (popped : reader.frames.items ≡ now.frames.items ++ f ∷ []) where
   turned : reverse reader.frames.items ≡ f ∷ reverse now.frames.items
   turned = ap reverse popped ∙ reverse_push now.frames.items f
+
+  pub frame_other : awaits_operand (reverse reader.frames.items) ≡ false → is_call f ≡ false
+  frame_other is = ap awaits_operand (sym turned) ∙ is
 
   pub frame_waits : (k : NodeId) (at : ℕ) (r : Result (Term × Sofar) Refused) → Going ts t sofar reader (NextTerm k at) r → GoingBack ts t sofar now f k at r
   frame_waits k at r going = subst (λ x. ComesBack ts (defined_by ts x) (now_at t sofar) sofar.scope x.locals (f ∷ reverse now.frames.items) k at r) (sym same)

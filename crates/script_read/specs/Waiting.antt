@@ -1,5 +1,6 @@
 -- Terms under way: what waits for the term that is being read, from the innermost form out, and what the reading then gives.
-use Rattle.std.specs.Prelude.{◌≡◌, true, false, ℕ, suc, ◌+◌, ◌<◌, ◌≤◌, ◌^◌, List, [], ◌∷◌, ◌++◌, map, reverse, length, drop, get_or, All, IsTrue, Option, Some, option_map, Result, Ok, Err}
+use Rattle.std.specs.Prelude.{◌≡◌, Bool, true, false, ℕ, suc, ◌+◌, ◌<◌, ◌≤◌, ◌^◌, List, [], ◌∷◌, ◌++◌, map, reverse, length, drop, get_or, All, IsTrue, Option, Some, option_map, Result, Ok, Err}
+use Rattle.smallvec.specs.SmallVec.{SmallVec}
 use Rattle.smt_lex.specs.Lex.{Token}
 use Rattle.smt_lex.specs.Names.{Name, is_among}
 use Rattle.smt_lex.specs.Forest.{token_at, after_at}
@@ -21,6 +22,7 @@ use Rattle.script_read.specs.declared.terms.callees.Callee.{Callee}
 use Rattle.script_read.specs.declared.terms.callees.Callee.TheVariants.{Written as WrittenCallee, ArrayOf, Called, Defined, Operandless}
 use Rattle.script_read.specs.declared.sofar.Sofar.{Sofar as SofarSeen}
 use Rattle.script_read.specs.declared.terms.term_reader.TermReader.{TermReader}
+use Rattle.script_read.specs.declared.terms.frames.Call.{Call}
 use Rattle.script_read.specs.declared.terms.frames.Lets.{Lets}
 use Rattle.script_read.specs.declared.terms.frames.Frame.{Frame}
 use Rattle.script_read.specs.declared.terms.frames.Frame.TheVariants.{Operands, Binding, Body, Quantified, Annotated}
@@ -60,6 +62,24 @@ list_of (Binding f) = f.list
 list_of (Body f) = f.list
 list_of (Quantified f) = f.list
 list_of (Annotated f) = f.list
+
+-- an application waits for an operand
+abbrev pub is_call : Frame → Bool
+is_call (Operands f) = true
+is_call _ = false
+
+abbrev pub awaits_operand : List Frame → Bool
+awaits_operand [] = false
+awaits_operand (f ∷ fs) = is_call f
+
+-- the application that waits, the last of these frames, has this operand behind those that it had
+pub record OneMoreOperand (old new : List Frame) (k : NodeId) : Type 0 where
+  pub earlier : List Frame
+  pub call : Call
+  pub kids : SmallVec NodeId
+  pub before : old ≡ earlier ++ Operands call ∷ []
+  pub behind : new ≡ earlier ++ Operands (record { list = call.list; callee = call.callee; kids = kids }) ∷ []
+  pub one_more : kids.items ≡ call.kids.items ++ k ∷ []
 
 -- how many local names end with it
 abbrev pub bound_by : Frame → ℕ

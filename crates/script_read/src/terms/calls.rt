@@ -1,11 +1,12 @@
 //! Applications under way: `(f t ..)` has the head f, then its operands from left to right, and then itself.
 
-ghost use Rattle.std.specs.Prelude.{◌<◌, IfOk, Result};
+ghost use Rattle.std.specs.Prelude.{◌≡◌, ◌<◌, ◌++◌, ◌∷◌, [], true, reverse, List, IfOk, Result};
 ghost use Rattle.smt_terms.specs.Term.{Term};
 ghost use Rattle.script_read.specs.Refusals.{Refused};
 ghost use Rattle.script_read.specs.Reading.{Sofar as Known};
 ghost use Rattle.script_read.specs.Parts.{head};
 ghost use Rattle.script_read.specs.Places.{IsRead, form_from};
+ghost use Rattle.script_read.specs.Waiting.{awaits_operand, OneMoreOperand};
 
 use crate::faults::ReadFault;
 use crate::places::{bad_form, begins};
@@ -14,12 +15,14 @@ use crate::terms::applications::apply;
 use crate::terms::frames::{Call, Frame, Next};
 use crate::terms::heads::read_callee;
 use crate::terms::term_reader::TermReader;
+use smallvec::SmallVec;
 use smt_lex::Forest;
 use smt_terms::NodeId;
+use std::alloc::AllocError;
 use term_table::Table;
 
 impl TermReader {
-    ghost use Rattle.script_read.specs.Waiting.{Going, GoingBack, Stepped, SomeGoing, SomeGoingBack, Keeps, left_of, left_behind, Opens};
+    ghost use Rattle.script_read.specs.Waiting.{Going, Stepped, SomeGoing, Keeps, left_of, Opens};
 
     /// Reads the head of the application of token `list`, and begins its first operand.
     pub fn open_application(
@@ -45,9 +48,16 @@ impl TermReader {
         self.frames.push(Frame::Operands(Call {
             list,
             callee,
-            kids: Vec::new(self.alloc),
+            kids: SmallVec::new(self.alloc),
         }))?;
         Ok(Next::Form(operand))
+    }
+
+    /// Whether an application waits for the term that is read.
+    pub fn awaits_operand(&self) -> bool
+        ensures { result ≡ awaits_operand (reverse self.now.frames.items) }
+    {
+        matches!(self.frames.last(), Some(Frame::Operands(_)))
     }
 
     /// Goes on behind an operand: begins the next one, or makes the application.
@@ -56,22 +66,21 @@ impl TermReader {
         table: &mut Table,
         forest: &Forest,
         sofar: &mut Sofar,
-        call: Call,
         node: NodeId,
         behind: usize,
     ) -> Result<Next, ReadFault>
         requires read { IsRead forest.now }
-        requires going { SomeGoingBack forest.now.tokens table.old sofar.old self.old (Frame.Operands call) node behind }
-        ensures steps { (r : Result (Term × Known) Refused) → GoingBack forest.now.tokens table.old sofar.old self.old (Frame.Operands call) node behind r → Stepped forest.now.tokens table.new sofar.new self.new r result }
-        ensures less { IfOk result (λ next. left_of forest.now.tokens self.new next < left_behind forest.now.tokens self.old (Frame.Operands call) behind) }
+        requires awaits { awaits_operand (reverse self.old.frames.items) ≡ true }
+        requires going { SomeGoing forest.now.tokens table.old sofar.old self.old (Next.Term node behind) }
+        ensures steps { (r : Result (Term × Known) Refused) → Going forest.now.tokens table.old sofar.old self.old (Next.Term node behind) r → Stepped forest.now.tokens table.new sofar.new self.new r result }
+        ensures less { IfOk result (λ next. left_of forest.now.tokens self.new next < left_of forest.now.tokens self.old (Next.Term node behind)) }
         ensures keeps { Keeps table.old table.new sofar.old sofar.new self.old self.new }
     {
-        let mut call = call;
-        call.kids.push(node)?;
+        add_operand(&mut self.frames, node)?;
         if begins(forest, behind) {
-            self.frames.push(Frame::Operands(call))?;
             return Ok(Next::Form(behind));
         }
+        let call = take_call(&mut self.frames);
         let node = apply(
             self.alloc,
             table,
@@ -85,5 +94,36 @@ impl TermReader {
             node,
             behind: forest.after(call.list),
         })
+    }
+}
+
+// Gives the application that waits last one operand more.
+fn add_operand(frames: &mut Vec<Frame>, node: NodeId) -> Result<(), AllocError>
+    requires { (earlier : List Frame) × (call : Call) × (frames.old.items ≡ earlier ++ Frame.Operands call ∷ []) }
+    ensures { IfOk result (λ _. OneMoreOperand frames.old.items frames.new.items node) }
+{
+    let last = frames.len() - 1;
+    let Frame::Operands(call) = &mut frames[last] else {
+        unreachable!()
+    };
+    add(call, node)
+}
+
+// Gives an application one operand more.
+fn add(call: &mut Call, node: NodeId) -> Result<(), AllocError>
+    ensures { IfOk result (λ _. (call.new ≡ record { list = call.old.list; callee = call.old.callee; kids = call.new.kids }) × (call.new.kids.items ≡ call.old.kids.items ++ node ∷ [])) }
+{
+    call.kids.push(node)?;
+    Ok(())
+}
+
+// Takes off the application that waits last.
+fn take_call(frames: &mut Vec<Frame>) -> Call
+    requires { awaits_operand (reverse frames.old.items) ≡ true }
+    ensures { frames.old.items ≡ frames.new.items ++ Frame.Operands result ∷ [] }
+{
+    match frames.pop() {
+        Some(Frame::Operands(call)) => call,
+        _ => unreachable!(),
     }
 }

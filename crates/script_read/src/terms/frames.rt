@@ -3,6 +3,7 @@
 use crate::locals::Constant;
 use crate::terms::callees::Callee;
 use crate::terms::let_names::LetNames;
+use smallvec::SmallVec;
 use smt_terms::NodeId;
 
 /// The two quantifiers.
@@ -17,7 +18,7 @@ pub enum Quantifier {
 pub struct Call {
     pub list: usize,
     pub callee: Callee,
-    pub kids: Vec<NodeId>,
+    pub kids: SmallVec<NodeId, 4>,
 }
 
 /// A `let`, at the binding of token `part`, with the names before it.

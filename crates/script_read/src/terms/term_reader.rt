@@ -1,7 +1,7 @@
 //! The machine that reads a term: it goes through the tokens from left to right, and what waits for a term stands on a stack
 //! of its own. At each step what is left to do gives the term, or the refusal, of the whole.
 
-ghost use Rattle.std.specs.Prelude.{◌≡◌, ◌<◌, length, IfOk, IfSome, Result, Some};
+ghost use Rattle.std.specs.Prelude.{◌≡◌, ◌<◌, false, length, IfOk, IfSome, Result, Some};
 ghost use Rattle.smt_lex.specs.Forms.{atom};
 ghost use Rattle.smt_lex.specs.Forest.{token_at};
 ghost use Rattle.smt_terms.specs.Term.{Term};
@@ -35,7 +35,7 @@ pub struct TermReader {
 }
 
 impl TermReader {
-    ghost use Rattle.script_read.specs.Waiting.{Going, GoingBack, Stepped, SomeGoing, SomeGoingBack, Keeps, left_of, left_behind};
+    ghost use Rattle.script_read.specs.Waiting.{Going, GoingBack, Stepped, SomeGoing, SomeGoingBack, Keeps, left_of, left_behind, is_call};
 
     /// Begins the form of token `i`.
     pub fn open(
@@ -115,7 +115,7 @@ impl TermReader {
         }
     }
 
-    // Goes on behind a form that was read as this term, for which this frame waits.
+    // Goes on behind a form that was read as this term, for which this frame waits, which is no application.
     fn resume(
         &mut self,
         table: &mut Table,
@@ -128,13 +128,14 @@ impl TermReader {
         requires read { IsRead forest.now }
         requires text { SparesText forest.now.tokens sofar.old.fresh }
         requires defined { IfSome self.old.defines (λ i. i < length forest.now.tokens) }
+        requires other { is_call frame ≡ false }
         requires going { SomeGoingBack forest.now.tokens table.old sofar.old self.old frame node behind }
         ensures steps { (r : Result (Term × Known) Refused) → GoingBack forest.now.tokens table.old sofar.old self.old frame node behind r → Stepped forest.now.tokens table.new sofar.new self.new r result }
         ensures less { IfOk result (λ next. left_of forest.now.tokens self.new next < left_behind forest.now.tokens self.old frame behind) }
         ensures keeps { Keeps table.old table.new sofar.old sofar.new self.old self.new }
     {
         match frame {
-            Frame::Operands(call) => self.resume_operands(table, forest, sofar, call, node, behind),
+            Frame::Operands(_) => unreachable!(),
             Frame::Binding(lets) => self.resume_binding(forest, lets, node),
             Frame::Body(body) => Ok(self.resume_body(forest, body, node)),
             Frame::Quantified(scoped) => self.resume_quantified(table, forest, &scoped, node),
@@ -164,10 +165,14 @@ impl TermReader {
             match next {
                 Next::Form(form) => next = self.open(table, forest, sofar, form)?,
                 Next::Term { node, behind } => {
-                    let Some(frame) = self.frames.pop() else {
-                        return Ok(node);
-                    };
-                    next = self.resume(table, forest, sofar, frame, node, behind)?;
+                    if self.awaits_operand() {
+                        next = self.resume_operands(table, forest, sofar, node, behind)?;
+                    } else {
+                        let Some(frame) = self.frames.pop() else {
+                            return Ok(node);
+                        };
+                        next = self.resume(table, forest, sofar, frame, node, behind)?;
+                    }
                 }
             }
         }

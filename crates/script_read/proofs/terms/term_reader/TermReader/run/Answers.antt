@@ -31,10 +31,25 @@ returns-in_default-clause-term c r going =
 pub returns-in_err-next-in-Term-clause-term : goal.returns-in_err-next-in-Term-clause-term
 returns-in_err-next-in-Term-clause-term c r going =
     let now = c.loop-next in
-    let waiting : TermReader = record { alloc = now.self.alloc; defines = now.self.defines; locals = now.self.locals; frames = c.pop.new.self } in
     let p = err_from_is_err_and c.from_residual-in_err-next-in-Term.result c.from_residual-in_err-next-in-Term.ensures.1 in
     rw (p.1, p.2)
     (c.in_err-next-in-Term.ensures.steps r
+    (subst (λ n. Going c.args.forest.now.tokens now.table now.sofar now.self n r) c.in-Term.is (now.invariant.steps r going)))
+
+pub loop-next-preserved-then-awaits_operand : goal.loop-next-preserved-then-awaits_operand
+loop-next-preserved-then-awaits_operand c =
+    let now = c.loop-next in
+    runs_on c.args.forest.now.tokens c.args.table.now c.args.sofar.now c.args.self.now c.args.i now.table now.sofar now.self now.next now.invariant
+    c.resume_operands.new.table c.resume_operands.new.sofar c.resume_operands.new.self c.in_ok-next-in-Term.next c.in_ok-next-in-Term.ensures.keeps
+    (λ r going. c.in_ok-next-in-Term.ensures.steps r (subst (λ n. Going c.args.forest.now.tokens now.table now.sofar now.self n r) c.in-Term.is going))
+
+pub returns-in_err-next-in-Term-2-clause-term : goal.returns-in_err-next-in-Term-2-clause-term
+returns-in_err-next-in-Term-2-clause-term c r going =
+    let now = c.loop-next in
+    let waiting : TermReader = record { alloc = now.self.alloc; defines = now.self.defines; locals = now.self.locals; frames = c.pop.new.self } in
+    let p = err_from_is_err_and c.from_residual-in_err-next-in-Term-2.result c.from_residual-in_err-next-in-Term-2.ensures.1 in
+    rw (p.1, p.2)
+    (c.in_err-next-in-Term-2.ensures.steps r
     (frame_waits c.args.forest.now.tokens now.table now.sofar now.self waiting c.in-Some.frame refl c.in-Some.ensures.items c.in-Term.node c.in-Term.behind r
     (subst (λ n. Going c.args.forest.now.tokens now.table now.sofar now.self n r) c.in-Term.is (now.invariant.steps r going))))
 
@@ -43,8 +58,8 @@ loop-next-preserved c =
     let now = c.loop-next in
     let waiting : TermReader = record { alloc = now.self.alloc; defines = now.self.defines; locals = now.self.locals; frames = c.pop.new.self } in
     runs_on c.args.forest.now.tokens c.args.table.now c.args.sofar.now c.args.self.now c.args.i now.table now.sofar now.self now.next now.invariant
-    c.resume.new.table c.resume.new.sofar c.resume.new.self c.in_ok-next-in-Term.next
-    (record { gains = c.in_ok-next-in-Term.ensures.keeps.gains; defines = c.in_ok-next-in-Term.ensures.keeps.defines })
-    (λ r going. c.in_ok-next-in-Term.ensures.steps r
+    c.resume.new.table c.resume.new.sofar c.resume.new.self c.in_ok-next-in-Term-2.next
+    (record { gains = c.in_ok-next-in-Term-2.ensures.keeps.gains; defines = c.in_ok-next-in-Term-2.ensures.keeps.defines })
+    (λ r going. c.in_ok-next-in-Term-2.ensures.steps r
     (frame_waits c.args.forest.now.tokens now.table now.sofar now.self waiting c.in-Some.frame refl c.in-Some.ensures.items c.in-Term.node c.in-Term.behind r
     (subst (λ n. Going c.args.forest.now.tokens now.table now.sofar now.self n r) c.in-Term.is going)))
