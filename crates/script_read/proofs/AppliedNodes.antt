@@ -1,12 +1,10 @@
 -- Nodes of applications, as the code makes them.
-use Rattle.std.proofs.Common.{◌≡◌, ℕ, suc, ◌<◌, inl, inr, Bool, true, false, cond, List, [], ◌∷◌, map, zip, length, get_or, All, Option, Some, None, Result, Ok, Err, refl, ap, sym, ◌∙◌, subst}
+use Rattle.std.proofs.Common.{◌≡◌, ℕ, suc, ◌<◌, Bool, true, false, cond, List, [], ◌∷◌, map, zip, length, get_or, All, Option, Some, None, Result, Ok, Err, refl, ap, sym, ◌∙◌, subst}
 use Rattle.std.specs.Prelude.{slice_get, unwrap_or, is_some, ◌&&◌, IfOk, IsTrue}
-use Rattle.std.proofs.lemmas.Bool.{cases_lt}
 use Rattle.std.proofs.lemmas.Option.{get_or_from_slice_get}
-use Rattle.std.proofs.lemmas.List.{length-map, get_or_past}
+use Rattle.std.proofs.lemmas.List.{length-map}
 use Rattle.std.proofs.lemmas.List.Elements.{All-head, All-tail, All-weaker, All-nil, All-cons}
-use Rattle.smt_lex.specs.Lex.{Token, name_of}
-use Rattle.smt_lex.specs.Forest.{token_at, no_token}
+use Rattle.smt_lex.specs.Lex.{Token}
 use Rattle.smt_terms.specs.declared.ids.NodeId.{NodeId}
 use Rattle.smt_terms.specs.declared.ids.SymId.{SymId}
 use Rattle.smt_terms.specs.declared.ids.SortId.{SortId}
@@ -21,7 +19,7 @@ use Rattle.smt_terms.specs.Sorts.{Sort, bool, Symbol, Variable}
 use Rattle.smt_terms.specs.Subst.{image, parameter, expand}
 use Rattle.smt_terms.specs.SubstLaws.{names_within, names_within_each, GivesNone, GivesNoNameIn}
 use Rattle.smt_terms.specs.Term.{symbol, const_array, Term, terms, over}
-use Rattle.smt_terms.specs.Written.{Written, operator_named, written_named, build}
+use Rattle.smt_terms.specs.Written.{Written, build}
 use Rattle.smt_terms.proofs.Ranked.{rank-takes}
 use Rattle.smt_terms.proofs.SubstNames.{subst-spares_names}
 use Rattle.smt_values.specs.SortIds.{sort_at}
@@ -38,7 +36,6 @@ use Rattle.sort_check.specs.Making.{FollowsRank, made_over}
 use Rattle.script_read.specs.declared.causes.Cause.{Cause}
 use Rattle.script_read.specs.declared.faults.ReadFault.{ReadFault}
 use Rattle.script_read.specs.ApplicationClauses.{cause_for, answer_of, ReadsWith, arguments_rank, MeetsFault}
-use Rattle.script_read.specs.Bound.{name_at}
 use Rattle.script_read.specs.Heads.{Callee as CalleeOf, defined, term_algebra, operand_sorts, where_ranked, parameters_from, rank_of_arguments, expanded, applied}
 use Rattle.script_read.specs.declared.sofar.Sofar.{Sofar as SofarSeen}
 use Rattle.script_read.specs.declared.terms.callees.Callee.TheVariants.{Defined}

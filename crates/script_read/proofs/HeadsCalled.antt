@@ -22,7 +22,7 @@ use Rattle.script_read.specs.declared.scopes.Entry.TheVariants.{Symbol as Symbol
 use Rattle.script_read.specs.declared.terms.callees.Callee.{Callee}
 use Rattle.script_read.specs.declared.terms.callees.Callee.TheVariants.{Written as WrittenCallee, ArrayOf, Called, Defined, Operandless}
 use Rattle.script_read.specs.declared.terms.indices.Indices.{Indices}
-use Rattle.script_read.specs.Bound.{LocalNames, ShowsLocals, innermost, name_at}
+use Rattle.script_read.specs.Bound.{LocalNames, ShowsLocals, innermost}
 use Rattle.script_read.specs.Heads.{Callee as CalleeOf, written, array_of_sort, called, defined, operandless, indices_within, written_at, constant_head, theory_head, live_head, named_head, indexed_head, filling_head, list_head, atom_head, callee_of, real_names}
 use Rattle.script_read.specs.HeadClauses.{AreIndices, beyond_in, is_constant_with, world_of, indexed_list}
 use Rattle.script_read.specs.declared.locals.Local.{Local}

@@ -1,5 +1,5 @@
 -- Terms under way: what waits for the term that is being read, from the innermost form out, and what the reading then gives.
-use Rattle.std.specs.Prelude.{◌≡◌, Bool, true, false, ℕ, suc, ◌+◌, ◌<◌, ◌≤◌, ◌^◌, List, [], ◌∷◌, ◌++◌, map, reverse, length, drop, get_or, All, IsTrue, Option, Some, option_map, Result, Ok, Err}
+use Rattle.std.specs.Prelude.{◌≡◌, Bool, true, false, ℕ, suc, ◌+◌, ◌<◌, ◌≤◌, List, [], ◌∷◌, ◌++◌, map, reverse, length, drop, get_or, All, IsTrue, Option, option_map, Result, Ok, Err}
 use Rattle.smallvec.specs.SmallVec.{SmallVec}
 use Rattle.smt_lex.specs.Lex.{Token}
 use Rattle.smt_lex.specs.Names.{Name, is_among}

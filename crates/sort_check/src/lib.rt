@@ -1,4 +1,4 @@
-//! Makes nodes of a table, by an operator or by the name of a written operator. A call tests the operands by the
+//! Makes nodes of a table, by an operator or by a written operator, which a name finds. A call tests the operands by the
 //! operator's rank: it makes a node exactly where there is one, and answers the first fault where there is none.
 //! Written operators are those of the SMT-LIB theories Core, Ints, FixedSizeBitVectors and ArraysEx and of the logic
 //! QF_BV; chains, associative operators and those with no node of their own become the nodes that they stand for.

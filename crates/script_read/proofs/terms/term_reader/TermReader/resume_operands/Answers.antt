@@ -1,6 +1,6 @@
 use Rattle.std.proofs.Common.{refl}
 use Rattle.std.proofs.lemmas.Result.{err_from_is_err_and}
-use Rattle.script_read.proofs.StepsOfCalls.{last_call, come, waits, next_operand, taken_shows, taken_spared, application_refused, application_made}
+use Rattle.script_read.proofs.StepsOfCalls.{last_call, come, next_operand, taken_shows, taken_spared, application_refused, application_made}
 use Rattle.script_read.proofs.terms.term_reader.TermReader.resume_operands.Goals as goal
 
 pub add_operand-requires : goal.add_operand-requires
