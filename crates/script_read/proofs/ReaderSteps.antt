@@ -12,7 +12,6 @@ use Rattle.smt_terms.specs.Term.{Term}
 use Rattle.term_table.specs.Formulas.{Formulas}
 use Rattle.term_walk.specs.Walking.{GrowsTo}
 use Rattle.script_read.specs.declared.scripts.Command.{Command}
-use Rattle.script_read.specs.declared.scripts.Command.TheVariants.{Passed, DeclareSort, Declare, Assert, Check, CheckAssuming, Push, Pop, Reset, ResetAssertions, Globals, Exit}
 use Rattle.script_read.specs.declared.session.Session.{Session}
 use Rattle.script_read.specs.declared.scripts.Script.{Script}
 use Rattle.script_read.specs.declared.faults.Refusal.{Refusal as RefusalOf}
@@ -20,8 +19,8 @@ use Rattle.script_read.specs.declared.faults.ReadFault.{ReadFault}
 use Rattle.script_read.specs.declared.faults.ReadFault.TheVariants.{Refused as RefusedFor, Memory}
 use Rattle.script_read.specs.declared.faults.ScriptFault.{ScriptFault}
 use Rattle.script_read.specs.declared.faults.ScriptFault.TheVariants.{Refused as RefusedScript, Memory as Unread}
-use Rattle.script_read.specs.CommandLists.{free_name, command_of, commands_of, IsCommandOf, AreCommandsOf, IsRefusal, ReadsScript}
-use Rattle.script_read.specs.Commands.{Command as CommandOf, declare_sort, declare, assert, check_assuming}
+use Rattle.script_read.specs.CommandLists.{command_of, commands_of, IsCommandOf, AreCommandsOf, IsRefusal, ReadsScript}
+use Rattle.script_read.specs.Commands.{Command as CommandOf}
 use Rattle.script_read.specs.Known.{nothing_known}
 use Rattle.script_read.specs.Places.{IsRead, forms_from}
 use Rattle.script_read.specs.Refusals.{Refused, and_then, mapped, Unaccepted, refused as refused_text}
@@ -30,7 +29,7 @@ use Rattle.script_read.specs.Script.{Standing, Step, read_command, Numbered, num
 use Rattle.script_read.specs.ScriptSteps.{IsScriptFault, ReadsCommands}
 use Rattle.script_read.specs.Steps.{StandsAt, Steps}
 use Rattle.script_read.proofs.CommandsStay.{command_within, command_stays}
-use Rattle.script_read.proofs.Grown.{node_stays, tree_stays, nodes_stay, trees_stay, symbol_within, symbol_stays, sort_within, sort_stays, same_map}
+use Rattle.script_read.proofs.Grown.{same_map}
 use Rattle.script_read.proofs.Showing.{shows_nothing}
 
 -- ---- commands that were read

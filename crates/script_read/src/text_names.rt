@@ -7,8 +7,7 @@ ghost use Rattle.smt_lex.specs.Forest.{token_at};
 ghost use Rattle.script_read.specs.Places.{forms_from};
 ghost use Rattle.script_read.specs.Script.{names_with_all};
 
-use crate::names::is_reserved;
-use smt_lex::{Forest, Item};
+use smt_lex::{Forest, Item, is_reserved};
 use std::alloc::{AllocError, Global};
 use term_subst::NameSet;
 
