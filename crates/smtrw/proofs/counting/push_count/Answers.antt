@@ -1,6 +1,6 @@
 use Rattle.std.proofs.Common.{◌≡◌, ◌∙◌, List, ℕ, [], ◌∷◌, ◌++◌, ap, append_assoc, arith}
 use Rattle.smt_terms.specs.Numeral.{numeral}
-use Rattle.smtrw_answers.proofs.Numerals.{decimal-numeral}
+use Rattle.smt_terms.proofs.DecimalTexts.{decimal-numeral}
 use Rattle.smtrw_answers.specs.Outputs.{count_line}
 use Rattle.smtrw.proofs.counting.push_count.Goals as goal
 
