@@ -1,31 +1,85 @@
--- Words that don't begin like a reserved one aren't reserved.
-use Rattle.std.proofs.Common.{◌≡◌, inl, inr, refl, sym, subst, ◌∙◌, Bool, true, false, true≢false, List, [], ◌∷◌}
-use Rattle.std.specs.Prelude.{◌||◌, bytes_eq}
+-- Reserved words by their first bytes.
+use Rattle.std.proofs.Common.{◌≡◌, ℕ, ◌<◌, arith, inl, inr, nat_eq, true, false, true≢false, List, [], ◌∷◌, ◌++◌, length, filter, get_or, refl, ap, sym, ◌∙◌, subst}
+use Rattle.std.specs.Prelude.{bytes_eq, codes}
+use Rattle.std.specs.List.{list_all, list_any}
+use Rattle.std.proofs.lemmas.List.Folds.{list_any-append}
+use Rattle.std.proofs.lemmas.Bool.Decides.{Decides-eqb}
 use Rattle.std.proofs.lemmas.Slice.Eq.{bytes_eq-Decides}
-use Rattle.std.specs.List.{list_all}
-use Rattle.smt_lex.specs.Names.{Name, is_among, is_reserved, is_syntax_word, is_command_word, syntax_words, command_words}
-use Rattle.smt_lex.specs.ReservedWords.{begins_like_reserved}
+use Rattle.smt_lex.specs.Names.{Name, is_among, is_syntax_word, is_command_word, syntax_words, command_words}
 use Rattle.smt_lex.proofs.Choices.{tell, and_left, and_right}
 
-none_among : (names : List Name) (w : Name) → list_all begins_like_reserved names ≡ true → begins_like_reserved w ≡ false → is_among names w ≡ false
-none_among [] w all begins = refl
-none_among (n ∷ ns) w all begins = elim (tell (bytes_eq w n)) [
-  | inl same ↦
-      let first : begins_like_reserved n ≡ true = and_left (begins_like_reserved n) (list_all begins_like_reserved ns) all in
-      let is : begins_like_reserved w ≡ true = subst (λ (v : Name). begins_like_reserved v ≡ true) (sym ((bytes_eq-Decides w n).0 same)) first in
-      absurd (true≢false (sym is ∙ begins))
-  | inr differs ↦ rw differs (none_among ns w (and_right (begins_like_reserved n) (list_all begins_like_reserved ns) all) begins)
+abbrev pub first_byte : Name → ℕ
+first_byte w = get_or w 0 0
+
+-- the words that begin with a byte
+abbrev pub beginning : ℕ → List Name → List Name
+beginning k words = filter (λ other. nat_eq (first_byte other) k) words
+
+same_first : (w other : Name) → bytes_eq w other ≡ true → nat_eq (first_byte other) (first_byte w) ≡ true
+same_first w other same = subst (λ (o : Name). nat_eq (first_byte o) (first_byte w) ≡ true) ((bytes_eq-Decides w other).0 same) ((Decides-eqb (first_byte w) (first_byte w)).1 refl)
+
+among_beginning : (words : List Name) (w : Name) → is_among (beginning (first_byte w) words) w ≡ is_among words w
+among_beginning [] w = refl
+among_beginning (other ∷ words) w = elim (tell (bytes_eq w other)) [
+  | inl same ↦ rw (same_first w other same, same) refl
+  | inr apart ↦ elim (tell (nat_eq (first_byte other) (first_byte w))) [
+    | inl is ↦ rw (is, apart) (among_beginning words w)
+    | inr differs ↦ rw (differs, apart) (among_beginning words w)
+  ]
 ]
 
-syntax_begins : list_all begins_like_reserved syntax_words ≡ true
-syntax_begins = refl
+none_among : (firsts : List ℕ) (words : List Name) (w : Name) → list_all (λ other. list_any (nat_eq (first_byte other)) firsts) words ≡ true → list_any (nat_eq (first_byte w)) firsts ≡ false → is_among words w ≡ false
+none_among firsts [] w all lacks = refl
+none_among firsts (other ∷ words) w all lacks = elim (tell (bytes_eq w other)) [
+  | inl same ↦
+      let first : list_any (nat_eq (first_byte other)) firsts ≡ true = and_left _ (list_all (λ o. list_any (nat_eq (first_byte o)) firsts) words) all in
+      let is : list_any (nat_eq (first_byte w)) firsts ≡ true = subst (λ (o : Name). list_any (nat_eq (first_byte o)) firsts ≡ true) (sym ((bytes_eq-Decides w other).0 same)) first in
+      absurd (true≢false (sym is ∙ lacks))
+  | inr apart ↦ rw apart (none_among firsts words w (and_right (list_any (nat_eq (first_byte other)) firsts) _ all) lacks)
+]
 
-commands_begin : list_all begins_like_reserved command_words ≡ true
-commands_begin = refl
+pub syntax_beginning : (w : Name) (k : ℕ) → first_byte w ≡ k → is_among (beginning k syntax_words) w ≡ is_syntax_word w
+unfolding is_syntax_word
+syntax_beginning w k is = ap (λ j. is_among (beginning j syntax_words) w) (sym is) ∙ among_beginning syntax_words w
 
-neither : (a b : Bool) → a ≡ false → b ≡ false → (a || b) ≡ false
-neither a b no_a no_b = rw (no_a, no_b) refl
+pub command_beginning : (w : Name) (k : ℕ) → first_byte w ≡ k → is_among (beginning k command_words) w ≡ is_command_word w
+unfolding is_command_word
+command_beginning w k is = ap (λ j. is_among (beginning j command_words) w) (sym is) ∙ among_beginning command_words w
 
-pub not_reserved : (w : Name) → begins_like_reserved w ≡ false → is_reserved w ≡ false
-unfolding is_syntax_word is_command_word
-not_reserved w begins = neither (is_syntax_word w) (is_command_word w) (none_among syntax_words w syntax_begins begins) (none_among command_words w commands_begin begins)
+-- a word that alone begins so
+pub alone : (w : Name) {text other : Name} → text ≡ other → bytes_eq w text ≡ is_among (other ∷ []) w
+alone w {text} {other} same = ap (bytes_eq w) same ∙ elim (tell (bytes_eq w other)) [
+  | inl is ↦ rw is refl
+  | inr apart ↦ rw apart refl
+]
+
+-- ---- words that begin like none
+
+abbrev pub marks_and_capitals : List ℕ
+marks_and_capitals = codes "!BDHNS_"
+
+abbrev pub small_letters : List ℕ
+small_letters = codes "aeflmp"
+
+abbrev pub command_letters : List ℕ
+command_letters = codes "acdegprs"
+
+neither : (b : ℕ) (firsts others : List ℕ) → list_any (nat_eq b) firsts ≡ false → list_any (nat_eq b) others ≡ false → list_any (nat_eq b) (firsts ++ others) ≡ false
+neither b firsts others here there = list_any-append (nat_eq b) firsts others ∙ rw (here, there) refl
+
+pub no_syntax_word : (w : Name) → list_any (nat_eq (first_byte w)) marks_and_capitals ≡ false → list_any (nat_eq (first_byte w)) small_letters ≡ false → false ≡ is_syntax_word w
+unfolding is_syntax_word
+no_syntax_word w mark letter =
+    sym (none_among (marks_and_capitals ++ small_letters) syntax_words w refl (neither (first_byte w) marks_and_capitals small_letters mark letter))
+
+pub no_command_word : (w : Name) → list_any (nat_eq (first_byte w)) command_letters ≡ false → false ≡ is_command_word w
+unfolding is_command_word
+no_command_word w lacks = sym (none_among command_letters command_words w refl lacks)
+
+pub empty_syntax : (w : Name) → length w < 1 → false ≡ is_syntax_word w
+empty_syntax [] below = no_syntax_word [] refl refl
+empty_syntax (b ∷ w) below = absurd (omega (arith, below))
+
+pub empty_command : (w : Name) → length w < 1 → false ≡ is_command_word w
+empty_command [] below = no_command_word [] refl
+empty_command (b ∷ w) below = absurd (omega (arith, below))

@@ -5,4 +5,3 @@ pub mod Forms
 pub mod FormText
 pub mod Forest
 pub mod Building
-pub mod ReservedWords

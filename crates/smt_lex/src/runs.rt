@@ -1,8 +1,8 @@
 // Which token a run is.
 
-ghost use Rattle.std.specs.Prelude.{◌≡◌, IfSome};
+ghost use Rattle.std.specs.Prelude.{◌≡◌, IfSome, slice_index_or, true};
 ghost use Rattle.std.specs.Char.{is_ascii_digit, is_ascii_hexdigit};
-ghost use Rattle.smt_lex.specs.Lexicon.{is_word, is_numeral, is_keyword, is_decimal, is_hexadecimal, is_binary, is_some_of, is_symbol_byte, is_binary_digit, starts_as, run_item};
+ghost use Rattle.smt_lex.specs.Lexicon.{hash, is_word, is_numeral, is_keyword, is_decimal, is_hexadecimal, is_binary, is_some_of, is_symbol_byte, is_binary_digit, starts_as, run_item};
 ghost use Rattle.smt_lex.specs.Building.{IsAtom};
 
 use crate::classes::{digits_length, is_symbol_byte};
@@ -13,20 +13,38 @@ pub(crate) fn run_item(run: &[u8]) -> Option<Item>
     ensures item { result ≡ run_item run.now }
     ensures atom { IfSome result IsAtom }
 {
-    if is_word(run) {
-        Some(Item::Word)
-    } else if is_numeral(run) {
-        Some(Item::Numeral)
-    } else if is_keyword(run) {
-        Some(Item::Keyword)
-    } else if is_decimal(run) {
-        Some(Item::Decimal)
-    } else if is_hexadecimal(run) {
+    let [first, ..] = run else { return None };
+    match *first {
+        b'#' => hash_item(run),
+        b':' => is_keyword(run).then_some(Item::Keyword),
+        b'0'..=b'9' => number_item(run),
+        _ => is_word(run).then_some(Item::Word),
+    }
+}
+
+// The token that the run is, which begins with a `#`.
+fn hash_item(run: &[u8]) -> Option<Item>
+    requires { slice_index_or run.now 0 0 ≡ hash }
+    ensures item { result ≡ run_item run.now }
+    ensures atom { IfSome result IsAtom }
+{
+    if is_hexadecimal(run) {
         Some(Item::Hex)
-    } else if is_binary(run) {
-        Some(Item::Bin)
     } else {
-        None
+        is_binary(run).then_some(Item::Bin)
+    }
+}
+
+// The token that the run is, which begins with a digit.
+fn number_item(run: &[u8]) -> Option<Item>
+    requires { starts_as is_ascii_digit run.now ≡ true }
+    ensures item { result ≡ run_item run.now }
+    ensures atom { IfSome result IsAtom }
+{
+    if is_numeral(run) {
+        Some(Item::Numeral)
+    } else {
+        is_decimal(run).then_some(Item::Decimal)
     }
 }
 

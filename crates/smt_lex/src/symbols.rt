@@ -3,32 +3,15 @@
 ghost use Rattle.std.specs.Prelude.{◌≡◌, [], ◌∷◌, ◌++◌, map, IfOk, OnOk, OnErr};
 ghost use Rattle.smt_lex.specs.Lexicon.{bar};
 ghost use Rattle.smt_lex.specs.Names.{is_among, is_syntax_word, is_command_word, is_reserved, is_simple, IsName, printed_symbol};
-ghost use Rattle.smt_lex.specs.ReservedWords.{is_reserved_start, begins_like_reserved};
 ghost use Rattle.smt_lex.specs.Lex.{IsOneSymbol};
 
 use crate::runs::is_word;
 use std::alloc::{AllocError, Global};
 
-const SYNTAX_WORDS: [&[u8]; 13] = [
-    b"BINARY",
-    b"DECIMAL",
-    b"HEXADECIMAL",
-    b"NUMERAL",
-    b"STRING",
-    b"_",
-    b"!",
-    b"as",
-    b"exists",
-    b"forall",
-    b"let",
-    b"match",
-    b"par",
-];
+// The commands that begin with each letter, where there are several.
+static COMMANDS_WITH_C: [&[u8]; 2] = [b"check-sat", b"check-sat-assuming"];
 
-const COMMAND_WORDS: [&[u8]; 30] = [
-    b"assert",
-    b"check-sat",
-    b"check-sat-assuming",
+static COMMANDS_WITH_D: [&[u8]; 9] = [
     b"declare-const",
     b"declare-datatype",
     b"declare-datatypes",
@@ -38,8 +21,11 @@ const COMMAND_WORDS: [&[u8]; 30] = [
     b"define-fun-rec",
     b"define-funs-rec",
     b"define-sort",
-    b"echo",
-    b"exit",
+];
+
+static COMMANDS_WITH_E: [&[u8]; 2] = [b"echo", b"exit"];
+
+static COMMANDS_WITH_G: [&[u8]; 9] = [
     b"get-assertions",
     b"get-assignment",
     b"get-info",
@@ -49,14 +35,13 @@ const COMMAND_WORDS: [&[u8]; 30] = [
     b"get-unsat-assumptions",
     b"get-unsat-core",
     b"get-value",
-    b"pop",
-    b"push",
-    b"reset",
-    b"reset-assertions",
-    b"set-info",
-    b"set-logic",
-    b"set-option",
 ];
+
+static COMMANDS_WITH_P: [&[u8]; 2] = [b"pop", b"push"];
+
+static COMMANDS_WITH_R: [&[u8]; 2] = [b"reset", b"reset-assertions"];
+
+static COMMANDS_WITH_S: [&[u8]; 3] = [b"set-info", b"set-logic", b"set-option"];
 
 // Whether the name is a symbol without bars.
 fn is_simple(name: &[u8]) -> bool
@@ -69,57 +54,48 @@ fn is_simple(name: &[u8]) -> bool
 pub fn is_reserved(word: &[u8]) -> bool
     ensures { result ≡ is_reserved word.now }
 {
-    begins_like_reserved(word) && (is_syntax_word(word) || is_command_word(word))
+    is_syntax_word(word) || is_command_word(word)
 }
 
-// Whether a reserved word begins like this one: most symbols of a script don't, and need no look at the lists.
-fn begins_like_reserved(word: &[u8]) -> bool
-    ensures { result ≡ begins_like_reserved word.now }
-{
-    match word {
-        [first, ..] => is_reserved_start(*first),
-        [] => false,
-    }
-}
-
-// Whether a reserved word begins with the byte.
-fn is_reserved_start(byte: u8) -> bool
-    ensures { result ≡ is_reserved_start byte }
-{
-    matches!(
-        byte,
-        b'!' | b'_'
-            | b'B'
-            | b'D'
-            | b'H'
-            | b'N'
-            | b'S'
-            | b'a'
-            | b'c'
-            | b'd'
-            | b'e'
-            | b'f'
-            | b'g'
-            | b'l'
-            | b'm'
-            | b'p'
-            | b'r'
-            | b's'
-    )
-}
-
-// Whether the word belongs to the syntax.
+// Whether the word belongs to the syntax: no two of its words begin alike.
 fn is_syntax_word(word: &[u8]) -> bool
     ensures { result ≡ is_syntax_word word.now }
 {
-    is_among(&SYNTAX_WORDS, word)
+    let [first, ..] = word else { return false };
+    match *first {
+        b'!' => word == b"!".as_slice(),
+        b'B' => word == b"BINARY".as_slice(),
+        b'D' => word == b"DECIMAL".as_slice(),
+        b'H' => word == b"HEXADECIMAL".as_slice(),
+        b'N' => word == b"NUMERAL".as_slice(),
+        b'S' => word == b"STRING".as_slice(),
+        b'_' => word == b"_".as_slice(),
+        b'a' => word == b"as".as_slice(),
+        b'e' => word == b"exists".as_slice(),
+        b'f' => word == b"forall".as_slice(),
+        b'l' => word == b"let".as_slice(),
+        b'm' => word == b"match".as_slice(),
+        b'p' => word == b"par".as_slice(),
+        _ => false,
+    }
 }
 
 /// Whether the word names a command.
 pub fn is_command_word(word: &[u8]) -> bool
     ensures { result ≡ is_command_word word.now }
 {
-    is_among(&COMMAND_WORDS, word)
+    let [first, ..] = word else { return false };
+    match *first {
+        b'a' => word == b"assert".as_slice(),
+        b'c' => is_among(&COMMANDS_WITH_C, word),
+        b'd' => is_among(&COMMANDS_WITH_D, word),
+        b'e' => is_among(&COMMANDS_WITH_E, word),
+        b'g' => is_among(&COMMANDS_WITH_G, word),
+        b'p' => is_among(&COMMANDS_WITH_P, word),
+        b'r' => is_among(&COMMANDS_WITH_R, word),
+        b's' => is_among(&COMMANDS_WITH_S, word),
+        _ => false,
+    }
 }
 
 // Whether it is one of the words.
