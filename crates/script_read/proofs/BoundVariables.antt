@@ -26,8 +26,8 @@ use Rattle.script_read.specs.Variables.{quantifier_binder, may_have, variables_i
 use Rattle.script_read.specs.Reading.{ReadLocal, quantified_as}
 use Rattle.script_read.specs.Read.{is_empty, name_drawn_if, constant_names, renamed, with_quantified}
 use Rattle.script_read.specs.Script.{names_with_all}
-use Rattle.script_read.specs.Known.{Scoping, Scoped, find, sorts_known, IsScopedSort, AreScopedSorts}
-use Rattle.script_read.specs.Bound.{LocalNames, quantified_meant, locals_shown, IsConstant, IsLocal, ShowsLocals, name_at, variable_seen, variables_seen, symbols_seen, variable_for, variables_of, entered}
+use Rattle.script_read.specs.Known.{Scoping, Scoped, find, sorts_known, IsScopedSort, AreScopedSorts, IsConstant}
+use Rattle.script_read.specs.Bound.{LocalNames, quantified_meant, locals_shown, IsLocal, ShowsLocals, name_at, variable_seen, variables_seen, symbols_seen, variable_for, variables_of, entered}
 use Rattle.script_read.specs.BinderClauses.{IsSortedName, AreSortedNames}
 use Rattle.script_read.specs.Places.{SparesText}
 use Rattle.script_read.proofs.NameFacts.{name_itself, spared_first, spared_none, all_within_text}

@@ -20,9 +20,9 @@ use Rattle.script_read.specs.declared.locals.Constant.{Constant}
 use Rattle.script_read.specs.declared.locals.Local.TheVariants.{Parameter}
 use Rattle.script_read.specs.declared.session.Session.{Session}
 use Rattle.script_read.specs.BinderClauses.{IsSortedName, AreSortedNames}
-use Rattle.script_read.specs.Bound.{LocalNames, LocalMeant, parameter_meant, local_meant, locals_shown, IsConstant, IsLocal, ShowsLocals, name_at, variable_seen, variables_seen, symbols_seen}
+use Rattle.script_read.specs.Bound.{LocalNames, LocalMeant, parameter_meant, local_meant, locals_shown, IsLocal, ShowsLocals, name_at, variable_seen, variables_seen, symbols_seen}
 use Rattle.script_read.specs.Heads.{parameters_from}
-use Rattle.script_read.specs.Known.{Scoping, find, with_definition, Shows, IsSpared, IsDefinition, Gives, parameter_sorts, parameters_of}
+use Rattle.script_read.specs.Known.{Scoping, find, with_definition, Shows, IsSpared, IsDefinition, Gives, parameter_sorts, parameters_of, IsConstant}
 use Rattle.script_read.specs.Outlines.{At}
 use Rattle.script_read.specs.Parts.{place_of}
 use Rattle.script_read.specs.Read.{Context, has_sort, read}

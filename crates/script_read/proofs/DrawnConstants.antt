@@ -29,12 +29,12 @@ use Rattle.script_read.specs.BinderSteps.{drawn_if, drawn_for, symbol_first, all
 use Rattle.term_walk.specs.Walking.{GrowsTo}
 use Rattle.script_read.specs.declared.binders.SortedName.{SortedName}
 use Rattle.script_read.specs.declared.locals.Constant.{Constant}
-use Rattle.script_read.specs.Bound.{IsConstant, symbols_seen, name_at, variable_seen, variables_seen}
-use Rattle.script_read.specs.Known.{parameters_of}
+use Rattle.script_read.specs.Bound.{symbols_seen, name_at, variable_seen, variables_seen}
+use Rattle.script_read.specs.Known.{parameters_of, IsConstant}
 use Rattle.script_read.specs.Places.{SparesText}
 use Rattle.script_read.specs.Read.{name_drawn_if, constant_names, renamed}
 use Rattle.script_read.proofs.Grown.{never_later, same_map, symbol_stays}
-use Rattle.script_read.proofs.ShowingLocals.{constant_stays}
+use Rattle.script_read.proofs.Showing.{constant_stays}
 
 -- ---- nodes
 

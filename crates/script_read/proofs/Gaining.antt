@@ -18,14 +18,14 @@ use Rattle.script_read.specs.declared.terms.frames.Frame.TheVariants.{Operands, 
 use Rattle.script_read.specs.Reading.{lets_as, ◌>>=◌}
 use Rattle.script_read.specs.Heads.{Callee as CalleeOf, array_of_sort, called, defined, applied}
 use Rattle.script_read.specs.Read.{Context, read, read_all, read_bindings, with_local, quantified_over}
-use Rattle.script_read.specs.Known.{IsDefinition, IsSpared, AreSpared, no_definition, parameter_sorts}
-use Rattle.script_read.specs.Bound.{LocalNames, IsConstant, variable_for, variables_of, name_at}
+use Rattle.script_read.specs.Known.{IsDefinition, IsSpared, AreSpared, no_definition, parameter_sorts, IsConstant}
+use Rattle.script_read.specs.Bound.{LocalNames, variable_for, variables_of, name_at}
 use Rattle.script_read.specs.Waiting.{World, Gains, ShowsCallee, Stands, Waits, AllWait, Later, list_of, bound_by, name_with_term, names_with_terms, reversed_names}
 use Rattle.script_read.specs.Quantifiers.{quantifier_of}
 use Rattle.script_read.specs.Places.{forms_from, form_from}
 use Rattle.script_read.proofs.Grown.{tree_stays, trees_stay, symbol_within, symbol_stays, sort_within, sort_stays, never_later, same_map}
-use Rattle.script_read.proofs.Showing.{spared_stays}
-use Rattle.script_read.proofs.ShowingLocals.{constant_stays, locals_stay}
+use Rattle.script_read.proofs.Showing.{spared_stays, constant_stays}
+use Rattle.script_read.proofs.ShowingLocals.{locals_stay}
 
 module _ (ts : List Token) (defines : Option Name) (v w : World) (gains : Gains v w) where
   pub nodes_spared : (ks : List NodeId) → AreSpared v.table v.supply ks → AreSpared w.table w.supply ks

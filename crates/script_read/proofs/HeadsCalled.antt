@@ -18,7 +18,7 @@ use Rattle.script_read.specs.declared.causes.Cause.TheVariants.{BadForm, Unknown
 use Rattle.script_read.specs.declared.faults.ReadFault.{ReadFault}
 use Rattle.script_read.specs.declared.faults.ReadFault.TheVariants.{Refused as RefusedFor, Memory}
 use Rattle.script_read.specs.declared.scopes.Entry.{Entry}
-use Rattle.script_read.specs.declared.scopes.Entry.TheVariants.{Symbol as SymbolEntry, Definition as DefinitionEntry, Term as TermEntry}
+use Rattle.script_read.specs.declared.scopes.Entry.TheVariants.{Symbol as SymbolEntry, Constant as ConstantEntry, Definition as DefinitionEntry, Term as TermEntry}
 use Rattle.script_read.specs.declared.terms.callees.Callee.{Callee}
 use Rattle.script_read.specs.declared.terms.callees.Callee.TheVariants.{Written as WrittenCallee, ArrayOf, Called, Defined, Operandless}
 use Rattle.script_read.specs.declared.terms.indices.Indices.{Indices}
@@ -134,6 +134,7 @@ module _ (ts : List Token) (t : Formulas) (supply : Supply) (s : Scoping) (live 
 
   abbrev callee_for : Entry → Callee
   callee_for (SymbolEntry f) = Called f
+  callee_for (ConstantEntry c) = Called c.symbol
   callee_for (DefinitionEntry k) = Defined k
   callee_for (TermEntry k) = Operandless
 
@@ -141,9 +142,14 @@ module _ (ts : List Token) (t : Formulas) (supply : Supply) (s : Scoping) (live 
   entry_called e None same is = absurd cc
   entry_called (SymbolEntry f) (Some (symbol_entry g)) same is =
       let symbol : g ≡ symbol_at t f = cc in
-      (called g, (is.0, ap called symbol, subst (NeverGives supply) (sym is.1) is.2), refl)
+      (called g, (is.symbol, ap called symbol, subst (NeverGives supply) (sym is.name) is.spared), refl)
   entry_called (SymbolEntry f) (Some (definition_entry xs u)) same is = absurd cc
   entry_called (SymbolEntry f) (Some (term_entry u)) same is = absurd cc
+  entry_called (ConstantEntry c) (Some (symbol_entry g)) same is =
+      let symbol : g ≡ symbol_at t c.symbol = cc in
+      (called g, (is.constant.symbol, ap called symbol, is.constant.spared), refl)
+  entry_called (ConstantEntry c) (Some (definition_entry xs u)) same is = absurd cc
+  entry_called (ConstantEntry c) (Some (term_entry u)) same is = absurd cc
   entry_called (DefinitionEntry k) (Some (symbol_entry g)) same is = absurd cc
   entry_called (DefinitionEntry k) (Some (definition_entry xs u)) same is =
       let sorts : map (λ (x : Variable). x.sort) xs ≡ parameter_sorts t (get_or s.definitions k no_definition) = cc in

@@ -1,28 +1,29 @@
 -- Literals of `check-sat-assuming`, as a scope and a table have them.
-use Rattle.std.proofs.Common.{◌≡◌, Bool, true, false, cond, List, [], ◌∷◌, ◌++◌, All, Option, Some, None, option_map, Result, Ok, Err, append_assoc, append-nil, refl, ap, sym, ◌∙◌, subst}
+use Rattle.std.proofs.Common.{◌≡◌, ◌≢◌, Bool, true, false, cond, List, [], ◌∷◌, ◌++◌, All, Option, Some, None, option_map, Result, Ok, Err, append_assoc, append-nil, refl, ap, sym, ◌∙◌, subst}
 use Rattle.std.specs.Prelude.{codes}
 use Rattle.std.proofs.lemmas.List.Elements.{All-head, All-tail, All-push}
 use Rattle.std.proofs.lemmas.List.{map-append}
 use Rattle.smt_lex.specs.Forms.{Form, atom, node, Forms, none, ◌⨾◌}
 use Rattle.smt_lex.specs.Names.{Name}
 use Rattle.smt_terms.specs.declared.ids.NodeId.{NodeId}
-use Rattle.smt_terms.specs.declared.ids.SymId.{SymId}
 use Rattle.smt_terms.specs.Connectives.{negated}
 use Rattle.smt_terms.specs.Equal.{name_eq}
 use Rattle.smt_terms.specs.Fresh.{Supply}
+use Rattle.smt_terms.specs.Sorts.{Sort, Symbol}
 use Rattle.smt_terms.specs.Term.{Term}
 use Rattle.term_table.specs.Formulas.{Formulas, symbol_at, tree, trees_at, IsNode, AreNodes, IsSymbol}
 use Rattle.term_table.specs.declared.lists.Nodes.{Nodes}
 use Rattle.term_walk.specs.Walking.{GrowsTo}
 use Rattle.term_subst.specs.declared.maps.Definition.{Definition}
 use Rattle.script_read.specs.declared.causes.Cause.TheVariants.{BadForm}
+use Rattle.script_read.specs.declared.locals.Constant.{Constant}
 use Rattle.script_read.specs.declared.scopes.Entry.{Entry}
-use Rattle.script_read.specs.declared.scopes.Entry.TheVariants.{Symbol as SymbolEntry, Definition as DefinitionEntry, Term as TermEntry}
+use Rattle.script_read.specs.declared.scopes.Entry.TheVariants.{Symbol as SymbolEntry, Constant as ConstantEntry, Definition as DefinitionEntry, Term as TermEntry}
 use Rattle.script_read.specs.declared.scripts.Command.TheVariants.{CheckAssuming}
 use Rattle.script_read.specs.declared.session.Session.{Session}
 use Rattle.script_read.specs.Commands.{check_assuming}
-use Rattle.script_read.specs.Known.{Scoped, Scoping, find, meant_by, IsEntry, IsScopedEntry, Shows}
-use Rattle.script_read.specs.LiteralClauses.{symbol_of_entry}
+use Rattle.script_read.specs.Known.{Scoped, Scoping, find, meant_by, IsConstant, IsEntry, IsScopedEntry, Shows}
+use Rattle.script_read.specs.LiteralClauses.{constant_of_entry}
 use Rattle.script_read.specs.Parts.{place_of, symbol_in, is_name}
 use Rattle.script_read.specs.Places.{pair_in}
 use Rattle.script_read.specs.Reading.{ReadBinding, Entry as LiveEntry, symbol_entry, definition_entry, term_entry, entry_of}
@@ -50,43 +51,57 @@ module _ (t : Formulas) (supply : Supply) (ds : List Definition) (n : Name) (e :
 
 -- ---- constants that are declared
 
-symbol_is : (o : Option Entry) (f : SymId) → symbol_of_entry o ≡ Some f → o ≡ Some (SymbolEntry f)
-symbol_is None f h = absurd (cc)
-symbol_is (Some (SymbolEntry g)) f h = (λ i. Some (SymbolEntry (same i)))
+constant_is : (o : Option Entry) (c : Constant) → constant_of_entry o ≡ Some c → o ≡ Some (ConstantEntry c)
+constant_is None c h = absurd (cc)
+constant_is (Some (SymbolEntry f)) c h = absurd (cc)
+constant_is (Some (ConstantEntry d)) c h = (λ i. Some (ConstantEntry (same i)))
   where
-    same : g ≡ f
+    same : d ≡ c
     same = cc
-symbol_is (Some (DefinitionEntry k)) f h = absurd (cc)
-symbol_is (Some (TermEntry k)) f h = absurd (cc)
+constant_is (Some (DefinitionEntry k)) c h = absurd (cc)
+constant_is (Some (TermEntry k)) c h = absurd (cc)
 
-module _ (t : Formulas) (ds : List Definition) where
-  no_constant : (o : Option Entry) (e : Option LiveEntry) → option_map (meant_by t ds) o ≡ option_map entry_meant e → symbol_of_entry o ≡ None → constant_entry e ≡ None
-  no_constant o None same nothing = refl
-  no_constant o (Some (definition_entry xs u)) same nothing = refl
-  no_constant o (Some (term_entry u)) same nothing = refl
-  no_constant None (Some (symbol_entry g)) same nothing = absurd (cc)
-  no_constant (Some (SymbolEntry f)) (Some (symbol_entry g)) same nothing = absurd (cc)
-  no_constant (Some (DefinitionEntry k)) (Some (symbol_entry g)) same nothing = absurd (cc)
-  no_constant (Some (TermEntry k)) (Some (symbol_entry g)) same nothing = absurd (cc)
+takes_arguments : (f : Symbol) (ss : List Sort) → ss ≢ [] → boolean_constant f ss ≡ None
+takes_arguments f [] some = absurd (some refl)
+takes_arguments f (s ∷ ss) some = refl
 
-  a_constant : (f : SymId) (e : Option LiveEntry) → option_map (meant_by t ds) (Some (SymbolEntry f)) ≡ option_map entry_meant e → constant_entry e ≡ boolean_constant (symbol_at t f) (symbol_at t f).args
-  a_constant f None same = absurd (cc)
-  a_constant f (Some (definition_entry xs u)) same = absurd (cc)
-  a_constant f (Some (term_entry u)) same = absurd (cc)
-  a_constant f (Some (symbol_entry g)) same = (λ i. boolean_constant (here i) (here i).args)
+module _ (t : Formulas) (supply : Supply) (ds : List Definition) (n : Name) where
+  no_constant : (o : Option Entry) (e : Option LiveEntry) → option_map (meant_by t ds) o ≡ option_map entry_meant e → constant_of_entry o ≡ None → ((d : Entry) → o ≡ Some d → IsEntry t supply ds n d) → constant_entry e ≡ None
+  no_constant o None same nothing known = refl
+  no_constant o (Some (definition_entry xs u)) same nothing known = refl
+  no_constant o (Some (term_entry u)) same nothing known = refl
+  no_constant None (Some (symbol_entry g)) same nothing known = absurd (cc)
+  no_constant (Some (SymbolEntry f)) (Some (symbol_entry g)) same nothing known =
+      ap (λ (h : Symbol). boolean_constant h h.args) here ∙ takes_arguments (symbol_at t f) (symbol_at t f).args (known (SymbolEntry f) refl).args
     where
       here : g ≡ symbol_at t f
       here = cc
+  no_constant (Some (ConstantEntry c)) (Some (symbol_entry g)) same nothing known = absurd (cc)
+  no_constant (Some (DefinitionEntry k)) (Some (symbol_entry g)) same nothing known = absurd (cc)
+  no_constant (Some (TermEntry k)) (Some (symbol_entry g)) same nothing known = absurd (cc)
+
+module _ (t : Formulas) (ds : List Definition) where
+  a_constant : (c : Constant) (e : Option LiveEntry) → option_map (meant_by t ds) (Some (ConstantEntry c)) ≡ option_map entry_meant e → constant_entry e ≡ boolean_constant (symbol_at t c.symbol) (symbol_at t c.symbol).args
+  a_constant c None same = absurd (cc)
+  a_constant c (Some (definition_entry xs u)) same = absurd (cc)
+  a_constant c (Some (term_entry u)) same = absurd (cc)
+  a_constant c (Some (symbol_entry g)) same = (λ i. boolean_constant (here i) (here i).args)
+    where
+      here : g ≡ symbol_at t c.symbol
+      here = cc
 
 module _ (t : Formulas) (supply : Supply) (s : Scoping) (live : List ReadBinding) (shows : Shows t supply s live) (n : Name) where
-  pub undeclared : symbol_of_entry (find s.terms n) ≡ None → declared_constant live (Some n) ≡ None
-  undeclared nothing = no_constant t s.definitions (find s.terms n) (entry_of live n) (entry_found t s live shows.terms n) nothing
+  known_entry : (e : Entry) → find s.terms n ≡ Some e → IsEntry t supply s.definitions n e
+  known_entry e found = entry_is t supply s.definitions n e s.terms shows.numbers.terms found
 
-  pub declared : (f : SymId) → symbol_of_entry (find s.terms n) ≡ Some f → declared_constant live (Some n) ≡ boolean_constant (symbol_at t f) (symbol_at t f).args
-  declared f found = a_constant t s.definitions f (entry_of live n) (ap (option_map (meant_by t s.definitions)) (sym (symbol_is (find s.terms n) f found)) ∙ entry_found t s live shows.terms n)
+  pub undeclared : constant_of_entry (find s.terms n) ≡ None → declared_constant live (Some n) ≡ None
+  undeclared nothing = no_constant t supply s.definitions n (find s.terms n) (entry_of live n) (entry_found t s live shows.terms n) nothing known_entry
 
-  pub declared_within : (f : SymId) → symbol_of_entry (find s.terms n) ≡ Some f → IsSymbol t f
-  declared_within f found = (entry_is t supply s.definitions n (SymbolEntry f) s.terms shows.numbers.terms (symbol_is (find s.terms n) f found)).0
+  pub declared : (c : Constant) → constant_of_entry (find s.terms n) ≡ Some c → declared_constant live (Some n) ≡ boolean_constant (symbol_at t c.symbol) (symbol_at t c.symbol).args
+  declared c found = a_constant t s.definitions c (entry_of live n) (ap (option_map (meant_by t s.definitions)) (sym (constant_is (find s.terms n) c found)) ∙ entry_found t s live shows.terms n)
+
+  pub constant_known : (c : Constant) → constant_of_entry (find s.terms n) ≡ Some c → IsConstant t supply c
+  constant_known c found = (known_entry (ConstantEntry c) (constant_is (find s.terms n) c found)).constant
 
 -- ---- literals
 

@@ -15,8 +15,8 @@ use Rattle.term_subst.proofs.NodesMade.{makes-binder, made-binder}
 use Rattle.script_read.specs.declared.locals.Constant.{Constant}
 use Rattle.script_read.specs.declared.terms.frames.Quantifier.{Quantifier as QuantifierWord}
 use Rattle.script_read.specs.declared.terms.frames.Quantifier.TheVariants.{Universal, Existential}
-use Rattle.script_read.specs.Bound.{IsConstant, variable_for, variables_of}
-use Rattle.script_read.specs.Known.{IsSpared}
+use Rattle.script_read.specs.Bound.{variable_for, variables_of}
+use Rattle.script_read.specs.Known.{IsSpared, IsConstant}
 use Rattle.script_read.specs.Quantifiers.{quantifier_of, operator_of}
 use Rattle.script_read.specs.Read.{has_sort, is_of_sort}
 use Rattle.script_read.proofs.NameFacts.{spared_first, spared_none, spared_both}

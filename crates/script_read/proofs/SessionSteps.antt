@@ -5,22 +5,21 @@ use Rattle.smt_lex.specs.Names.{Name}
 use Rattle.smt_lex.specs.Forms.{Form, Forms, none, ◌⨾◌}
 use Rattle.smt_terms.specs.declared.ids.SymId.{SymId}
 use Rattle.smt_terms.specs.declared.ids.SortId.{SortId}
-use Rattle.smt_terms.specs.Fresh.{NeverGives}
 use Rattle.smt_terms.specs.Sorts.{Sort, free_sort}
 use Rattle.smt_values.specs.SortIds.{sort_at, IsSortId}
-use Rattle.term_table.specs.Formulas.{Formulas, symbol_at, IsSymbol}
+use Rattle.term_table.specs.Formulas.{Formulas, symbol_at}
 use Rattle.term_walk.specs.Walking.{GrowsTo}
 use Rattle.script_read.specs.declared.causes.Cause.TheVariants.{SortArity}
 use Rattle.script_read.specs.declared.faults.Fault.{Fault}
 use Rattle.script_read.specs.declared.faults.ReadFault.{ReadFault}
 use Rattle.script_read.specs.declared.faults.ReadFault.TheVariants.{Refused as RefusedFor, Memory}
-use Rattle.script_read.specs.declared.scopes.Entry.TheVariants.{Symbol as SymbolEntry}
+use Rattle.script_read.specs.declared.scopes.Entry.{Entry}
 use Rattle.script_read.specs.declared.scripts.Command.{Command}
 use Rattle.script_read.specs.declared.scripts.Command.TheVariants.{DeclareSort, Declare}
 use Rattle.script_read.specs.declared.session.Session.{Session}
 use Rattle.script_read.specs.CommandLists.{free_name}
 use Rattle.script_read.specs.Commands.{declare_sort, declare}
-use Rattle.script_read.specs.Known.{Scoping, with_sort, with_entry, Shows}
+use Rattle.script_read.specs.Known.{Scoping, IsEntry, symbol_meant, meant_by, with_sort, with_entry, Shows}
 use Rattle.script_read.specs.Outlines.{At}
 use Rattle.script_read.specs.Parts.{place_of}
 use Rattle.script_read.specs.Reading.{ReadBinding, sort_known, function_known, live_sorts}
@@ -138,13 +137,13 @@ module _ (t u : Formulas) (x : Session) (s : Standing) (stands : StandsAt t x s)
     pub result_refused : (args : List Sort) (e : Refused) → sorts_in (live_sorts (live_of s)) arguments ≡ Ok args → sort_in (live_sorts (live_of s)) f ≡ Err e → declares_symbol n arguments f s ≡ Err e
     result_refused args e read refused = new_symbol ∙ ap with_arguments read ∙ ap (with_result args) refused
 
-    pub symbol_declared : (args : List Sort) (to : Sort) (k : SymId) (scope : Scoping) → sorts_in (live_sorts (live_of s)) arguments ≡ Ok args → sort_in (live_sorts (live_of s)) f ≡ Ok to → IsSymbol u k → symbol_at u k ≡ symbol_of_sorts n.it args to → NeverGives x.sofar.fresh n.it → scope ≡ with_entry n.it (SymbolEntry k) x.sofar.scope → Steps u (begun_at x scope) (Declare k ∷ []) (declares_symbol n arguments f s)
-    symbol_declared args to k scope read read_to within is never scope_is = record {
+    pub symbol_declared : (args : List Sort) (to : Sort) (k : SymId) (e : Entry) (scope : Scoping) → sorts_in (live_sorts (live_of s)) arguments ≡ Ok args → sort_in (live_sorts (live_of s)) f ≡ Ok to → symbol_at u k ≡ symbol_of_sorts n.it args to → IsEntry u x.sofar.fresh x.sofar.scope.definitions n.it e → meant_by u x.sofar.scope.definitions e ≡ symbol_meant (symbol_of_sorts n.it args to) → scope ≡ with_entry n.it e x.sofar.scope → Steps u (begun_at x scope) (Declare k ∷ []) (declares_symbol n arguments f s)
+    symbol_declared args to k e scope read read_to is entry meant scope_is = record {
       standing = begun_with s (function_known (symbol_of_sorts n.it args to) ∷ live_of s);
       stands =
           stands_begun t u x s scope (function_known (symbol_of_sorts n.it args to) ∷ live_of s) stands
           (subst (λ (sc : Scoping). Shows u x.sofar.fresh sc (function_known (symbol_of_sorts n.it args to) ∷ live_of s)) (sym scope_is)
-          (shows_symbol u x.sofar.fresh x.sofar.scope (live_of s) shown n.it k (symbol_of_sorts n.it args to) within is refl never));
+          (shows_symbol u x.sofar.fresh x.sofar.scope (live_of s) shown n.it e (symbol_of_sorts n.it args to) entry meant refl));
       gives =
           new_symbol ∙ ap with_arguments read ∙ ap (with_result args) read_to
           ∙ ap (λ g. Ok (declare g ∷ [], begun_with s (function_known (symbol_of_sorts n.it args to) ∷ live_of s))) (sym is);

@@ -16,19 +16,20 @@ use Rattle.smt_terms.specs.Equal.{name_eq}
 use Rattle.smt_terms.specs.Fresh.{Supply, NeverGives}
 use Rattle.smt_terms.specs.Sorts.{Sort, Symbol, Variable}
 use Rattle.smt_terms.specs.SubstLaws.{names_within, GivesNone}
-use Rattle.smt_terms.specs.Term.{Term}
+use Rattle.smt_terms.specs.Term.{Term, constant}
 use Rattle.smt_values.specs.SortIds.{sort_at, IsSortId}
 use Rattle.term_table.specs.Formulas.{Formulas, tree, symbol_at, IsSymbol}
 use Rattle.term_walk.specs.Walking.{GrowsTo}
 use Rattle.term_subst.specs.Substituting.{IsLater}
 use Rattle.term_subst.specs.declared.maps.Definition.{Definition}
+use Rattle.script_read.specs.declared.locals.Constant.{Constant}
 use Rattle.script_read.specs.declared.scopes.Entry.{Entry}
-use Rattle.script_read.specs.declared.scopes.Entry.TheVariants.{Symbol as SymbolEntry, Definition as DefinitionEntry, Term as TermEntry}
-use Rattle.script_read.specs.Known.{Scoped, is_mark, find, scoped, Scoping, nothing_known, with_entry, with_sort, with_definition, is_symbol_entry, declared_among, levels_in, Meant, symbol_meant, definition_meant, term_meant, no_definition, parameter_sorts, meant_by, terms_shown, sorts_shown, sorts_known, parameters_of, IsSpared, IsDefinition, IsEntry, IsScopedEntry, IsScopedSort, AreScopedSorts, IsScoping, names_meant, terms_live, sorts_live, Shows}
+use Rattle.script_read.specs.declared.scopes.Entry.TheVariants.{Symbol as SymbolEntry, Constant as ConstantEntry, Definition as DefinitionEntry, Term as TermEntry}
+use Rattle.script_read.specs.Known.{Scoped, is_mark, find, scoped, Scoping, nothing_known, with_entry, with_sort, with_definition, is_symbol_entry, declared_among, levels_in, Meant, symbol_meant, definition_meant, term_meant, no_definition, parameter_sorts, meant_by, terms_shown, sorts_shown, sorts_known, parameters_of, IsSpared, IsDefinition, IsConstant, IsFunction, IsNamedConstant, IsEntry, IsScopedEntry, IsScopedSort, AreScopedSorts, IsScoping, names_meant, terms_live, sorts_live, Shows}
 use Rattle.script_read.specs.Scope.{or_later, opened, closed, merged, flattened, popped, emptied}
 use Rattle.script_read.specs.Reading.{ReadBinding, sort_known, function_known, definition_as, named_as, level_known, live_sorts, is_level_known, is_declared, Entry as LiveEntry, symbol_entry, definition_entry, term_entry, entry_of}
 use Rattle.script_read.proofs.Grown.{same_map, node_stays, tree_stays, symbol_within, symbol_stays, sort_within, sort_stays, never_later, none_later, later_self}
-use Rattle.script_read.proofs.NameFacts.{name_turned}
+use Rattle.script_read.proofs.NameFacts.{name_turned, spared_first, spared_none}
 
 -- ---- names, in lists with marks
 
@@ -100,6 +101,7 @@ declared_meant (None ∷ bs) n = declared_meant bs n
 meant_symbol : (t : Formulas) (ds : List Definition) (e : Entry) → is_symbol_meant (meant_by t ds e) ≡ is_symbol_entry e
 unfolding is_symbol_meant
 meant_symbol t ds (SymbolEntry f) = refl
+meant_symbol t ds (ConstantEntry c) = refl
 meant_symbol t ds (DefinitionEntry k) = refl
 meant_symbol t ds (TermEntry k) = refl
 
@@ -390,12 +392,12 @@ module _ (t : Formulas) (supply : Supply) (s : Scoping) (live : List ReadBinding
     };
   }
 
-  pub shows_symbol : (n : Name) (k : SymId) (f : Symbol) → IsSymbol t k → symbol_at t k ≡ f → f.name ≡ n → NeverGives supply n → Shows t supply (with_entry n (SymbolEntry k) s) (function_known f ∷ live)
-  shows_symbol n k f within is named never = record {
-    terms = ap (λ g. Some (n, symbol_meant g) ∷ terms_shown t s) is ∙ ap (λ m. Some (m, symbol_meant f) ∷ terms_shown t s) (sym named) ∙ ap (λ bs. Some (f.name, symbol_meant f) ∷ bs) shows.terms;
+  pub shows_symbol : (n : Name) (e : Entry) (f : Symbol) → IsEntry t supply s.definitions n e → meant_by t s.definitions e ≡ symbol_meant f → f.name ≡ n → Shows t supply (with_entry n e s) (function_known f ∷ live)
+  shows_symbol n e f is meant named = record {
+    terms = ap (λ m. Some (n, m) ∷ terms_shown t s) meant ∙ ap (λ m. Some (m, symbol_meant f) ∷ terms_shown t s) (sym named) ∙ ap (λ bs. Some (f.name, symbol_meant f) ∷ bs) shows.terms;
     sorts = shows.sorts;
     numbers = record {
-      terms = All-cons (IsScopedEntry t supply s.definitions) (Some (n, SymbolEntry k)) s.terms (within, ap (λ (g : Symbol). g.name) is ∙ named, never) shows.numbers.terms;
+      terms = All-cons (IsScopedEntry t supply s.definitions) (Some (n, e)) s.terms is shows.numbers.terms;
       sorts = shows.numbers.sorts;
       definitions = shows.numbers.definitions;
     };
@@ -406,6 +408,7 @@ module _ (t : Formulas) (supply : Supply) (s : Scoping) (live : List ReadBinding
 module _ (t : Formulas) (supply : Supply) (ds : List Definition) (d : Definition) where
   entry_more : (n : Name) (e : Entry) → IsEntry t supply ds n e → IsEntry t supply (ds ++ d ∷ []) n e
   entry_more n (SymbolEntry f) is = is
+  entry_more n (ConstantEntry c) is = is
   entry_more n (DefinitionEntry k) is = let more : length (ds ++ d ∷ []) ≡ length ds + 1 = length-append ds (d ∷ []) in omega (arith, is)
   entry_more n (TermEntry k) is = is
 
@@ -415,6 +418,7 @@ module _ (t : Formulas) (supply : Supply) (ds : List Definition) (d : Definition
 
   meant_more : (n : Name) (e : Entry) → IsEntry t supply ds n e → meant_by t (ds ++ d ∷ []) e ≡ meant_by t ds e
   meant_more n (SymbolEntry f) is = refl
+  meant_more n (ConstantEntry c) is = refl
   meant_more n (DefinitionEntry k) is =
       ap (λ c. definition_meant (parameter_sorts t c) (tree t c.body)) (get_or_append_left ds (d ∷ []) no_definition k is)
   meant_more n (TermEntry k) is = refl
@@ -447,6 +451,12 @@ shows_definition t supply s live shows n d xs f body is sorts term = record {
 
 -- ---- a table that gained, and a later supply
 
+pub constant_spared : (t : Formulas) (supply : Supply) (c : Constant) → IsConstant t supply c → IsSpared t supply c.node
+constant_spared t supply c is = record {
+  node = is.node;
+  spared = subst (λ u. GivesNone supply (names_within u)) (sym is.term) (spared_first supply (symbol_at t c.symbol).name [] is.spared (spared_none supply));
+}
+
 module _ (t u : Formulas) (supply left : Supply) (grows : GrowsTo t u) (later : IsLater supply left) where
   pub spared_stays : (k : NodeId) → IsSpared t supply k → IsSpared u left k
   spared_stays k is = record {
@@ -468,9 +478,33 @@ module _ (t u : Formulas) (supply left : Supply) (grows : GrowsTo t u) (later : 
         ∙ is.params ∙ ap (parameters_of 0) (sym (parameter_sorts_stay d is));
   }
 
+  pub constant_stays : (c : Constant) → IsConstant t supply c → IsConstant u left c
+  constant_stays c is =
+      let same = symbol_stays t u grows c.symbol is.symbol in
+      record {
+        symbol = symbol_within t u grows c.symbol is.symbol;
+        node = node_stays t u grows c.node is.node;
+        term = tree_stays t u grows c.node is.node ∙ is.term ∙ ap constant (sym same);
+        args = ap (λ f. f.args) same ∙ is.args;
+        spared = subst (λ f. NeverGives left f.name) (sym same) (never_later supply left later (symbol_at t c.symbol).name is.spared);
+      }
+
+  function_stays : (n : Name) (f : SymId) → IsFunction t supply n f → IsFunction u left n f
+  function_stays n f is =
+      let same = symbol_stays t u grows f is.symbol in
+      record {
+        symbol = symbol_within t u grows f is.symbol;
+        args = λ none. is.args (sym (ap (λ (g : Symbol). g.args) same) ∙ none);
+        name = ap (λ (g : Symbol). g.name) same ∙ is.name;
+        spared = never_later supply left later n is.spared;
+      }
+
   entry_stays : (ds : List Definition) (n : Name) (e : Entry) → IsEntry t supply ds n e → IsEntry u left ds n e
-  entry_stays ds n (SymbolEntry f) is =
-      (symbol_within t u grows f is.0, ap (λ (g : Symbol). g.name) (symbol_stays t u grows f is.0) ∙ is.1, never_later supply left later n is.2)
+  entry_stays ds n (SymbolEntry f) is = function_stays n f is
+  entry_stays ds n (ConstantEntry c) is = record {
+    constant = constant_stays c is.constant;
+    name = ap (λ (g : Symbol). g.name) (symbol_stays t u grows c.symbol is.constant.symbol) ∙ is.name;
+  }
   entry_stays ds n (DefinitionEntry k) is = is
   entry_stays ds n (TermEntry k) is = spared_stays k is
 
@@ -483,7 +517,8 @@ module _ (t u : Formulas) (supply left : Supply) (grows : GrowsTo t u) (later : 
   scoped_sort_stays (Some p) is = sort_within t.sorts u.sorts grows.sorts p.1 is
 
   pub meant_stays : (ds : List Definition) (n : Name) (e : Entry) → All (IsDefinition t supply) ds → IsEntry t supply ds n e → meant_by u ds e ≡ meant_by t ds e
-  meant_stays ds n (SymbolEntry f) all is = ap symbol_meant (symbol_stays t u grows f is.0)
+  meant_stays ds n (SymbolEntry f) all is = ap symbol_meant (symbol_stays t u grows f is.symbol)
+  meant_stays ds n (ConstantEntry c) all is = ap symbol_meant (symbol_stays t u grows c.symbol is.constant.symbol)
   meant_stays ds n (DefinitionEntry k) all is =
       let d : Definition = get_or ds k no_definition in
       let held : IsDefinition t supply d = all k no_definition is in

@@ -3,7 +3,7 @@ use Rattle.std.proofs.Common.{◌≡◌, Bool, true, false, ◌||◌, List, [], 
 use Rattle.std.proofs.lemmas.List.Elements.{All-head, All-tail, All-weaker}
 use Rattle.smt_lex.specs.Names.{Name}
 use Rattle.smt_terms.specs.Equal.{name_eq}
-use Rattle.smt_terms.specs.Fresh.{Supply, NeverGives}
+use Rattle.smt_terms.specs.Fresh.{Supply}
 use Rattle.smt_terms.specs.Sorts.{Symbol}
 use Rattle.smt_terms.specs.Term.{Term, constant, constant_of}
 use Rattle.term_table.specs.Formulas.{Formulas, tree, symbol_at}
@@ -11,16 +11,13 @@ use Rattle.term_walk.specs.Walking.{GrowsTo}
 use Rattle.term_subst.specs.Substituting.{IsLater}
 use Rattle.script_read.specs.declared.locals.Local.{Local}
 use Rattle.script_read.specs.declared.locals.Local.TheVariants.{Let, Quantified, Parameter}
-use Rattle.script_read.specs.declared.locals.Constant.{Constant}
 use Rattle.script_read.specs.Scope.{or_later}
 use Rattle.script_read.specs.Reading.{ReadLocal, lets_as, quantified_as, parameter_as, term_among, term_or, bound_as, is_quantified}
 use Rattle.script_read.specs.Read.{local_constants}
 use Rattle.script_read.specs.Known.{IsSpared}
-use Rattle.script_read.specs.Bound.{LocalNames, innermost, node_of, quantified_among, constants_in, LocalMeant, let_meant, quantified_meant, parameter_meant, local_meant, locals_shown, IsConstant, IsLocal, AreLocals, locals_live, ShowsLocals}
-use Rattle.smt_terms.specs.SubstLaws.{names_within, GivesNone}
-use Rattle.script_read.proofs.NameFacts.{spared_first, spared_none}
-use Rattle.script_read.proofs.Grown.{node_stays, tree_stays, symbol_within, symbol_stays, never_later}
-use Rattle.script_read.proofs.Showing.{spared_stays}
+use Rattle.script_read.specs.Bound.{LocalNames, innermost, node_of, quantified_among, constants_in, LocalMeant, let_meant, quantified_meant, parameter_meant, local_meant, locals_shown, IsLocal, AreLocals, locals_live, ShowsLocals}
+use Rattle.script_read.proofs.Grown.{tree_stays, symbol_stays}
+use Rattle.script_read.proofs.Showing.{spared_stays, constant_spared, constant_stays}
 
 Meant : Type 0
 Meant = Name × LocalMeant
@@ -71,12 +68,6 @@ found_local t supply (p ∷ ps) n l are is = by (name_eq p.0 n) is (All-head (λ
     by : (b : Bool) → or_later b p.1 (innermost ps n) ≡ Some l → IsLocal t supply p.1 → (innermost ps n ≡ Some l → IsLocal t supply l) → IsLocal t supply l
     by true is here further = let same : p.1 ≡ l = cc in subst (IsLocal t supply) same here
     by false is here further = further is
-
-pub constant_spared : (t : Formulas) (supply : Supply) (c : Constant) → IsConstant t supply c → IsSpared t supply c.node
-constant_spared t supply c is = record {
-  node = is.node;
-  spared = subst (λ u. GivesNone supply (names_within u)) (sym is.term) (spared_first supply (symbol_at t c.symbol).name [] is.spared (spared_none supply));
-}
 
 pub local_spared : (t : Formulas) (supply : Supply) (l : Local) → IsLocal t supply l → IsSpared t supply (node_of l)
 local_spared t supply (Let k) is = is
@@ -154,21 +145,10 @@ module _ (t : Formulas) (supply : Supply) (ps : LocalNames) (ls : List ReadLocal
 -- ---- a table that gained, and names that were drawn
 
 module _ (t u : Formulas) (supply left : Supply) (grows : GrowsTo t u) (later : IsLater supply left) where
-  pub constant_stays : (c : Constant) → IsConstant t supply c → IsConstant u left c
-  constant_stays c is =
-      let same = symbol_stays t u grows c.symbol is.symbol in
-      record {
-        symbol = symbol_within t u grows c.symbol is.symbol;
-        node = node_stays t u grows c.node is.node;
-        term = tree_stays t u grows c.node is.node ∙ is.term ∙ ap constant (sym same);
-        args = ap (λ f. f.args) same ∙ is.args;
-        spared = subst (λ f. NeverGives left f.name) (sym same) (never_later supply left later (symbol_at t c.symbol).name is.spared);
-      }
-
   local_stays : (l : Local) → IsLocal t supply l → IsLocal u left l
   local_stays (Let k) is = spared_stays t u supply left grows later k is
-  local_stays (Quantified c) is = constant_stays c is
-  local_stays (Parameter c) is = constant_stays c is
+  local_stays (Quantified c) is = constant_stays t u supply left grows later c is
+  local_stays (Parameter c) is = constant_stays t u supply left grows later c is
 
   meant_stays : (l : Local) → IsLocal t supply l → local_meant u l ≡ local_meant t l
   meant_stays (Let k) is = ap let_meant (tree_stays t u grows k is.node)

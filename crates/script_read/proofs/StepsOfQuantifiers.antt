@@ -35,8 +35,8 @@ use Rattle.script_read.specs.Variables.{quantifier_binder, variables_in}
 use Rattle.script_read.specs.Reading.{Sofar, Reading, continued, by_rule, beside, live_sorts, is_declared, ◌>>=◌}
 use Rattle.script_read.specs.Read.{Context, is_empty, has_sort, is_taken, draws_names, below_quantifier, renamed, constant_names, quantified_over, read, read_list}
 use Rattle.script_read.specs.Replies.{Refuses}
-use Rattle.script_read.specs.Known.{sorts_known}
-use Rattle.script_read.specs.Bound.{LocalNames, IsConstant, ShowsLocals, quantified_among, is_taken_in, variables_seen, symbols_seen, variables_of, entered}
+use Rattle.script_read.specs.Known.{sorts_known, IsConstant}
+use Rattle.script_read.specs.Bound.{LocalNames, ShowsLocals, quantified_among, is_taken_in, variables_seen, symbols_seen, variables_of, entered}
 use Rattle.script_read.specs.BinderClauses.{AreSortedNames}
 use Rattle.script_read.specs.Openings.{binds, BindsAt}
 use Rattle.script_read.specs.Places.{SparesText, form_from, forms_from}

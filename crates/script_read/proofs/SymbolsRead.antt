@@ -1,5 +1,5 @@
 -- What a symbol that stands alone is read as, by what is known of it.
-use Rattle.std.proofs.Common.{◌≡◌, ℕ, ◌<◌, List, [], ◌∷◌, map, length, get_or, Option, Some, None, option_map, Result, Ok, refl, ap, sym, ◌∙◌, subst, arith}
+use Rattle.std.proofs.Common.{◌≡◌, ◌≢◌, ℕ, ◌<◌, List, [], ◌∷◌, map, length, get_or, Option, Some, None, option_map, Result, Ok, refl, ap, sym, ◌∙◌, subst, arith}
 use Rattle.smt_lex.specs.declared.items.Item.{Item}
 use Rattle.smt_lex.specs.declared.items.Item.TheVariants.{Left, Right, Numeral, Decimal, Hex, Bin, Text, Word, Quoted, Keyword}
 use Rattle.smt_lex.specs.Lex.{Token, symbol_by, symbol_of}
@@ -8,16 +8,17 @@ use Rattle.smt_terms.specs.declared.ids.NodeId.{NodeId}
 use Rattle.smt_terms.specs.declared.ids.SymId.{SymId}
 use Rattle.smt_terms.specs.declared.op.Op.{Op}
 use Rattle.smt_terms.specs.Fresh.{Supply}
-use Rattle.smt_terms.specs.Sorts.{Sort}
+use Rattle.smt_terms.specs.Sorts.{Sort, Symbol}
 use Rattle.smt_terms.specs.Term.{Term}
 use Rattle.term_table.specs.Formulas.{Formulas, tree, symbol_at}
 use Rattle.term_subst.specs.declared.maps.Definition.{Definition}
 use Rattle.script_read.specs.declared.causes.Cause.TheVariants.{WrongArity}
+use Rattle.script_read.specs.declared.locals.Constant.{Constant}
 use Rattle.script_read.specs.declared.scopes.Entry.{Entry}
-use Rattle.script_read.specs.declared.scopes.Entry.TheVariants.{Symbol as SymbolEntry, Definition as DefinitionEntry, Term as TermEntry}
+use Rattle.script_read.specs.declared.scopes.Entry.TheVariants.{Symbol as SymbolEntry, Constant as ConstantEntry, Definition as DefinitionEntry, Term as TermEntry}
 use Rattle.script_read.specs.ConstantClauses.{constant_or_other, constant_in}
 use Rattle.script_read.specs.Heads.{constant_or_refused, live_symbol, theory_symbol, symbol_term, name_or_other, atom_by, atom_term}
-use Rattle.script_read.specs.Known.{Meant, symbol_meant, definition_meant, term_meant, meant_by, parameter_sorts, no_definition}
+use Rattle.script_read.specs.Known.{IsConstant, Meant, symbol_meant, definition_meant, term_meant, meant_by, parameter_sorts, no_definition}
 use Rattle.script_read.specs.Parts.{constant_by}
 use Rattle.script_read.specs.Reading.{ReadBinding, ReadLocal, Entry as LiveEntry, symbol_entry, definition_entry, term_entry, entry_of, bound_as}
 use Rattle.script_read.specs.declared.faults.ReadFault.{ReadFault}
@@ -78,6 +79,11 @@ unfolding given_term
 meant_given place n [] u = refl
 meant_given place n (s ∷ ss) u = refl
 
+-- a symbol with arguments takes operands
+takes_arguments : (place : ℕ) (f : Symbol) (ss : List Sort) → ss ≢ [] → constant_or_refused place f ss ≡ at WrongArity place
+takes_arguments place f [] some = absurd (some refl)
+takes_arguments place f (s ∷ ss) some = refl
+
 module _ (t : Formulas) (ds : List Definition) (place : ℕ) (n : Name) (o : Option Entry) (e : Option LiveEntry) (same : option_map (meant_by t ds) o ≡ option_map entry_meant e) where
   known_term : live_symbol place n e ≡ meant_term place n (option_map (meant_by t ds) o)
   known_term = live_term place n e ∙ ap (meant_term place n) (sym same)
@@ -85,8 +91,16 @@ module _ (t : Formulas) (ds : List Definition) (place : ℕ) (n : Name) (o : Opt
   pub unknown_read : o ≡ None → live_symbol place n e ≡ theory_symbol place n
   unknown_read is = known_term ∙ ap (λ x. meant_term place n (option_map (meant_by t ds) x)) is
 
-  pub declared_read : (f : SymId) → o ≡ Some (SymbolEntry f) → live_symbol place n e ≡ constant_or_refused place (symbol_at t f) (symbol_at t f).args
-  declared_read f is = known_term ∙ ap (λ x. meant_term place n (option_map (meant_by t ds) x)) is
+  pub constant_node_read : (supply : Supply) (c : Constant) → o ≡ Some (ConstantEntry c) → IsConstant t supply c → live_symbol place n e ≡ Ok (tree t c.node)
+  constant_node_read supply c is constant =
+      known_term ∙ ap (λ x. meant_term place n (option_map (meant_by t ds) x)) is
+      ∙ ap (constant_or_refused place (symbol_at t c.symbol)) constant.args
+      ∙ ap Ok (sym constant.term)
+
+  pub arguments_missing : (f : SymId) → o ≡ Some (SymbolEntry f) → (symbol_at t f).args ≢ [] → live_symbol place n e ≡ at WrongArity place
+  arguments_missing f is some =
+      known_term ∙ ap (λ x. meant_term place n (option_map (meant_by t ds) x)) is
+      ∙ takes_arguments place (symbol_at t f) (symbol_at t f).args some
 
   pub named_read : (k : NodeId) → o ≡ Some (TermEntry k) → live_symbol place n e ≡ Ok (tree t k)
   named_read k is = known_term ∙ ap (λ x. meant_term place n (option_map (meant_by t ds) x)) is

@@ -6,16 +6,16 @@ use Rattle.smt_lex.specs.Forest.{token_at}
 use Rattle.smt_terms.specs.declared.ids.NodeId.{NodeId}
 use Rattle.smt_terms.specs.declared.ids.SymId.{SymId}
 use Rattle.smt_terms.specs.Equal.{name_eq}
-use Rattle.smt_terms.specs.Fresh.{Supply, NeverGives}
+use Rattle.smt_terms.specs.Fresh.{Supply}
 use Rattle.smt_terms.specs.Sorts.{Symbol, Variable}
-use Rattle.smt_terms.specs.Term.{Term, constant, constant_of}
+use Rattle.smt_terms.specs.Term.{Term, constant_of}
 use Rattle.smt_values.specs.SortIds.{sort_at}
-use Rattle.term_table.specs.Formulas.{Formulas, tree, symbol_at, IsNode, IsSymbol}
+use Rattle.term_table.specs.Formulas.{Formulas, tree, symbol_at}
 use Rattle.script_read.specs.declared.locals.Local.{Local}
 use Rattle.script_read.specs.declared.locals.Local.TheVariants.{Let, Quantified, Parameter}
 use Rattle.script_read.specs.declared.locals.Constant.{Constant}
 use Rattle.script_read.specs.declared.binders.SortedName.{SortedName}
-use Rattle.script_read.specs.Known.{Scoping, declared_among, IsSpared}
+use Rattle.script_read.specs.Known.{Scoping, declared_among, IsSpared, IsConstant}
 use Rattle.script_read.specs.Scope.{or_later}
 use Rattle.script_read.specs.Reading.{ReadLocal, lets_as, quantified_as, parameter_as}
 
@@ -69,14 +69,6 @@ local_meant t (Parameter c) = parameter_meant (symbol_at t c.symbol)
 
 abbrev pub locals_shown : Formulas → LocalNames → List (Name × LocalMeant)
 locals_shown t ps = map (λ p. (p.0, local_meant t p.1)) ps
-
--- a symbol without arguments, and its node
-pub record IsConstant (t : Formulas) (supply : Supply) (c : Constant) : Type 0 where
-  pub symbol : IsSymbol t c.symbol
-  pub node : IsNode t c.node
-  pub term : tree t c.node ≡ constant (symbol_at t c.symbol)
-  pub args : (symbol_at t c.symbol).args ≡ []
-  pub spared : NeverGives supply (symbol_at t c.symbol).name
 
 abbrev pub IsLocal : Formulas → Supply → Local → Type 0
 IsLocal t supply (Let k) = IsSpared t supply k

@@ -1,21 +1,23 @@
 -- What the reader keeps of the live bindings: names of terms and names of sorts apart, each list the latest first with the
 -- marks of levels, and the definitions by their numbers.
-use Rattle.std.specs.Prelude.{◌≡◌, ℕ, suc, ◌<◌, Bool, true, false, not, ◌&&◌, ◌||◌, is_some, List, [], ◌∷◌, ◌++◌, map, length, count_by, get_or, All, Option, Some, None, option_map, Result, Ok, Err}
+use Rattle.std.specs.Prelude.{◌≡◌, ◌≢◌, ℕ, suc, ◌<◌, Bool, true, false, not, ◌&&◌, ◌||◌, is_some, List, [], ◌∷◌, ◌++◌, map, length, count_by, get_or, All, Option, Some, None, option_map, Result, Ok, Err}
 use Rattle.smt_lex.specs.Names.{Name}
 use Rattle.smt_terms.specs.declared.ids.NodeId.{NodeId}
+use Rattle.smt_terms.specs.declared.ids.SymId.{SymId}
 use Rattle.smt_terms.specs.declared.ids.SortId.{SortId}
 use Rattle.smt_terms.specs.Equal.{name_eq}
 use Rattle.smt_terms.specs.Fresh.{Supply, NeverGives}
 use Rattle.smt_terms.specs.SubstLaws.{names_within, GivesNone}
 use Rattle.smt_terms.specs.Sorts.{Sort, Symbol}
 use Rattle.smt_terms.specs.Subst.{parameter}
-use Rattle.smt_terms.specs.Term.{Term}
+use Rattle.smt_terms.specs.Term.{Term, constant}
 use Rattle.smt_values.specs.SortIds.{sort_at, IsSortId}
 use Rattle.term_table.specs.Formulas.{Formulas, tree, symbol_at, IsNode, IsSymbol}
 use Rattle.term_subst.specs.declared.maps.Definition.{Definition}
 use Rattle.script_read.specs.declared.scopes.Entry.{Entry}
-use Rattle.script_read.specs.declared.scopes.Entry.TheVariants.{Symbol as SymbolEntry, Definition as DefinitionEntry, Term as TermEntry}
+use Rattle.script_read.specs.declared.scopes.Entry.TheVariants.{Symbol as SymbolEntry, Constant as ConstantEntry, Definition as DefinitionEntry, Term as TermEntry}
 use Rattle.script_read.specs.declared.faults.ReadFault.{ReadFault}
+use Rattle.script_read.specs.declared.locals.Constant.{Constant}
 use Rattle.script_read.specs.Refusals.{Refused}
 use Rattle.script_read.specs.Replies.{Refuses}
 use Rattle.script_read.specs.Scope.{or_later}
@@ -63,6 +65,7 @@ with_definition n d s =
 
 abbrev pub is_symbol_entry : Entry → Bool
 is_symbol_entry (SymbolEntry f) = true
+is_symbol_entry (ConstantEntry c) = true
 is_symbol_entry _ = false
 
 -- a declared symbol has this name
@@ -91,6 +94,7 @@ parameter_sorts t d = map (λ f. (symbol_at t f).result) d.params
 
 abbrev pub meant_by : Formulas → List Definition → Entry → Meant
 meant_by t ds (SymbolEntry f) = symbol_meant (symbol_at t f)
+meant_by t ds (ConstantEntry c) = symbol_meant (symbol_at t c.symbol)
 meant_by t ds (DefinitionEntry k) = definition_meant (parameter_sorts t (get_or ds k no_definition)) (tree t (get_or ds k no_definition).body)
 meant_by t ds (TermEntry k) = term_meant (tree t k)
 
@@ -124,9 +128,30 @@ pub record IsDefinition (t : Formulas) (supply : Supply) (d : Definition) : Type
   pub symbols : All (IsSymbol t) d.params
   pub params : map (symbol_at t) d.params ≡ parameters_of 0 (parameter_sorts t d)
 
+-- a symbol without arguments, and its node
+pub record IsConstant (t : Formulas) (supply : Supply) (c : Constant) : Type 0 where
+  pub symbol : IsSymbol t c.symbol
+  pub node : IsNode t c.node
+  pub term : tree t c.node ≡ constant (symbol_at t c.symbol)
+  pub args : (symbol_at t c.symbol).args ≡ []
+  pub spared : NeverGives supply (symbol_at t c.symbol).name
+
+-- a symbol of this name that takes arguments
+pub record IsFunction (t : Formulas) (supply : Supply) (n : Name) (f : SymId) : Type 0 where
+  pub symbol : IsSymbol t f
+  pub args : (symbol_at t f).args ≢ []
+  pub name : (symbol_at t f).name ≡ n
+  pub spared : NeverGives supply n
+
+-- one that takes none
+pub record IsNamedConstant (t : Formulas) (supply : Supply) (n : Name) (c : Constant) : Type 0 where
+  pub constant : IsConstant t supply c
+  pub name : (symbol_at t c.symbol).name ≡ n
+
 -- an entry of this name
 abbrev pub IsEntry : Formulas → Supply → List Definition → Name → Entry → Type 0
-IsEntry t supply ds n (SymbolEntry f) = IsSymbol t f × ((symbol_at t f).name ≡ n) × NeverGives supply n
+IsEntry t supply ds n (SymbolEntry f) = IsFunction t supply n f
+IsEntry t supply ds n (ConstantEntry c) = IsNamedConstant t supply n c
 IsEntry t supply ds n (DefinitionEntry k) = k < length ds
 IsEntry t supply ds n (TermEntry k) = IsSpared t supply k
 

@@ -36,8 +36,8 @@ use Rattle.script_read.specs.Parts.{named_parts, Opening, opening}
 use Rattle.script_read.specs.Reading.{lets_as, ReadBinding, Sofar, Reading, ◌>>=◌, by_live}
 use Rattle.script_read.specs.Heads.{Callee as CalleeOf, written, array_of_sort, called, defined, operandless, applied}
 use Rattle.script_read.specs.Read.{Context, with_local, read, read_all, read_bindings, quantified_over, term_names, annotated}
-use Rattle.script_read.specs.Known.{Scoping, Shows, IsSpared, AreSpared, no_definition, parameter_sorts}
-use Rattle.script_read.specs.Bound.{LocalNames, IsConstant, ShowsLocals, variables_of, name_at}
+use Rattle.script_read.specs.Known.{Scoping, Shows, IsSpared, AreSpared, no_definition, parameter_sorts, IsConstant}
+use Rattle.script_read.specs.Bound.{LocalNames, ShowsLocals, variables_of, name_at}
 use Rattle.script_read.specs.Sizes.{form_size, forms_size}
 use Rattle.script_read.specs.Places.{IsForm, form_from, forms_from}
 

@@ -15,8 +15,8 @@ ghost use Rattle.term_subst.specs.Substituting.{IsLater};
 ghost use Rattle.term_walk.specs.Walking.{GrowsTo};
 ghost use Rattle.script_read.specs.Variables.{may_have, variable_in, variables_in};
 ghost use Rattle.script_read.specs.Read.{constant_names, renamed};
-ghost use Rattle.script_read.specs.Known.{AreScopedSorts, sorts_known, parameters_of};
-ghost use Rattle.script_read.specs.Bound.{name_at, variable_seen, variables_seen, is_taken_in, IsConstant, symbols_seen};
+ghost use Rattle.script_read.specs.Known.{AreScopedSorts, sorts_known, parameters_of, IsConstant};
+ghost use Rattle.script_read.specs.Bound.{name_at, variable_seen, variables_seen, is_taken_in, symbols_seen};
 ghost use Rattle.script_read.specs.BinderClauses.{binder_seen, IsSortedName, AreSortedNames};
 ghost use Rattle.script_read.specs.BinderSteps.{SameNames, IsNewName, drawn_for};
 ghost use Rattle.script_read.specs.Parts.{place_of};
@@ -24,6 +24,7 @@ ghost use Rattle.script_read.specs.Places.{IsRead, IsForm, SparesText, form_from
 ghost use Rattle.script_read.specs.Replies.{Follows};
 
 use crate::causes::Cause;
+use crate::constants::constant;
 use crate::faults::{Fault, ReadFault};
 use crate::locals::{Constant, Locals};
 use crate::names::is_reserved_for_declaring;
@@ -31,7 +32,7 @@ use crate::places::{bad_form, begins, fault, is_symbol, two_inside};
 use crate::scopes::Scope;
 use crate::sorts::read_sort;
 use smt_lex::Forest;
-use smt_terms::{Op, SortId, SymId};
+use smt_terms::{SortId, SymId};
 use std::alloc::{AllocError, Global};
 use term_subst::{Fresh, NameSet};
 use term_table::Table;
@@ -153,21 +154,6 @@ pub fn read_variables(
         next = forest.after(next);
     }
     Ok(variables)
-}
-
-// The constant of a symbol without arguments.
-fn constant(table: &mut Table, symbol: SymId) -> Result<Constant, AllocError>
-    requires within { IsSymbol table.old symbol }
-    requires args { (symbol_at table.old symbol).args ≡ [] }
-    ensures symbol { IfOk result (λ c. c.symbol ≡ symbol) }
-    ensures constant { (supply : Supply) → NeverGives supply (symbol_at table.old symbol).name → IfOk result (IsConstant table.new supply) }
-    ensures grows { GrowsTo table.old table.new }
-    ensures symbols { table.new.symbols ≡ table.old.symbols }
-    ensures sorts { table.new.sorts ≡ table.old.sorts }
-{
-    let _ = table.len();
-    let node = table.intern(Op::Sym(symbol), &[])?;
-    Ok(Constant { symbol, node })
 }
 
 // Whether a declared symbol or a quantifier around the place has the name of token `i`.

@@ -121,7 +121,7 @@ fn is_symbol(entry: Entry) -> bool
     ensures { result ≡ is_symbol_entry entry }
 {
     match entry {
-        Entry::Symbol(_) => true,
+        Entry::Symbol(_) | Entry::Constant(_) => true,
         Entry::Definition(_) | Entry::Term(_) => false,
     }
 }

@@ -15,6 +15,7 @@ mod lists;
 mod locals;
 mod names;
 mod node_sorts;
+mod numbers;
 mod places;
 mod reader;
 mod scopes;

@@ -12,6 +12,7 @@ ghost use Rattle.script_read.specs.PlaceClauses.{BeginsForm, IsListAt, AreTwo};
 
 use crate::causes::Cause;
 use crate::faults::Fault;
+use crate::numbers::{FEW, digit_value, short_number};
 use smt_lex::{Forest, Item, is_reserved};
 
 /// The least number that no numeral may have.
@@ -133,6 +134,9 @@ pub fn numeral_at(forest: &Forest, i: usize) -> Option<u128>
 fn capped_value(digits: &[u8]) -> u128
     ensures { result ≡ capped (digits_value 10 digits.now) }
 {
+    if digits.len() <= FEW {
+        return u128::from(short_number(10, digits));
+    }
     let mut value = 0;
     for digit in digits {
         value = with_digit(value, *digit);
@@ -148,19 +152,5 @@ fn with_digit(value: u128, digit: u8) -> u128
     if value > GREATEST / 10 {
         return GREATEST;
     }
-    (value * 10 + digit_value(digit)).min(GREATEST)
-}
-
-/// The value of a digit; a byte that is no digit counts as one of value 36.
-pub fn digit_value(digit: u8) -> u128
-    ensures value { result ≡ digit_value digit }
-    ensures small { result ≤ 36 }
-{
-    let value = match digit {
-        b'0'..=b'9' => digit - b'0',
-        b'A'..=b'Z' => digit - b'A' + 10,
-        b'a'..=b'z' => digit - b'a' + 10,
-        _ => 36,
-    };
-    u128::from(value)
+    (value * 10 + u128::from(digit_value(digit))).min(GREATEST)
 }

@@ -5,6 +5,7 @@ ghost use Rattle.script_read.specs.Scope.{opened, popped, emptied};
 ghost use Rattle.script_read.specs.Known.{Scoping, nothing_known, find, is_mark, with_entry, with_sort, with_definition, declared_among, levels_in};
 
 use crate::levels::{self, Leveled};
+use crate::locals::Constant;
 use smt_terms::{NodeId, SortId, SymId};
 use std::alloc::{AllocError, Global};
 use std::marker::Model;
@@ -13,8 +14,10 @@ use term_subst::Definition;
 /// What a live name stands for.
 #[derive(Clone, Copy, Debug, PartialEq, Eq)]
 pub enum Entry {
-    /// A declared symbol.
+    /// A declared symbol that takes arguments.
     Symbol(SymId),
+    /// A declared symbol that takes none.
+    Constant(Constant),
     /// A definition, by its number.
     Definition(usize),
     /// A named term.

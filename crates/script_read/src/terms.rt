@@ -23,7 +23,6 @@ pub mod heads;
 pub mod indices;
 pub mod let_names;
 pub mod lets;
-pub mod numbers;
 pub mod openings;
 pub mod quantifiers;
 pub mod shapes;

@@ -2,30 +2,31 @@
 
 ghost use Rattle.std.specs.Prelude.{◌≡◌, List, IfOk, IfSome, option_map, codes};
 ghost use Rattle.smt_terms.specs.Fresh.{Supply};
-ghost use Rattle.term_table.specs.Formulas.{tree, symbol_at, IsNode, IsSymbol};
+ghost use Rattle.term_table.specs.Formulas.{tree, symbol_at, IsNode};
 ghost use Rattle.term_walk.specs.Walking.{GrowsTo};
 ghost use Rattle.script_read.specs.Script.{Standing, assumes, literal, declared_constant, boolean_constant};
 ghost use Rattle.script_read.specs.Reading.{ReadBinding};
 ghost use Rattle.script_read.specs.CommandLists.{IsCommandOf};
-ghost use Rattle.script_read.specs.Known.{Shows, find};
+ghost use Rattle.script_read.specs.Known.{Shows, IsConstant, find};
 ghost use Rattle.script_read.specs.Parts.{symbol_in, is_name, place_of};
 ghost use Rattle.script_read.specs.Refusals.{given};
 ghost use Rattle.script_read.specs.Replies.{Follows};
 ghost use Rattle.script_read.specs.Places.{IsForm, form_from, forms_from};
 ghost use Rattle.script_read.specs.ShapeClauses.{IsPlaceIn};
-ghost use Rattle.script_read.specs.LiteralClauses.{IsBoolean, symbol_of_entry};
+ghost use Rattle.script_read.specs.LiteralClauses.{IsBoolean, constant_of_entry};
 ghost use Rattle.script_read.specs.Steps.{StandsAt, StepsTo, one};
 
 use crate::causes::Cause;
-use crate::constants::{constant_node, negation_node};
+use crate::constants::negation_node;
 use crate::faults::ReadFault;
+use crate::locals::Constant;
 use crate::node_sorts::BOOL;
 use crate::places::{begins, fault, is_symbol, two_inside};
 use crate::scopes::{Entry, Scope};
 use crate::scripts::Command;
 use crate::session::Session;
 use smt_lex::Forest;
-use smt_terms::{NodeId, SymId};
+use smt_terms::NodeId;
 use std::alloc::{AllocError, Global};
 use term_table::{Nodes, Table};
 
@@ -89,12 +90,12 @@ fn literal(
     ensures grows { GrowsTo table.old table.new }
 {
     let Some((head, inner)) = two_inside(forest, i) else {
-        return declared_constant(table, forest, i, scope);
+        return Ok(declared_constant(table, forest, i, scope));
     };
     if !is_not(forest, head) {
         return Ok(None);
     }
-    match declared_constant(table, forest, inner, scope)? {
+    match declared_constant(table, forest, inner, scope) {
         Some(id) => {
             let negation = negation_node(table, id)?;
             Ok(Some(negation))
@@ -104,50 +105,42 @@ fn literal(
 }
 
 // The constant that the form of token `i` is, of those that are declared and of sort Bool.
-fn declared_constant(
-    table: &mut Table,
-    forest: &Forest,
-    i: usize,
-    scope: &Scope,
-) -> Result<Option<NodeId>, AllocError>
+fn declared_constant(table: &Table, forest: &Forest, i: usize, scope: &Scope) -> Option<NodeId>
     requires form { IsForm forest.now.tokens i }
-    requires known { (supply : Supply) × (live : List ReadBinding) × Shows table.old supply scope.now live }
-    ensures constant { (supply : Supply) (live : List ReadBinding) → Shows table.old supply scope.now live → IfOk result (λ found. option_map (tree table.new) found ≡ declared_constant live (symbol_in (form_from forest.now.tokens i))) }
-    ensures node { IfOk result (λ found. IfSome found (IsBoolean table.new)) }
-    ensures grows { GrowsTo table.old table.new }
+    requires known { (supply : Supply) × (live : List ReadBinding) × Shows table.now supply scope.now live }
+    ensures constant { (supply : Supply) (live : List ReadBinding) → Shows table.now supply scope.now live → option_map (tree table.now) result ≡ declared_constant live (symbol_in (form_from forest.now.tokens i)) }
+    ensures node { IfSome result (IsBoolean table.now) }
 {
     if !is_symbol(forest, i) {
-        return Ok(None);
+        return None;
     }
-    match declared_symbol(scope, forest.name(i)) {
-        Some(symbol) => boolean_constant(table, symbol),
-        None => Ok(None),
+    match constant_named(scope, forest.name(i)) {
+        Some(constant) => boolean_node(table, constant),
+        None => None,
     }
 }
 
-// The symbol that is declared by this name.
-fn declared_symbol(scope: &Scope, name: &[u8]) -> Option<SymId>
-    ensures { result ≡ symbol_of_entry (find scope.now.terms name.now) }
+// The constant that is declared by this name.
+fn constant_named(scope: &Scope, name: &[u8]) -> Option<Constant>
+    ensures { result ≡ constant_of_entry (find scope.now.terms name.now) }
 {
     match scope.find(name) {
-        Some(Entry::Symbol(symbol)) => Some(symbol),
+        Some(Entry::Constant(constant)) => Some(constant),
         _ => None,
     }
 }
 
-// The constant of a symbol that takes no arguments and has sort Bool.
-fn boolean_constant(table: &mut Table, symbol: SymId) -> Result<Option<NodeId>, AllocError>
-    requires { IsSymbol table.old symbol }
-    ensures constant { IfOk result (λ found. option_map (tree table.new) found ≡ boolean_constant (symbol_at table.old symbol) (symbol_at table.old symbol).args) }
-    ensures node { IfOk result (λ found. IfSome found (IsBoolean table.new)) }
-    ensures grows { GrowsTo table.old table.new }
+// The node of a constant of sort Bool.
+fn boolean_node(table: &Table, constant: Constant) -> Option<NodeId>
+    requires { (supply : Supply) × IsConstant table.now supply constant }
+    ensures constant { option_map (tree table.now) result ≡ boolean_constant (symbol_at table.now constant.symbol) (symbol_at table.now constant.symbol).args }
+    ensures node { IfSome result (IsBoolean table.now) }
 {
-    let (arguments, sort) = table.symbol_rank(symbol);
-    if !arguments.is_empty() || sort != BOOL {
-        return Ok(None);
+    let (_, sort) = table.symbol_rank(constant.symbol);
+    if sort != BOOL {
+        return None;
     }
-    let node = constant_node(table, symbol)?;
-    Ok(Some(node))
+    Some(constant.node)
 }
 
 // Whether the form that begins at token `i` is the symbol `not`.

@@ -1,17 +1,21 @@
 //! `declare-const` and `declare-fun` (SMT-LIB 2.6, section 4.2.3).
 
-ghost use Rattle.std.specs.Prelude.{◌≡◌, ◌≤◌, length, map, All, IfOk};
+ghost use Rattle.std.specs.Prelude.{◌≡◌, ◌≤◌, List, length, map, All, IfOk};
+ghost use Rattle.smt_terms.specs.Fresh.{Supply, NeverGives};
 ghost use Rattle.smt_values.specs.SortIds.{sort_at, IsSortId};
+ghost use Rattle.term_table.specs.Formulas.{symbol_at, IsSymbol};
+ghost use Rattle.term_subst.specs.declared.maps.Definition.{Definition};
 ghost use Rattle.term_walk.specs.Walking.{GrowsTo};
 ghost use Rattle.script_read.specs.Script.{Standing, declares_symbol};
 ghost use Rattle.script_read.specs.SortForms.{sorts_in};
 ghost use Rattle.script_read.specs.CommandLists.{IsCommandOf};
-ghost use Rattle.script_read.specs.Known.{AreScopedSorts, sorts_known};
+ghost use Rattle.script_read.specs.Known.{AreScopedSorts, IsEntry, meant_by, symbol_meant, sorts_known};
 ghost use Rattle.script_read.specs.Places.{IsRead, IsForm, SparesText, form_from, forms_from};
 ghost use Rattle.script_read.specs.Replies.{Follows};
 ghost use Rattle.script_read.specs.ShapeClauses.{IsNameAt, IsPlaceIn, IfGiven, named_at, listed_at};
 ghost use Rattle.script_read.specs.Steps.{StandsAt, StepsTo, one};
 
+use crate::constants::constant;
 use crate::faults::ReadFault;
 use crate::scopes::{Entry, Scope};
 use crate::scripts::Command;
@@ -19,8 +23,8 @@ use crate::session::Session;
 use crate::session::new_names::check_new_name;
 use crate::sorts::{read_sort, read_sorts};
 use smt_lex::Forest;
-use smt_terms::SortId;
-use std::alloc::Global;
+use smt_terms::{SortId, SymId};
+use std::alloc::{AllocError, Global};
 use term_table::Table;
 
 /// `(declare-fun name (argument ..) sort)`, and `(declare-const name sort)` without a list of arguments.
@@ -49,10 +53,26 @@ pub fn declare_symbol(
     let arguments = argument_sorts(alloc, table, forest, arguments, &session.sofar.scope)?;
     let sort = read_sort(alloc, table, forest, sort, &session.sofar.scope)?;
     let symbol = table.symbol(forest.name(name), &arguments, sort)?;
+    let entry = symbol_entry(table, symbol)?;
     let scope = &mut session.sofar.scope;
-    scope.bind(forest.name(name), Entry::Symbol(symbol))?;
+    scope.bind(forest.name(name), entry)?;
     session.begun = true;
     Ok(Command::Declare(symbol))
+}
+
+// What the name of a declared symbol stands for.
+fn symbol_entry(table: &mut Table, symbol: SymId) -> Result<Entry, AllocError>
+    requires { IsSymbol table.old symbol }
+    ensures entry { (supply : Supply) (ds : List Definition) → NeverGives supply (symbol_at table.old symbol).name → IfOk result (IsEntry table.new supply ds (symbol_at table.old symbol).name) }
+    ensures meant { (ds : List Definition) → IfOk result (λ e. meant_by table.new ds e ≡ symbol_meant (symbol_at table.old symbol)) }
+    ensures grows { GrowsTo table.old table.new }
+{
+    let (arguments, _) = table.symbol_rank(symbol);
+    if !arguments.is_empty() {
+        return Ok(Entry::Symbol(symbol));
+    }
+    let constant = constant(table, symbol)?;
+    Ok(Entry::Constant(constant))
 }
 
 // The sorts of the arguments; none where no list is written.

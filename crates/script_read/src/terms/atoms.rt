@@ -4,12 +4,11 @@ ghost use Rattle.std.specs.Prelude.{◌≡◌, List, None, Some, IfOk};
 ghost use Rattle.smt_lex.specs.Lex.{symbol_of};
 ghost use Rattle.smt_lex.specs.Forms.{atom};
 ghost use Rattle.smt_lex.specs.Forest.{token_at};
-ghost use Rattle.smt_terms.specs.Fresh.{Supply, NeverGives};
+ghost use Rattle.smt_terms.specs.Fresh.{Supply};
 ghost use Rattle.smt_terms.specs.Term.{op, apply, none};
-ghost use Rattle.term_table.specs.Formulas.{symbol_at, IsSymbol};
 ghost use Rattle.term_walk.specs.Walking.{GrowsTo};
 ghost use Rattle.script_read.specs.ConstantClauses.{IsConstantOp, constant_in};
-ghost use Rattle.script_read.specs.Heads.{atom_term, constant_or_refused, live_symbol, symbol_term, theory_symbol};
+ghost use Rattle.script_read.specs.Heads.{atom_term, live_symbol, symbol_term, theory_symbol};
 ghost use Rattle.script_read.specs.Reading.{ReadBinding, ReadLocal, bound_as, entry_of};
 ghost use Rattle.script_read.specs.Bound.{ShowsLocals, name_at, node_of};
 ghost use Rattle.script_read.specs.Known.{Shows, find};
@@ -19,7 +18,6 @@ ghost use Rattle.script_read.specs.SymbolClauses.{GivesTruth};
 ghost use Rattle.script_read.specs.Places.{IsRead, IsForm, form_from};
 
 use crate::causes::Cause;
-use crate::constants::constant_node;
 use crate::faults::{Fault, ReadFault};
 use crate::locals::{Local, Locals};
 use crate::names::{is_real_name, is_theory_name};
@@ -27,7 +25,7 @@ use crate::places::{fault, is_symbol};
 use crate::scopes::{Entry, Scope};
 use crate::terms::theory_constants::{constant, constant_of};
 use smt_lex::Forest;
-use smt_terms::{NodeId, Op, SymId};
+use smt_terms::{NodeId, Op};
 use term_table::Table;
 
 /// The term that token `i` is.
@@ -112,10 +110,8 @@ fn live_symbol(
     ensures grows { GrowsTo table.old table.new }
 {
     match scope.find(forest.name(i)) {
-        Some(Entry::Symbol(symbol)) => {
-            let node = declared_constant(table, forest, i, symbol)?;
-            Ok(node)
-        }
+        Some(Entry::Constant(constant)) => Ok(constant.node),
+        Some(Entry::Symbol(_)) => Err(fault(forest, i, Cause::WrongArity).into()),
         Some(Entry::Definition(number)) => {
             let definition = scope.definition(number);
             if definition.params.len() > 0 {
@@ -129,26 +125,6 @@ fn live_symbol(
             Ok(node)
         }
     }
-}
-
-// The constant of a declared symbol, whose name is token `i`.
-fn declared_constant(
-    table: &mut Table,
-    forest: &Forest,
-    i: usize,
-    symbol: SymId,
-) -> Result<NodeId, ReadFault>
-    requires form { IsForm forest.now.tokens i }
-    requires symbol { IsSymbol table.old symbol }
-    ensures term { (supply : Supply) → NeverGives supply (symbol_at table.old symbol).name → ReadsAlone table.new supply (constant_or_refused (token_at forest.now.tokens i).start (symbol_at table.old symbol) (symbol_at table.old symbol).args) result }
-    ensures grows { GrowsTo table.old table.new }
-{
-    let (arguments, _) = table.symbol_rank(symbol);
-    if !arguments.is_empty() {
-        return Err(fault(forest, i, Cause::WrongArity).into());
-    }
-    let node = constant_node(table, symbol)?;
-    Ok(node)
 }
 
 // The term that the symbol of token `i` is, which nothing binds.

@@ -188,6 +188,7 @@ fn live_callee(entry: Entry, indices: &Indices, place: u32) -> Result<Callee, Re
     }
     match entry {
         Entry::Symbol(f) => Ok(Callee::Called(f)),
+        Entry::Constant(constant) => Ok(Callee::Called(constant.symbol)),
         Entry::Definition(number) => Ok(Callee::Defined(number)),
         Entry::Term(_) => Ok(Callee::Operandless),
     }

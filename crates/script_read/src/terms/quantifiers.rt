@@ -14,8 +14,8 @@ ghost use Rattle.script_read.specs.Reading.{Sofar as Known};
 ghost use Rattle.script_read.specs.Parts.{quantifier_word};
 ghost use Rattle.script_read.specs.Read.{has_sort};
 ghost use Rattle.script_read.specs.Quantifiers.{quantifier_of, operator_of};
-ghost use Rattle.script_read.specs.Known.{IsSpared};
-ghost use Rattle.script_read.specs.Bound.{IsConstant, variables_of, entered};
+ghost use Rattle.script_read.specs.Known.{IsSpared, IsConstant};
+ghost use Rattle.script_read.specs.Bound.{variables_of, entered};
 ghost use Rattle.script_read.specs.Places.{IsRead, IsForm, SparesText, form_from};
 ghost use Rattle.script_read.specs.TermClauses.{ReadsAlone};
 

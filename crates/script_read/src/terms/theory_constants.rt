@@ -13,8 +13,8 @@ ghost use Rattle.script_read.specs.Heads.{vector_of_width};
 ghost use Rattle.script_read.specs.Known.{IsSpared};
 
 use crate::causes::Cause;
+use crate::numbers::number_of;
 use crate::places::GREATEST;
-use crate::terms::numbers::number_of;
 use smt_lex::Item;
 use smt_terms::{NodeId, Op};
 use std::alloc::AllocError;

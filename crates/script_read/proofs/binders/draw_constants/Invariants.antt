@@ -2,7 +2,8 @@ use Rattle.std.proofs.Common.{◌≡◌, ◌++◌, drop, All}
 use Rattle.term_walk.specs.Walking.{GrowsTo}
 use Rattle.term_subst.specs.Substituting.{IsLater}
 use Rattle.script_read.specs.BinderSteps.{all_drawn}
-use Rattle.script_read.specs.Bound.{IsConstant, is_taken_in, symbols_seen, variables_seen}
+use Rattle.script_read.specs.Bound.{is_taken_in, symbols_seen, variables_seen}
+use Rattle.script_read.specs.Known.{IsConstant}
 use Rattle.script_read.proofs.binders.draw_constants.Given as goal
 
 abbrev pub invariant-loop-variable : goal.invariant-loop-variable

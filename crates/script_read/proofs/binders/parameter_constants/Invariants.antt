@@ -2,8 +2,8 @@ use Rattle.std.proofs.Common.{◌≡◌, map, take, All}
 use Rattle.smt_terms.specs.Fresh.{Supply}
 use Rattle.smt_values.specs.SortIds.{sort_at}
 use Rattle.term_walk.specs.Walking.{GrowsTo}
-use Rattle.script_read.specs.Bound.{IsConstant, symbols_seen}
-use Rattle.script_read.specs.Known.{parameters_of}
+use Rattle.script_read.specs.Bound.{symbols_seen}
+use Rattle.script_read.specs.Known.{parameters_of, IsConstant}
 use Rattle.script_read.proofs.binders.parameter_constants.Given as goal
 
 abbrev pub invariant-loop-number : goal.invariant-loop-number

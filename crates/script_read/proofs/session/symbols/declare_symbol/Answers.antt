@@ -3,20 +3,21 @@ use Rattle.std.proofs.lemmas.List.Elements.{All-weaker}
 use Rattle.smt_lex.specs.Forms.{Form, Forms}
 use Rattle.smt_lex.specs.Names.{Name}
 use Rattle.smt_terms.specs.declared.ids.SortId.{SortId}
+use Rattle.smt_terms.specs.Fresh.{NeverGives}
+use Rattle.smt_terms.specs.Sorts.{Symbol}
 use Rattle.smt_values.specs.SortIds.{sort_at, IsSortId, IsPlain}
-use Rattle.term_table.specs.Formulas.{Formulas, symbol_over}
+use Rattle.term_table.specs.Formulas.{Formulas, symbol_at, symbol_over}
 use Rattle.term_walk.specs.Walking.{GrowsTo}
 use Rattle.term_walk.proofs.Visits.{table-grows}
 use Rattle.script_read.specs.Bound.{name_at}
-use Rattle.script_read.specs.Known.{with_entry}
-use Rattle.script_read.specs.declared.scopes.Entry.TheVariants.{Symbol as SymbolEntry}
+use Rattle.script_read.specs.Known.{IsEntry, symbol_meant, meant_by, with_entry}
 use Rattle.script_read.specs.Places.{form_from}
 use Rattle.script_read.specs.ShapeClauses.{named_at, listed_at}
 use Rattle.script_read.specs.Replies.{refused_seen}
 use Rattle.script_read.specs.Script.{symbol_of_sorts}
 use Rattle.script_read.specs.SortForms.{sort_in, sorts_in}
 use Rattle.script_read.specs.Steps.{one}
-use Rattle.script_read.proofs.Grown.{grown_self, grown_symbols, later_self, same_map, sort_stays}
+use Rattle.script_read.proofs.Grown.{grown_self, grown_symbols, later_self, same_map, sort_stays, symbol_stays}
 use Rattle.script_read.proofs.Lexemes.{symbol_plain}
 use Rattle.script_read.proofs.Placing.{form_within}
 use Rattle.script_read.proofs.Showing.{sorts_found, sorts_known_stay}
@@ -67,13 +68,21 @@ returns-clause-step c = λ s stands.
     let arguments : Forms = listed_at c.args.forest.now.tokens c.args.arguments in
     let to : Form = form_from c.args.forest.now.tokens c.args.sort in
     let made : GrowsTo c.read_sort.new.table c.symbol.new.self = grown_symbols c.read_sort.new.table c.symbol.new.self c.in_ok-symbol.ensures.grows c.in_ok-symbol.ensures.sorts c.in_ok-symbol.ensures.trees in
-    let grows : GrowsTo c.args.table.now c.symbol.new.self = table-grows c.args.table.now c.argument_sorts.new.table c.symbol.new.self c.in_ok-arguments.ensures.grows (table-grows c.argument_sorts.new.table c.read_sort.new.table c.symbol.new.self c.in_ok-sort.ensures.grows made) in
-    symbol_declared c.args.table.now c.symbol.new.self c.args.session.now s stands grows (named_at c.args.forest.now.tokens c.args.name) arguments to
+    let read : GrowsTo c.args.table.now c.symbol.new.self = table-grows c.args.table.now c.argument_sorts.new.table c.symbol.new.self c.in_ok-arguments.ensures.grows (table-grows c.argument_sorts.new.table c.read_sort.new.table c.symbol.new.self c.in_ok-sort.ensures.grows made) in
+    let grows : GrowsTo c.args.table.now c.symbol_entry.new.table = table-grows c.args.table.now c.symbol.new.self c.symbol_entry.new.table read c.in_ok-entry.ensures.grows in
+    let k = c.in_ok-symbol.symbol in
+    let is : symbol_at c.symbol.new.self k ≡ symbol_of_sorts (name_at c.args.forest.now.tokens c.args.name) (map (sort_at c.argument_sorts.new.table.sorts) c.in_ok-arguments.arguments.items) (sort_at c.read_sort.new.table.sorts c.in_ok-sort.sort) =
+    c.in_ok-symbol.ensures.symbol ∙ ap (λ ks. symbol_over c.read_sort.new.table.sorts c.name.result.now ks c.in_ok-sort.sort) c.deref.ensures.value ∙ over_earlier c.argument_sorts.new.table c.read_sort.new.table (name_at c.args.forest.now.tokens c.args.name) c.name.result.now c.in_ok-arguments.arguments.items c.in_ok-sort.sort c.in_ok-sort.ensures.grows c.in_ok-arguments.ensures.within c.name.ensures in
+    let never : NeverGives c.args.session.now.sofar.fresh (name_at c.args.forest.now.tokens c.args.name) =
+    c.requires.text c.args.name (name_at c.args.forest.now.tokens c.args.name) (form_within c.args.forest.now.tokens c.args.name c.requires.name.form) c.requires.name.symbol in
+    let named : (symbol_at c.symbol.new.self k).name ≡ name_at c.args.forest.now.tokens c.args.name = ap (λ (g : Symbol). g.name) is in
+    symbol_declared c.args.table.now c.symbol_entry.new.table c.args.session.now s stands grows (named_at c.args.forest.now.tokens c.args.name) arguments to
     c.in_ok-check_new_name.field-0 (c.in_ok-check_new_name.ensures.test c.args.table.now c.args.session.now.sofar.fresh s.sofar.live stands.shows)
-    (map (sort_at c.argument_sorts.new.table.sorts) c.in_ok-arguments.arguments.items) (sort_at c.read_sort.new.table.sorts c.in_ok-sort.sort) c.in_ok-symbol.symbol c.bind.new.self
+    (map (sort_at c.argument_sorts.new.table.sorts) c.in_ok-arguments.arguments.items) (sort_at c.read_sort.new.table.sorts c.in_ok-sort.sort) k c.in_ok-entry.entry c.bind.new.self
     (ap (λ known. sorts_in known arguments) (sym (sorts_found c.args.table.now c.args.session.now.sofar.scope s.sofar.live stands.shows.sorts)) ∙ c.in_ok-arguments.ensures.sorts)
     (ap (λ known. sort_in known to) (sym (sorts_known_stay c.args.table.now c.argument_sorts.new.table c.args.session.now.sofar.fresh c.args.session.now.sofar.fresh c.in_ok-arguments.ensures.grows (later_self c.args.session.now.sofar.fresh) c.args.session.now.sofar.scope s.sofar.live stands.shows)) ∙ c.in_ok-sort.ensures.sort)
-    c.in_ok-symbol.ensures.within
-    (c.in_ok-symbol.ensures.symbol ∙ ap (λ ks. symbol_over c.read_sort.new.table.sorts c.name.result.now ks c.in_ok-sort.sort) c.deref.ensures.value ∙ over_earlier c.argument_sorts.new.table c.read_sort.new.table (name_at c.args.forest.now.tokens c.args.name) c.name.result.now c.in_ok-arguments.arguments.items c.in_ok-sort.sort c.in_ok-sort.ensures.grows c.in_ok-arguments.ensures.within c.name.ensures)
-    (c.requires.text c.args.name (name_at c.args.forest.now.tokens c.args.name) (form_within c.args.forest.now.tokens c.args.name c.requires.name.form) c.requires.name.symbol)
-    (c.in_ok-bind.ensures.entry ∙ ap (λ n. with_entry n (SymbolEntry c.in_ok-symbol.symbol) c.args.session.now.sofar.scope) c.name-2.ensures)
+    (symbol_stays c.symbol.new.self c.symbol_entry.new.table c.in_ok-entry.ensures.grows k c.in_ok-symbol.ensures.within ∙ is)
+    (subst (λ n. IsEntry c.symbol_entry.new.table c.args.session.now.sofar.fresh c.args.session.now.sofar.scope.definitions n c.in_ok-entry.entry) named
+    (c.in_ok-entry.ensures.entry c.args.session.now.sofar.fresh c.args.session.now.sofar.scope.definitions (subst (NeverGives c.args.session.now.sofar.fresh) (sym named) never)))
+    (c.in_ok-entry.ensures.meant c.args.session.now.sofar.scope.definitions ∙ ap symbol_meant is)
+    (c.in_ok-bind.ensures.entry ∙ ap (λ n. with_entry n c.in_ok-entry.entry c.args.session.now.sofar.scope) c.name-2.ensures)

@@ -1,6 +1,6 @@
 use Rattle.std.proofs.Common.{◌≡◌, ◌≢◌, length, Some, rules, ap, ◌∙◌}
 use Rattle.script_read.specs.declared.causes.Cause.TheVariants.{BadForm}
-use Rattle.script_read.specs.declared.scopes.Entry.TheVariants.{Symbol, Definition, Term}
+use Rattle.script_read.specs.declared.scopes.Entry.TheVariants.{Symbol, Constant, Definition, Term}
 use Rattle.script_read.specs.Heads.{live_head}
 use Rattle.script_read.specs.HeadClauses.{world_of}
 use Rattle.script_read.specs.Reading.{entry_of}
@@ -17,6 +17,11 @@ pub returns-in-Symbol : goal.returns-in-Symbol
 returns-in-Symbol c ts t supply s live n fs ns shows found are =
     let none : length c.args.indices.now.values.items ≡ 0 = search rules in
     live_called ts t supply s live shows c.args.place n fs (Symbol c.in-Symbol.f) ns (found ∙ ap Some c.in-Symbol.is) (no_indices ts (world_of t supply s) c.args.place fs ns c.args.indices.now are none)
+
+pub returns-in-Constant : goal.returns-in-Constant
+returns-in-Constant c ts t supply s live n fs ns shows found are =
+    let none : length c.args.indices.now.values.items ≡ 0 = search rules in
+    live_called ts t supply s live shows c.args.place n fs (Constant c.in-Constant.constant) ns (found ∙ ap Some c.in-Constant.is) (no_indices ts (world_of t supply s) c.args.place fs ns c.args.indices.now are none)
 
 pub returns-in-Definition : goal.returns-in-Definition
 returns-in-Definition c ts t supply s live n fs ns shows found are =

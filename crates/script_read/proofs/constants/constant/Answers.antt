@@ -1,5 +1,5 @@
 use Rattle.script_read.proofs.DrawnConstants.{makes-constant, constant-made}
-use Rattle.script_read.proofs.binders.constant.Goals as goal
+use Rattle.script_read.proofs.constants.constant.Goals as goal
 
 pub intern-requires : goal.intern-requires
 intern-requires c = makes-constant c.args.table.now c.args.symbol c.len.ensures.table c.requires.within c.requires.args
