@@ -25,10 +25,10 @@ pub fn make(_alloc: Global, table: &mut Table, op: Op, kids: &[NodeId]) -> Resul
     ensures sorts { table.new.sorts ≡ table.old.sorts }
     ensures err { OnErr result (IsUnchanged table.old table.new) }
 {
-    table.rank(op, kids)?;
+    let sort = table.rank(op, kids)?;
     match op {
         Op::Neg => Ok(table.minus(kids[0])?),
-        _ => Ok(table.intern(op, kids)?),
+        _ => Ok(table.intern_of_sort(op, kids, sort)?),
     }
 }
 

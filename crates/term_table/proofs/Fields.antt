@@ -24,7 +24,7 @@ use Rattle.term_table.proofs.Fits.{AllGood, kind_term-sort, kind_term-operands, 
 
 -- ---- a key that isn't found
 
-lookup_none : (test : Node → Bool) (es : List (Node × SortId)) (i : ℕ) (e : Node × SortId) → lookup test es ≡ None → i < length es → test (get_or es i e).0 ≡ true → ⊥
+pub lookup_none : (test : Node → Bool) (es : List (Node × SortId)) (i : ℕ) (e : Node × SortId) → lookup test es ≡ None → i < length es → test (get_or es i e).0 ≡ true → ⊥
 lookup_none test [] i e none lt h = absurd (omega arith)
 lookup_none test (x ∷ es) zero e none lt h =
     let found : cond (test x.0) (Some x.1) (lookup test es) ≡ Some x.1 = ap (λ b. cond b (Some x.1) (lookup test es)) h in
@@ -35,16 +35,16 @@ lookup_none test (x ∷ es) (suc i) e none lt h = lookup_none test es i e (rest 
     rest true n = absurd cc
     rest false n = n
 
--- the place of a key that is found
-abbrev pub FoundAt : (Node → Bool) → List (Node × SortId) → Type 0
-FoundAt test es = (i : ℕ) × (i < length es) × ((d : Node × SortId) → test (get_or es i d).0 ≡ true)
+-- the place of a key that is found with this value
+abbrev pub FoundAt : (Node → Bool) → List (Node × SortId) → SortId → Type 0
+FoundAt test es v = (i : ℕ) × (i < length es) × ((d : Node × SortId) → (test (get_or es i d).0 ≡ true) × ((get_or es i d).1 ≡ v))
 
 found_step : (test : Node → Bool) (x : Node × SortId) (es : List (Node × SortId)) (v : SortId) (b : Bool) → test x.0 ≡ b → cond b (Some x.1) (lookup test es) ≡ Some v
-    → (lookup test es ≡ Some v → FoundAt test es) → FoundAt test (x ∷ es)
-found_step test x es v true h e rest = (0, omega arith, λ d. h)
+    → (lookup test es ≡ Some v → FoundAt test es v) → FoundAt test (x ∷ es) v
+found_step test x es v true h e rest = let value : x.1 ≡ v = cc in (0, omega arith, λ d. (h, value))
 found_step test x es v false h e rest = let r = rest e in (suc r.0, omega arith, r.2)
 
-lookup_some : (test : Node → Bool) (es : List (Node × SortId)) (v : SortId) → lookup test es ≡ Some v → FoundAt test es
+pub lookup_some : (test : Node → Bool) (es : List (Node × SortId)) (v : SortId) → lookup test es ≡ Some v → FoundAt test es v
 lookup_some test [] v e = absurd cc
 lookup_some test (x ∷ es) v e = found_step test x es v (test x.0) refl e (lookup_some test es v)
 
@@ -145,7 +145,7 @@ module _ (ss : List Sort) (fs : List Entry) (es : List (Node × SortId)) (h : Is
   -- ---- look-ups
 
   -- a row that is the same as the one sought is the node of its operator and operands
-  node_at : (n : Node) (i : ℕ) (spare : ℕ) (d : Node × SortId) → i < length es → node_eq n (get_or es i d).0 ≡ true → IsNodeOf (formulas_of ss fs es spare) n.op n.kids.items (record { 0 = i })
+  pub node_at : (n : Node) (i : ℕ) (spare : ℕ) (d : Node × SortId) → i < length es → node_eq n (get_or es i d).0 ≡ true → IsNodeOf (formulas_of ss fs es spare) n.op n.kids.items (record { 0 = i })
   node_at n i spare d within e =
       let same = node_eq-true n (get_or es i d).0 e in
       let at = row_at i (get_or es i d) (slice_get-get_or es i d within) in
@@ -190,33 +190,47 @@ module _ (ss : List Sort) (fs : List Entry) (es : List (Node × SortId)) (h : Is
 
   -- ---- one node more
 
-  -- what makes a node that isn't there
-  pub record IsNew (n : Node) (sort : SortId) : Type 0 where
+  -- what makes a node
+  pub record MakesNode (n : Node) (sort : SortId) : Type 0 where
     pub kids : All (λ k. k.0 < length all) n.kids.items
     pub numbers : IsKindOf (symbols_of ss fs) ss (kind n.op)
     pub within : IsSortId ss sort
     pub ranked : kind_rank (symbols_of ss fs) ss (kind n.op) (map (tree_in all) n.kids.items) ≡ Ok (sort_at ss sort)
     pub minus : is_minus_over n.op (map (tree_in all) n.kids.items) ≡ false
-    pub absent : lookup (node_eq n) es ≡ None
+
+  -- the same, from what the contracts say
+  pub makes_node : (n : Node) (sort : SortId) (spare : ℕ) (t : Formulas) → formulas_of ss fs es spare ≡ t → Makes t n.op n.kids.items
+      → rank_over t n.op (trees_at t n.kids.items) ≡ Ok (sort_at t.sorts sort) → IsSortId t.sorts sort → MakesNode n sort
+  makes_node n sort spare t e =
+      let P : Formulas → Type 0 = λ u. Makes u n.op n.kids.items → rank_over u n.op (trees_at u n.kids.items) ≡ Ok (sort_at u.sorts sort) → IsSortId u.sorts sort → MakesNode n sort in
+      subst P e (λ makes ranked within. record { kids = makes.kids; numbers = makes.numbers; within = within; ranked = ranked; minus = makes.minus })
+
+  pub node_sort : (n : Node) (sort : SortId) → MakesNode n sort → sort_of (kind_term (symbols_of ss fs) ss (kind n.op) (map (tree_in all) n.kids.items)) ≡ Some (sort_at ss sort)
+  node_sort n sort makes = kind_term-sort (symbols_of ss fs) ss (kind n.op) (map (tree_in all) n.kids.items) (sort_at ss sort) (good_at n.kids.items makes.kids) makes.ranked
 
   pub trees_pushed : (n : Node) (sort : SortId)
       → grown (symbols_of ss fs) ss [] (map row_of (es ++ (n, sort) ∷ [])) ≡ all ++ kind_term (symbols_of ss fs) ss (kind n.op) (map (tree_in all) n.kids.items) ∷ []
   trees_pushed n sort = ap (grown (symbols_of ss fs) ss []) (map-append row_of es ((n, sort) ∷ [])) ∙ grown-push (symbols_of ss fs) ss [] (map row_of es) (row_of (n, sort))
 
-  pub kept_pushed : (n : Node) (sort : SortId) → IsNew n sort → IsKept ss fs (es ++ (n, sort) ∷ [])
-  kept_pushed n sort new =
+  -- the term isn't there where the node isn't
+  term_absent : (n : Node) (sort : SortId) → MakesNode n sort → lookup (node_eq n) es ≡ None → (i : ℕ) → i < length all
+      → get_or all i no_tree ≡ kind_term (symbols_of ss fs) ss (kind n.op) (map (tree_in all) n.kids.items) → ⊥
+  term_absent n sort makes none i lt e =
+      let operands_same = kind_term-operands (symbols_of ss fs) ss (kind n.op) (map (tree_in all) n.kids.items) (sort_at ss sort) makes.ranked in
+      node_absent n 0 none makes.kids makes.numbers (record { 0 = i }) (record { node = lt; term = e; kids = ap operands e ∙ operands_same })
+
+  pub kept_pushed : (n : Node) (sort : SortId) → MakesNode n sort → lookup (node_eq n) es ≡ None → IsKept ss fs (es ++ (n, sort) ∷ [])
+  kept_pushed n sort makes none =
       let us = map (tree_in all) n.kids.items in
-      let good : AllGood us = good_at n.kids.items new.kids in
       let k = kind n.op in
-      let operands_same = kind_term-operands (symbols_of ss fs) ss k us (sort_at ss sort) new.ranked in
       let fits : FitsRow (symbols_of ss fs) ss all (row_of (n, sort)) = record {
-        kids = new.kids;
-        numbers = new.numbers;
-        sort = new.within;
-        sorted = kind_term-sort (symbols_of ss fs) ss k us (sort_at ss sort) good new.ranked;
-        regular = kind_term-regular (symbols_of ss fs) ss h.sorts symbols_sorted n.op k us (sort_at ss sort) refl good new.numbers new.ranked new.minus;
-        operands = operands_same;
-        new = λ i lt e. node_absent n 0 new.absent new.kids new.numbers (record { 0 = i }) (record { node = lt; term = e; kids = ap operands e ∙ operands_same });
+        kids = makes.kids;
+        numbers = makes.numbers;
+        sort = makes.within;
+        sorted = node_sort n sort makes;
+        regular = kind_term-regular (symbols_of ss fs) ss h.sorts symbols_sorted n.op k us (sort_at ss sort) refl (good_at n.kids.items makes.kids) makes.numbers makes.ranked makes.minus;
+        operands = kind_term-operands (symbols_of ss fs) ss k us (sort_at ss sort) makes.ranked;
+        new = term_absent n sort makes none;
       } in
       record {
         sorts = h.sorts;
@@ -225,36 +239,7 @@ module _ (ss : List Sort) (fs : List Entry) (es : List (Node × SortId)) (h : Is
         rows = subst (RowsFit (symbols_of ss fs) ss []) (sym (map-append row_of es ((n, sort) ∷ []))) (RowsFit-push (symbols_of ss fs) ss [] (map row_of es) (row_of (n, sort)) h.rows fits);
       }
 
-  -- the term isn't there either
-  pub term_absent : (n : Node) (sort : SortId) → IsNew n sort → (i : ℕ) → i < length all → get_or all i no_tree ≡ kind_term (symbols_of ss fs) ss (kind n.op) (map (tree_in all) n.kids.items) → ⊥
-  term_absent n sort new i lt e =
-      let operands_same = kind_term-operands (symbols_of ss fs) ss (kind n.op) (map (tree_in all) n.kids.items) (sort_at ss sort) new.ranked in
-      node_absent n 0 new.absent new.kids new.numbers (record { 0 = i }) (record { node = lt; term = e; kids = ap operands e ∙ operands_same })
-
-  -- the same, from what the contracts say
-  new_none : (n : Node) (spare : ℕ) → ((k : NodeId) → IsNodeOf (formulas_of ss fs es spare) n.op n.kids.items k → ⊥) → lookup (node_eq n) es ≡ None
-  new_none n spare new = by es refl
-    where
-      some : (x : Node × SortId) (v : SortId) → lookup (node_eq n) es ≡ Some v → ⊥
-      some x v e =
-          let found = lookup_some (node_eq n) es v e in
-          new (record { 0 = found.0 }) (node_at n found.0 spare x found.1 (found.2 x))
-
-      by : (xs : List (Node × SortId)) → es ≡ xs → lookup (node_eq n) es ≡ None
-      by [] f = ap (lookup (node_eq n)) f
-      by (x ∷ xs) f = none (lookup (node_eq n) es) (some x)
-        where
-          none : (o : Option SortId) → ((v : SortId) → o ≡ Some v → ⊥) → o ≡ None
-          none None h = refl
-          none (Some v) h = absurd (h v refl)
-
-  pub is_new : (n : Node) (sort : SortId) (spare : ℕ) (t : Formulas) → formulas_of ss fs es spare ≡ t → Makes t n.op n.kids.items → IsSortId t.sorts sort
-      → rank_over t n.op (trees_at t n.kids.items) ≡ Ok (sort_at t.sorts sort) → ((k : NodeId) → IsNodeOf t n.op n.kids.items k → ⊥) → IsNew n sort
-  is_new n sort spare t e =
-      let P : Formulas → Type 0 = λ u. Makes u n.op n.kids.items → IsSortId u.sorts sort → rank_over u n.op (trees_at u n.kids.items) ≡ Ok (sort_at u.sorts sort) → ((k : NodeId) → IsNodeOf u n.op n.kids.items k → ⊥) → IsNew n sort in
-      subst P e (λ makes within ranked new. record { kids = makes.kids; numbers = makes.numbers; within = within; ranked = ranked; minus = makes.minus; absent = new_none n spare new })
-
-  pub not_contained : (n : Node) (sort : SortId) → IsNew n sort → Contains all (kind_term (symbols_of ss fs) ss (kind n.op) (map (tree_in all) n.kids.items)) → ⊥
-  not_contained n sort new is =
+  pub not_contained : (n : Node) (sort : SortId) → MakesNode n sort → lookup (node_eq n) es ≡ None → Contains all (kind_term (symbols_of ss fs) ss (kind n.op) (map (tree_in all) n.kids.items)) → ⊥
+  not_contained n sort makes none is =
       let term = kind_term (symbols_of ss fs) ss (kind n.op) (map (tree_in all) n.kids.items) in
-      term_absent n sort new is.0 is.1 (in_list all is.0 no_tree term is.1 ∙ is.2)
+      term_absent n sort makes none is.0 is.1 (in_list all is.0 no_tree term is.1 ∙ is.2)

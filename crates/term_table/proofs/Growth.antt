@@ -1,17 +1,19 @@
 -- A list with one element more, and the same list, seen by their places.
-use Rattle.std.proofs.Common.{◌≡◌, ℕ, ◌+◌, ◌<◌, inl, inr, List, [], ◌∷◌, ◌++◌, length, get_or, Contains, ap, ◌∙◌, arith, length-append}
+use Rattle.std.proofs.Common.{◌≡◌, ℕ, zero, suc, ◌+◌, ◌<◌, inl, inr, ◌⊎◌, List, [], ◌∷◌, ◌++◌, length, get_or, Contains, ap, ◌∙◌, arith, length-append}
 use Rattle.std.proofs.Math.ListN.{get_or-append}
 use Rattle.std.proofs.Math.Seq.{get_or-append_seam}
 use Rattle.term_table.specs.Formulas.{Adds, GrowsByOne}
+
+pub either_place : (n i : ℕ) → i < n + 1 → (i < n) ⊎ (i ≡ n)
+either_place zero i lt = inr (omega arith)
+either_place (suc n) zero lt = inl (omega arith)
+either_place (suc n) (suc i) lt = elim (either_place n i (omega arith)) [ inl a ↦ inl (omega arith) | inr b ↦ inr (ap suc b) ]
 
 module _ {X : Type 0} (old new : List X) where
   pub grows-same : new ≡ old → GrowsByOne old new
   grows-same e =
       let count : length new ≡ length old = ap length e in
       record { grows = record { longer = omega arith; same = λ i d lt. ap (λ xs. get_or xs i d) e }; one = omega arith }
-
-  pub adds-same : (x : X) → new ≡ old → Adds old new x
-  adds-same x e = inl e
 
   module _ (x : X) (e : new ≡ old ++ x ∷ []) where
     length_pushed : length new ≡ length old + 1

@@ -8,6 +8,7 @@ mod Minus
 mod Rows
 pub mod Fields
 pub mod Growth
+mod Inserted
 pub mod Symbols
 pub mod Ranks
 pub mod Binding

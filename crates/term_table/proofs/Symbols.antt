@@ -1,5 +1,5 @@
 -- One symbol more, and more sorts, leave the terms as they are.
-use Rattle.std.proofs.Common.{◌≡◌, ℕ, zero, suc, ◌+◌, ◌<◌, ◌≤◌, ◌⊎◌, inl, inr, Bool, true, false, if◌then◌else◌, List, [], ◌∷◌, ◌++◌, length, map, get_or, All, Contains, Some, refl, ap, sym, ◌∙◌, subst, arith, length-append}
+use Rattle.std.proofs.Common.{◌≡◌, ℕ, suc, ◌+◌, ◌<◌, ◌≤◌, inl, inr, Bool, true, false, if◌then◌else◌, List, [], ◌∷◌, ◌++◌, length, map, get_or, All, Contains, Some, refl, ap, sym, ◌∙◌, subst, arith, length-append}
 use Rattle.std.specs.List.{slice_get, list_any}
 use Rattle.std.proofs.Math.ListN.{get_or-append}
 use Rattle.std.proofs.Math.Seq.{get_or-append_seam}
@@ -16,7 +16,7 @@ use Rattle.term_table.specs.declared.table.Entry.{Entry}
 use Rattle.term_table.specs.Formulas.{no_symbol, Adds, GrowsByOne}
 use Rattle.term_table.specs.View.{row_of, symbol_of, grown, FitsEntry, symbols_of, IsKept}
 use Rattle.term_table.proofs.Derived.{entry_eq, entry_eq-true, entry_eq-from}
-use Rattle.term_table.proofs.Growth.{grows-same, grows-push, seam-push}
+use Rattle.term_table.proofs.Growth.{either_place, grows-same, grows-push, seam-push}
 use Rattle.term_table.proofs.Larger.{IsLarger, grown-larger, RowsFit-larger}
 use Rattle.term_table.proofs.Fields.{in_list}
 
@@ -46,11 +46,6 @@ symbol_of-same ss e f h =
     λ i. record { name = told.0 i; args = map (sort_at ss) (told.1 i); result = sort_at ss (told.2 i) }
 
 -- ---- one symbol more
-
-either_place : (n i : ℕ) → i < n + 1 → (i < n) ⊎ (i ≡ n)
-either_place zero i lt = inr (omega arith)
-either_place (suc n) zero lt = inl (omega arith)
-either_place (suc n) (suc i) lt = elim (either_place n i (omega arith)) [ inl a ↦ inl (omega arith) | inr b ↦ inr (ap suc b) ]
 
 module _ (ss : List Sort) (fs : List Entry) (es : List (Node × SortId)) (h : IsKept ss fs es) (e : Entry) (fits : FitsEntry ss e) where
   abbrev pushed : List Entry

@@ -170,40 +170,41 @@ impl Table {
         ensures spare { self.old.spare ≤ self.new.spare + 1 }
         ensures err { OnErr result (IsUnchanged self.old self.new) }
     {
+        let sort = self.rank(op, kids).unwrap();
+        self.intern_of_sort(op, kids, sort)
+    }
+
+    /// As `intern`, where the sort of the node is known.
+    pub fn intern_of_sort(
+        &mut self,
+        op: Op,
+        kids: &[NodeId],
+        sort: SortId,
+    ) -> Result<NodeId, AllocError>
+        requires makes { Makes self.old op kids.now }
+        requires rank { rank_over self.old op (trees_at self.old kids.now) ≡ Ok (sort_at self.old.sorts sort) }
+        requires sort { IsSortId self.old.sorts sort }
+        ensures node { IfOk result (λ k. IsNode self.new k) }
+        ensures term { IfOk result (λ k. tree self.new k ≡ term_over self.old op (trees_at self.old kids.now)) }
+        ensures grows { GrowsByOne self.old.trees self.new.trees }
+        ensures added { Adds self.old.trees self.new.trees (term_over self.old op (trees_at self.old kids.now)) }
+        ensures symbols { self.new.symbols ≡ self.old.symbols }
+        ensures sorts { self.new.sorts ≡ self.old.sorts }
+        ensures spare { self.old.spare ≤ self.new.spare + 1 }
+        ensures err { OnErr result (IsUnchanged self.old self.new) }
+    {
         let node = Node {
             op,
             kids: SmallVec::from_slice(self.alloc, kids)?,
         };
-        let id = self.intern_node(node)?;
+        let id = self.intern_node(node, sort)?;
         Ok(id)
     }
 
-    fn intern_node(&mut self, node: Node) -> Result<NodeId, AllocError>
-        requires { Makes self.old node.op node.kids.items }
-        ensures node { IfOk result (λ k. IsNode self.new k) }
-        ensures term { IfOk result (λ k. tree self.new k ≡ term_over self.old node.op (trees_at self.old node.kids.items)) }
-        ensures grows { GrowsByOne self.old.trees self.new.trees }
-        ensures added { Adds self.old.trees self.new.trees (term_over self.old node.op (trees_at self.old node.kids.items)) }
-        ensures symbols { self.new.symbols ≡ self.old.symbols }
-        ensures sorts { self.new.sorts ≡ self.old.sorts }
-        ensures spare { self.old.spare ≤ self.new.spare + 1 }
-        ensures succeeds { 0 < self.old.spare → IsOk result }
-        ensures err { OnErr result (IsUnchanged self.old self.new) }
-    {
-        if let Some(id) = self.place(&node) {
-            return Ok(id);
-        }
-        match self.rank(node.op, node.kids.as_slice()) {
-            Ok(sort) => self.add(node, sort),
-            Err(_) => unreachable!(),
-        }
-    }
-
-    fn add(&mut self, node: Node, sort: SortId) -> Result<NodeId, AllocError>
+    fn intern_node(&mut self, node: Node, sort: SortId) -> Result<NodeId, AllocError>
         requires makes { Makes self.old node.op node.kids.items }
-        requires sort { IsSortId self.old.sorts sort }
         requires rank { rank_over self.old node.op (trees_at self.old node.kids.items) ≡ Ok (sort_at self.old.sorts sort) }
-        requires new { (k : NodeId) → IsNodeOf self.old node.op node.kids.items k → ⊥ }
+        requires sort { IsSortId self.old.sorts sort }
         ensures node { IfOk result (λ k. IsNode self.new k) }
         ensures term { IfOk result (λ k. tree self.new k ≡ term_over self.old node.op (trees_at self.old node.kids.items)) }
         ensures grows { GrowsByOne self.old.trees self.new.trees }
@@ -214,8 +215,7 @@ impl Table {
         ensures succeeds { 0 < self.old.spare → IsOk result }
         ensures err { OnErr result (IsUnchanged self.old self.new) }
     {
-        let place = self.nodes.len();
-        self.nodes.insert(node, sort)?;
+        let (place, _) = self.nodes.insert_full(node, sort)?;
         Ok(NodeId(place as u64))
     }
 
@@ -242,11 +242,12 @@ impl Table {
         ensures sorts { self.new.sorts ≡ self.old.sorts }
         ensures spare { self.old.spare ≤ self.new.spare + 1 }
     {
+        let sort = self.rank(op, kids).unwrap();
         let node = Node {
             op,
             kids: SmallVec::from_slice(self.alloc, kids).unwrap(),
         };
-        self.intern_node(node).unwrap()
+        self.intern_node(node, sort).unwrap()
     }
 
     /// The unary minus of an integer node, or the constant of the other sign where the node is a constant.
