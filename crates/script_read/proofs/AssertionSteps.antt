@@ -10,9 +10,9 @@ use Rattle.term_table.specs.Formulas.{Formulas, tree}
 use Rattle.script_read.specs.declared.causes.Cause.TheVariants.{WrongSort}
 use Rattle.script_read.specs.declared.scripts.Command.TheVariants.{Assert}
 use Rattle.script_read.specs.declared.session.Session.{Session}
-use Rattle.script_read.specs.Bound.{LocalNames, locals_shown, IsLocal, AreLocals, ShowsLocals}
+use Rattle.script_read.specs.Bound.{LocalNames, locals_shown, IsLocal, AreLocals, HaveOwnNames, ShowsLocals}
 use Rattle.script_read.specs.Commands.{assert}
-use Rattle.script_read.specs.Known.{Scoping, Gives}
+use Rattle.script_read.specs.Known.{Scoping, IsOwnName, Gives}
 use Rattle.script_read.specs.Parts.{place_of}
 use Rattle.script_read.specs.Read.{has_sort, read}
 use Rattle.script_read.specs.Reading.{Sofar}
@@ -22,7 +22,7 @@ use Rattle.script_read.specs.Steps.{StandsAt, Steps}
 
 -- nothing is bound locally
 pub no_locals : (t : Formulas) (supply : Supply) (ps : LocalNames) → ps ≡ [] → ShowsLocals t supply ps []
-no_locals t supply ps is = record { names = ap (locals_shown t) is; numbers = subst (AreLocals t supply) (sym is) (All-nil (λ p. IsLocal t supply p.1)) }
+no_locals t supply ps is = record { names = ap (locals_shown t) is; numbers = subst (AreLocals t supply) (sym is) (All-nil (λ p. IsLocal t supply p.1)); own = subst HaveOwnNames (sym is) (All-nil (λ p. IsOwnName p.0)) }
 
 -- a session behind an assertion
 abbrev pub asserted_at : Session → Scoping → Supply → ℕ → Session

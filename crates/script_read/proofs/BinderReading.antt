@@ -111,7 +111,7 @@ same-more ms ns ks n same is m = ap (λ b. name_eq n m || b) (same m) ∙ sym (w
 
 module _ (u v : Formulas) (more : Grows u.sorts v.sorts) (ts : List Token) where
   sorted_name_stays : (x : SortedName) → IsSortedName u ts x → IsSortedName v ts x
-  sorted_name_stays x is = record { token = is.token; symbol = is.symbol; sort = sort_within u.sorts v.sorts more x.sort is.sort }
+  sorted_name_stays x is = record { token = is.token; symbol = is.symbol; own = is.own; sort = sort_within u.sorts v.sorts more x.sort is.sort }
 
   pub sorted_names_stay : (xs : List SortedName) → AreSortedNames u ts xs → AreSortedNames v ts xs
   sorted_names_stay xs all = All-weaker (IsSortedName u ts) (IsSortedName v ts) sorted_name_stays xs all

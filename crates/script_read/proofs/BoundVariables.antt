@@ -26,7 +26,7 @@ use Rattle.script_read.specs.Variables.{quantifier_binder, may_have, variables_i
 use Rattle.script_read.specs.Reading.{ReadLocal, quantified_as}
 use Rattle.script_read.specs.Read.{is_empty, name_drawn_if, constant_names, renamed, with_quantified}
 use Rattle.script_read.specs.Script.{names_with_all}
-use Rattle.script_read.specs.Known.{Scoping, Scoped, find, sorts_known, IsScopedSort, AreScopedSorts, IsConstant}
+use Rattle.script_read.specs.Known.{Scoping, Scoped, find, sorts_known, IsScopedSort, AreScopedSorts, IsConstant, IsOwnName}
 use Rattle.script_read.specs.Bound.{LocalNames, quantified_meant, locals_shown, IsLocal, ShowsLocals, name_at, variable_seen, variables_seen, symbols_seen, variable_for, variables_of, entered}
 use Rattle.script_read.specs.BinderClauses.{IsSortedName, AreSortedNames}
 use Rattle.script_read.specs.Places.{SparesText}
@@ -138,20 +138,21 @@ same_head x y xs ys is = cc
 
 module _ (t u : Formulas) (ts : List Token) (s : Supply) where
   pub entered_shows : (vs : List SortedName) (ns : List Name) (cs : List Constant) (ps : LocalNames) (ls : List ReadLocal)
-      → symbols_seen u cs ≡ map constant_of (renamed (variables_seen t ts vs) ns) → All (IsConstant u s) cs → ShowsLocals u s ps ls
+      → symbols_seen u cs ≡ map constant_of (renamed (variables_seen t ts vs) ns) → All (IsConstant u s) cs → All (λ v. IsOwnName (name_at ts v.name)) vs → ShowsLocals u s ps ls
       → ShowsLocals u s (entered ts vs cs ps) (with_quantified (variables_seen t ts vs) ns ls)
-  entered_shows [] ns cs ps ls are constants shows = shows
-  entered_shows (v ∷ vs) [] [] ps ls are constants shows = shows
-  entered_shows (v ∷ vs) [] (c ∷ cs) ps ls are constants shows = absurd (cc)
-  entered_shows (v ∷ vs) (n ∷ ns) [] ps ls are constants shows = absurd (cc)
-  entered_shows (v ∷ vs) (n ∷ ns) (c ∷ cs) ps ls are constants shows =
+  entered_shows [] ns cs ps ls are constants own shows = shows
+  entered_shows (v ∷ vs) [] [] ps ls are constants own shows = shows
+  entered_shows (v ∷ vs) [] (c ∷ cs) ps ls are constants own shows = absurd (cc)
+  entered_shows (v ∷ vs) (n ∷ ns) [] ps ls are constants own shows = absurd (cc)
+  entered_shows (v ∷ vs) (n ∷ ns) (c ∷ cs) ps ls are constants own shows =
       let y : Variable = record { name = n; sort = (variable_seen t ts v).sort } in
       let here = same_head (symbol_at u c.symbol) (constant_of y) (symbols_seen u cs) (map constant_of (renamed (variables_seen t ts vs) ns)) are in
       let rest = same_tail (symbol_at u c.symbol) (constant_of y) (symbols_seen u cs) (map constant_of (renamed (variables_seen t ts vs) ns)) are in
-      entered_shows vs ns cs ((name_at ts v.name, Quantified c) ∷ ps) (quantified_as (variable_seen t ts v) n ∷ ls) rest (All-tail (IsConstant u s) c cs constants)
+      entered_shows vs ns cs ((name_at ts v.name, Quantified c) ∷ ps) (quantified_as (variable_seen t ts v) n ∷ ls) rest (All-tail (IsConstant u s) c cs constants) (All-tail (λ w. IsOwnName (name_at ts w.name)) v vs own)
       (record {
         names = ap (λ f. (name_at ts v.name, quantified_meant f) ∷ locals_shown u ps) here ∙ ap (λ qs. (name_at ts v.name, quantified_meant (constant_of y)) ∷ qs) shows.names;
         numbers = All-cons (λ p. IsLocal u s p.1) (name_at ts v.name, Quantified c) ps (All-head (IsConstant u s) c cs constants) shows.numbers;
+        own = All-cons (λ p. IsOwnName p.0) (name_at ts v.name, Quantified c) ps (All-head (λ w. IsOwnName (name_at ts w.name)) v vs own) shows.own;
       })
 
 pub entered_length : (ts : List Token) (vs : List SortedName) (cs : List Constant) (ps : LocalNames) → length vs ≡ length cs → length (entered ts vs cs ps) ≡ length cs + length ps

@@ -22,7 +22,7 @@ use Rattle.script_read.specs.declared.session.Session.{Session}
 use Rattle.script_read.specs.BinderClauses.{IsSortedName, AreSortedNames}
 use Rattle.script_read.specs.Bound.{LocalNames, LocalMeant, parameter_meant, local_meant, locals_shown, IsLocal, ShowsLocals, name_at, variable_seen, variables_seen, symbols_seen}
 use Rattle.script_read.specs.Heads.{parameters_from}
-use Rattle.script_read.specs.Known.{Scoping, find, with_definition, Shows, IsSpared, IsDefinition, Gives, parameter_sorts, parameters_of, IsConstant}
+use Rattle.script_read.specs.Known.{Scoping, find, with_definition, Shows, IsSpared, IsDefinition, Gives, parameter_sorts, parameters_of, IsConstant, IsOwnName}
 use Rattle.script_read.specs.Outlines.{At}
 use Rattle.script_read.specs.Parts.{place_of}
 use Rattle.script_read.specs.Read.{Context, has_sort, read}
@@ -85,10 +85,11 @@ module _ (t : Formulas) (supply : Supply) (n : Name) (x : Variable) (i : ℕ) (c
   bound_meant : n ≡ x.name → symbol_at t c.symbol ≡ parameter i x.sort → (later : List (Name × LocalMeant)) → (n, local_meant t (Parameter c)) ∷ later ≡ (x.name, parameter_meant (parameter i x.sort)) ∷ later
   bound_meant named is later = λ j. ((named j, parameter_meant (is j)) ∷ later)
 
-  pub one_parameter : (ps : LocalNames) (ls : List ReadLocal) → ShowsLocals t supply ps ls → n ≡ x.name → symbol_at t c.symbol ≡ parameter i x.sort → IsConstant t supply c → ShowsLocals t supply ((n, Parameter c) ∷ ps) (parameter_as x (parameter i x.sort).name ∷ ls)
-  one_parameter ps ls shows named is constant = record {
+  pub one_parameter : (ps : LocalNames) (ls : List ReadLocal) → ShowsLocals t supply ps ls → n ≡ x.name → symbol_at t c.symbol ≡ parameter i x.sort → IsConstant t supply c → IsOwnName n → ShowsLocals t supply ((n, Parameter c) ∷ ps) (parameter_as x (parameter i x.sort).name ∷ ls)
+  one_parameter ps ls shows named is constant own = record {
     names = bound_meant named is (locals_shown t ps) ∙ ap (λ qs. (x.name, parameter_meant (parameter i x.sort)) ∷ qs) shows.names;
     numbers = All-cons (λ p. IsLocal t supply p.1) (n, Parameter c) ps constant shows.numbers;
+    own = All-cons (λ p. IsOwnName p.0) (n, Parameter c) ps own shows.own;
   }
 
 -- ---- the body
@@ -159,13 +160,13 @@ module _ (t u : Formulas) (x : Session) (s : Standing) (stands : StandsAt t x s)
     pub body_missorted : has_sort to (tree u k) ≡ false → read_body n xs to body s ≡ at WrongSort (place_of body)
     body_missorted wrong = body_of_sofar ∙ ap ends_body gives.given ∙ ap of_answer wrong
 
-    pub body_defined : (d : Definition) (scope : Scoping) → has_sort to (tree u k) ≡ true → IsDefinition u left d → parameter_sorts u d ≡ map (λ y. y.sort) xs → d.body ≡ k → scope ≡ with_definition n d r → Steps u (defined_at x scope left) [] (read_body n xs to body s)
-    body_defined d scope right is sorts at_node scope_is = record {
+    pub body_defined : (d : Definition) (scope : Scoping) → has_sort to (tree u k) ≡ true → IsDefinition u left d → parameter_sorts u d ≡ map (λ y. y.sort) xs → d.body ≡ k → IsOwnName n → scope ≡ with_definition n d r → Steps u (defined_at x scope left) [] (read_body n xs to body s)
+    body_defined d scope right is sorts at_node own scope_is = record {
       standing = begun_after s (record { live = definition_as n xs body (tree u k) ∷ gives.live; supply = left });
       stands = record {
         shows =
             subst (λ (sc : Scoping). Shows u left sc (definition_as n xs body (tree u k) ∷ gives.live)) (sym scope_is)
-            (shows_definition u left r gives.live gives.shows n d xs body (tree u k) is sorts (ap (tree u) at_node));
+            (shows_definition u left r gives.live gives.shows n d xs body (tree u k) is sorts (ap (tree u) at_node) own);
         supply = refl;
         global = stands.global;
         begun = refl;
@@ -226,11 +227,11 @@ module _ (s t : Formulas) (supply : Supply) (ts : List Token) (xs : List SortedN
         ∙ ap (λ (f : Symbol). parameters_read (drop (i + 1) vs) (drop (i + 1) (parameters_from 0 vs)) (parameter_as (variable_seen s ts x) f.name ∷ ls))
         (parameter_at 0 i vs (symbol_at t c.symbol) (variable_seen s ts x) in_vs ∙ ap (λ n. parameter n (get_or vs i (variable_seen s ts x)).sort) same ∙ ap (λ (y : Variable). parameter i y.sort) here)
 
-    pub more_bound : (ps new : LocalNames) → AreBound i ps → new ≡ (name_at ts x.name, Parameter c) ∷ ps → AreBound (i + 1) new
-    more_bound ps new (ls, shows, rest) is = (
+    pub more_bound : (ps new : LocalNames) → IsOwnName (name_at ts x.name) → AreBound i ps → new ≡ (name_at ts x.name, Parameter c) ∷ ps → AreBound (i + 1) new
+    more_bound ps new own (ls, shows, rest) is = (
       parameter_as (variable_seen s ts x) (parameter i (sort_at s.sorts x.sort)).name ∷ ls,
       subst (λ (qs : LocalNames). ShowsLocals t supply qs (parameter_as (variable_seen s ts x) (parameter i (sort_at s.sorts x.sort)).name ∷ ls)) (sym is)
-          (one_parameter t supply (name_at ts x.name) (variable_seen s ts x) i c ps ls shows refl symbol_here (subst (IsConstant t supply) (sym c_is) (constants i c c_within))),
+          (one_parameter t supply (name_at ts x.name) (variable_seen s ts x) i c ps ls shows refl symbol_here (subst (IsConstant t supply) (sym c_is) (constants i c c_within)) own),
       sym (next ls) ∙ rest,
     )
 

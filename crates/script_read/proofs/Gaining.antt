@@ -94,7 +94,9 @@ module _ (ts : List Token) (defines : Option Name) (v w : World) (gains : Gains 
     stands = stands_still locals waits.context waits.stands;
     bindings = waits.bindings;
     terms = nodes_spared (map (λ p. p.1) f.names) waits.terms;
+    own = waits.own;
     new_name = waits.new_name;
+    own_name = waits.own_name;
     named_token = waits.named_token;
     part_form = waits.part_form;
     body_form = waits.body_form;

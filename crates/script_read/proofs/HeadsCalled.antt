@@ -1,10 +1,12 @@
 -- What heads of applications call, as the code finds it.
-use Rattle.std.proofs.Common.{◌≡◌, ◌≢◌, ℕ, ◌<◌, ◌^◌, true, false, List, [], ◌∷◌, map, length, get_or, All, IsTrue, Option, Some, None, option_map, is_some, Result, Ok, Err, refl, ap, sym, ◌∙◌, subst, arith, if◌then◌else◌}
+use Rattle.std.proofs.Common.{◌≡◌, ◌≢◌, ℕ, ◌<◌, ◌^◌, Bool, true, false, true≢false, List, [], ◌∷◌, map, length, get_or, All, IsTrue, Option, Some, None, option_map, is_some, Result, Ok, Err, refl, ap, sym, ◌∙◌, subst, arith, if◌then◌else◌}
 use Rattle.std.proofs.lemmas.List.{length-map}
+use Rattle.std.proofs.lemmas.List.Elements.{All-head, All-tail}
 use Rattle.std.specs.Prelude.{codes, bytes_eq}
 use Rattle.smt_lex.specs.Lex.{Token}
 use Rattle.smt_lex.specs.Names.{Name, is_among, is_theory_name}
 use Rattle.smt_lex.specs.Forms.{Form, atom, node, Forms, none, ◌⨾◌}
+use Rattle.smt_terms.specs.Equal.{name_eq}
 use Rattle.smt_terms.specs.Fresh.{Supply, NeverGives}
 use Rattle.smt_terms.specs.Sorts.{Variable}
 use Rattle.smt_terms.specs.Written.{Indexed, operator_named, at_indices}
@@ -22,20 +24,22 @@ use Rattle.script_read.specs.declared.scopes.Entry.TheVariants.{Symbol as Symbol
 use Rattle.script_read.specs.declared.terms.callees.Callee.{Callee}
 use Rattle.script_read.specs.declared.terms.callees.Callee.TheVariants.{Written as WrittenCallee, ArrayOf, Called, Defined, Operandless}
 use Rattle.script_read.specs.declared.terms.indices.Indices.{Indices}
-use Rattle.script_read.specs.Bound.{LocalNames, ShowsLocals, innermost}
+use Rattle.script_read.specs.Bound.{LocalNames, HaveOwnNames, ShowsLocals, innermost}
 use Rattle.script_read.specs.Heads.{Callee as CalleeOf, written, array_of_sort, called, defined, operandless, indices_within, written_at, constant_head, theory_head, live_head, named_head, indexed_head, filling_head, list_head, atom_head, callee_of, real_names}
 use Rattle.script_read.specs.HeadClauses.{AreIndices, beyond_in, is_constant_with, world_of, indexed_list}
 use Rattle.script_read.specs.declared.locals.Local.{Local}
-use Rattle.script_read.specs.Known.{Scoping, Shows, IsEntry, Meant, find, meant_by, no_definition, parameter_sorts}
+use Rattle.script_read.specs.Known.{Scoped, Scoping, IsOwnName, HasOwnName, Shows, IsEntry, Meant, find, meant_by, no_definition, parameter_sorts}
 use Rattle.script_read.specs.Parts.{symbol_in, word_in, is_name, numeral_in, numerals_in}
 use Rattle.script_read.specs.Places.{capped}
 use Rattle.script_read.specs.Reading.{ReadBinding, ReadLocal, Entry as LiveEntry, symbol_entry, definition_entry, term_entry, entry_of, live_sorts}
 use Rattle.script_read.specs.Refusals.{Refused, at, unless, mapped}
 use Rattle.script_read.specs.Replies.{Refuses}
+use Rattle.script_read.specs.Scope.{or_later}
 use Rattle.script_read.specs.SortForms.{Sorts, sort_in}
 use Rattle.script_read.specs.Waiting.{World, ReadsCallee}
 use Rattle.script_read.proofs.HeadIndices.{numerals_parts, within_limit, beyond_limit, values_within, as_many_indices}
 use Rattle.script_read.proofs.LiteralNodes.{entry_is}
+use Rattle.script_read.proofs.NameFacts.{name_same, operator_reserved}
 use Rattle.script_read.proofs.Showing.{entry_found, entry_meant}
 use Rattle.script_read.proofs.ShowingLocals.{bound_none, bound_some}
 
@@ -123,8 +127,8 @@ nothing_mapped f None is = refl
 nothing_mapped f (Some a) is = absurd cc
 
 module _ (place : ℕ) (n : Name) (fs : Forms) (ns : List ℕ) where
-  pub constant_head_is : (o : Option Indexed) → o ≡ None → is_among real_names n ≡ false → is_theory_name n ≡ true → theory_head place n fs ns o ≡ constant_head place n fs ns
-  constant_head_is o unnamed real theory = ap (theory_head place n fs ns) unnamed ∙ rw (real, theory) refl
+  pub constant_head_is : is_among real_names n ≡ false → is_theory_name n ≡ true → theory_head place n fs ns None ≡ constant_head place n fs ns
+  constant_head_is real theory = rw (real, theory) refl
 
 -- ---- live names
 
@@ -188,6 +192,29 @@ module _ (t : Formulas) (supply : Supply) (ps : LocalNames) (bound : List ReadLo
 
   pub not_local : innermost ps n ≡ None → named_head bound live place n fs ns ≡ live_head place n fs ns (entry_of live n)
   not_local is = ap (λ o. unless (is_some o) UnknownName place (live_head place n fs ns (entry_of live n))) (bound_none t supply ps bound shows n is)
+
+-- ---- names of operators are neither bound locally nor live
+
+no_own : {A : Type 0} (m n : Name) (b : Bool) (a : A) (later : Option A) → name_eq m n ≡ b → IsOwnName m → is_theory_name n ≡ true → later ≡ None → or_later b a later ≡ None
+no_own m n true a later same own theory rest = absurd (true≢false (sym theory ∙ sym (ap is_theory_name (name_same m n same)) ∙ own))
+no_own m n false a later same own theory rest = rest
+
+none_live : {A : Type 0} (bs : List (Scoped A)) (n : Name) → All HasOwnName bs → is_theory_name n ≡ true → find bs n ≡ None
+none_live [] n own theory = refl
+none_live (None ∷ bs) n own theory = none_live bs n (All-tail HasOwnName None bs own) theory
+none_live (Some p ∷ bs) n own theory = no_own p.0 n (name_eq p.0 n) p.1 (find bs n) refl (All-head HasOwnName (Some p) bs own) theory (none_live bs n (All-tail HasOwnName (Some p) bs own) theory)
+
+none_local : (ps : LocalNames) (n : Name) → HaveOwnNames ps → is_theory_name n ≡ true → innermost ps n ≡ None
+none_local [] n own theory = refl
+none_local (p ∷ ps) n own theory = no_own p.0 n (name_eq p.0 n) p.1 (innermost ps n) refl (All-head (λ q. IsOwnName q.0) p ps own) theory (none_local ps n (All-tail (λ q. IsOwnName q.0) p ps own) theory)
+
+module _ (ts : List Token) (t : Formulas) (supply : Supply) (s : Scoping) (live : List ReadBinding) (shows : Shows t supply s live) (ps : LocalNames) (bound : List ReadLocal) (locals : ShowsLocals t supply ps bound) where
+  pub operator_head : (place : ℕ) (n : Name) (fs : Forms) (ns : List ℕ) (o : Indexed) → operator_named n ≡ Some o → named_head bound live place n fs ns ≡ written_at place fs (at_indices o ns)
+  operator_head place n fs ns o named =
+      let theory = operator_reserved n o named in
+      not_local t supply ps bound locals live place n fs ns (none_local ps n locals.own theory)
+      ∙ not_live ts t supply s live shows place n fs ns (none_live s.terms n shows.numbers.names theory)
+      ∙ ap (theory_head place n fs ns) named
 
 -- ---- lists
 

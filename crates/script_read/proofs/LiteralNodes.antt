@@ -11,7 +11,7 @@ use Rattle.smt_terms.specs.Equal.{name_eq}
 use Rattle.smt_terms.specs.Fresh.{Supply}
 use Rattle.smt_terms.specs.Sorts.{Sort, Symbol}
 use Rattle.smt_terms.specs.Term.{Term}
-use Rattle.term_table.specs.Formulas.{Formulas, symbol_at, tree, trees_at, IsNode, AreNodes, IsSymbol}
+use Rattle.term_table.specs.Formulas.{Formulas, symbol_at, tree, trees_at, IsNode, AreNodes}
 use Rattle.term_table.specs.declared.lists.Nodes.{Nodes}
 use Rattle.term_walk.specs.Walking.{GrowsTo}
 use Rattle.term_subst.specs.declared.maps.Definition.{Definition}

@@ -1,29 +1,29 @@
 -- The names that an annotation gives a term, one after the other.
-use Rattle.std.proofs.Common.{◌≡◌, true≢false, ℕ, Bool, true, false, ◌||◌, List, [], ◌∷◌, ◌++◌, reverse, Option, Some, Result, Ok, Err, refl, ap, sym, ◌∙◌}
+use Rattle.std.proofs.Common.{◌≡◌, true≢false, ℕ, Bool, true, false, ◌||◌, List, [], ◌∷◌, ◌++◌, reverse, All, Option, Some, None, Result, Ok, Err, refl, ap, sym, ◌∙◌, subst}
 use Rattle.std.specs.Prelude.{is_some, codes}
 use Rattle.std.proofs.lemmas.List.{append_assoc, append-nil}
-use Rattle.std.proofs.lemmas.List.Elements.{All-cons}
+use Rattle.std.proofs.lemmas.List.Elements.{All-nil, All-head, All-tail, All-cons}
 use Rattle.smt_lex.specs.Forms.{Form, Forms, ◌⨾◌}
-use Rattle.smt_lex.specs.Names.{Name, is_among}
+use Rattle.smt_lex.specs.Names.{Name, is_among, is_reserved_for_declaring}
 use Rattle.smt_terms.specs.declared.ids.NodeId.{NodeId}
 use Rattle.smt_terms.specs.Equal.{name_eq}
 use Rattle.term_table.specs.Formulas.{Formulas, tree}
 use Rattle.script_read.specs.declared.scopes.Entry.{Entry}
 use Rattle.script_read.specs.declared.scopes.Entry.TheVariants.{Term as TermEntry}
-use Rattle.script_read.specs.Refusals.{Refused, at, mapped, and_then}
-use Rattle.script_read.specs.Parts.{is_name, keyword_in, value_first, named_parts}
+use Rattle.script_read.specs.Refusals.{Refused, at, mapped, and_then, unless}
+use Rattle.script_read.specs.Parts.{is_name, keyword_in, value_first, named_parts, place_of, symbol_in}
 use Rattle.script_read.specs.Reading.{ReadBinding, ReadLocal, named_as, entry_of, Sofar, continued, beside, refused_if, binds}
 use Rattle.script_read.specs.Scope.{or_later}
-use Rattle.script_read.specs.Read.{Context, term_name_in, term_names, annotated, mentions_local}
-use Rattle.script_read.specs.Known.{Scoping, find, with_entry, terms_shown, sorts_shown, terms_live, names_meant, Shows, IsScoping, IsScopedEntry, IsSpared}
+use Rattle.script_read.specs.Read.{Context, is_the, term_name, term_name_in, term_names, annotated, mentions_local}
+use Rattle.script_read.specs.Known.{Scoping, IsOwnName, HasOwnName, find, with_entry, terms_shown, sorts_shown, terms_live, names_meant, Shows, IsScoping, IsScopedEntry, IsSpared}
 use Rattle.script_read.specs.TermClauses.{is_some_name, with_names, HasNames, naming, NamesGiven}
 use Rattle.script_read.specs.Replies.{Refuses}
-use Rattle.script_read.specs.declared.causes.Cause.TheVariants.{BadForm}
+use Rattle.script_read.specs.declared.causes.Cause.TheVariants.{BadForm, Redeclared, ReservedName}
 use Rattle.script_read.specs.declared.faults.ReadFault.{ReadFault}
 use Rattle.script_read.specs.declared.faults.ReadFault.TheVariants.{Refused as RefusedFor, Memory}
 use Rattle.smt_terms.specs.Fresh.{Supply}
 use Rattle.smt_terms.specs.Term.{Term}
-use Rattle.script_read.proofs.NameFacts.{name_turned}
+use Rattle.script_read.proofs.NameFacts.{name_turned, not_theory}
 use Rattle.script_read.proofs.NewNames.{entry_live}
 use Rattle.script_read.proofs.Stepped.{reverse_push}
 
@@ -86,6 +86,39 @@ module _ (defines : Option Name) (place : ℕ) (live : List ReadBinding) (ns : L
 pub all_named : (ns : List Name) → mapped {E = Refused} (λ ms. ns ++ ms) (Ok []) ≡ Ok ns
 all_named ns = ap Ok (append-nil ns)
 
+-- none of them is one of the theories
+
+name_own : (live : List ReadBinding) (defines : Option Name) (earlier : List Name) (place : ℕ) (o : Option Name) (n : Name) → term_name live defines earlier place o ≡ Ok n → IsOwnName n
+name_own live defines earlier place None n is = absurd (cc)
+name_own live defines earlier place (Some m) n is = by (is_reserved_for_declaring m) refl is
+  where
+    by : (b : Bool) → is_reserved_for_declaring m ≡ b → unless b ReservedName place (unless (is_some (entry_of live m) || (is_among earlier m || is_the defines m)) Redeclared place (Ok m)) ≡ Ok n → IsOwnName n
+    by true reserved is = absurd (cc)
+    by false free is = again (is_some (entry_of live m) || (is_among earlier m || is_the defines m)) is
+      where
+        again : (b : Bool) → unless b Redeclared place (Ok m) ≡ Ok n → IsOwnName n
+        again true is = absurd (cc)
+        again false is = let same : m ≡ n = cc in subst IsOwnName same (not_theory m free)
+
+term_own : (live : List ReadBinding) (defines : Option Name) (earlier : List Name) (place : ℕ) (p : Option Form) (n : Name) → term_name_in live defines earlier place p ≡ Ok n → IsOwnName n
+term_own live defines earlier place None n is = absurd (cc)
+term_own live defines earlier place (Some f) n is = name_own live defines earlier (place_of f) (symbol_in f) n is
+
+terms_own : (defines : Option Name) (place : ℕ) (live : List ReadBinding) (earlier : List Name) (ps : List (Option Form)) (ns : List Name) → term_names defines place earlier ps live ≡ Ok ns → All IsOwnName ns
+terms_own defines place live earlier [] ns is = let same : [] ≡ ns = cc in subst (All IsOwnName) same (All-nil IsOwnName)
+terms_own defines place live earlier (p ∷ ps) ns is =
+    by (term_name_in live defines earlier place p) refl (λ n ms more. terms_own defines place live (n ∷ earlier) ps ms more) is
+  where
+    by : (r : Result Name Refused) → term_name_in live defines earlier place p ≡ r → ((n : Name) (ms : List Name) → term_names defines place (n ∷ earlier) ps live ≡ Ok ms → All IsOwnName ms) → and_then (λ n. mapped (λ ms. n ∷ ms) (term_names defines place (n ∷ earlier) ps live)) r ≡ Ok ns → All IsOwnName ns
+    by (Err e) first later is = absurd (cc)
+    by (Ok n) first later is = rest (term_names defines place (n ∷ earlier) ps live) refl is
+      where
+        rest : (q : Result (List Name) Refused) → term_names defines place (n ∷ earlier) ps live ≡ q → mapped (λ ms. n ∷ ms) q ≡ Ok ns → All IsOwnName ns
+        rest (Err e) more is = absurd (cc)
+        rest (Ok ms) more is =
+            let same : n ∷ ms ≡ ns = cc in
+            subst (All IsOwnName) same (All-cons IsOwnName n ms (term_own live defines earlier place p n first) (later n ms more))
+
 -- ---- a term gets its names
 
 names_shown : (t : Formulas) (ns : List Name) (k : NodeId) (s : Scoping) → terms_shown t (with_names ns k s) ≡ names_meant ns (tree t k) (terms_shown t s)
@@ -96,17 +129,23 @@ names_sorts : (t : Formulas) (ns : List Name) (k : NodeId) (s : Scoping) → sor
 names_sorts t [] k s = refl
 names_sorts t (n ∷ ns) k s = names_sorts t ns k (with_entry n (TermEntry k) s)
 
-names_numbers : (t : Formulas) (supply : Supply) (ns : List Name) (k : NodeId) (s : Scoping) → IsSpared t supply k → IsScoping t supply s → IsScoping t supply (with_names ns k s)
-names_numbers t supply [] k s spared is = is
-names_numbers t supply (n ∷ ns) k s spared is =
-    names_numbers t supply ns k (with_entry n (TermEntry k) s) spared (record { terms = All-cons (IsScopedEntry t supply s.definitions) (Some (n, TermEntry k)) s.terms spared is.terms; sorts = is.sorts; definitions = is.definitions })
+names_numbers : (t : Formulas) (supply : Supply) (ns : List Name) (k : NodeId) (s : Scoping) → IsSpared t supply k → All IsOwnName ns → IsScoping t supply s → IsScoping t supply (with_names ns k s)
+names_numbers t supply [] k s spared own is = is
+names_numbers t supply (n ∷ ns) k s spared own is =
+    names_numbers t supply ns k (with_entry n (TermEntry k) s) spared (All-tail IsOwnName n ns own)
+    (record {
+      terms = All-cons (IsScopedEntry t supply s.definitions) (Some (n, TermEntry k)) s.terms spared is.terms;
+      names = All-cons HasOwnName (Some (n, TermEntry k)) s.terms (All-head IsOwnName n ns own) is.names;
+      sorts = is.sorts;
+      definitions = is.definitions;
+    })
 
 module _ (t : Formulas) (supply : Supply) (s : Scoping) (live : List ReadBinding) (shows : Shows t supply s live) (k : NodeId) (spared : IsSpared t supply k) where
-  shows_named : (ns : List Name) (f : Form) (ls : List ReadLocal) → Shows t supply (with_names ns k s) (named_as ns f (tree t k) ls ∷ live)
-  shows_named ns f ls = record {
+  shows_named : (ns : List Name) (f : Form) (ls : List ReadLocal) → All IsOwnName ns → Shows t supply (with_names ns k s) (named_as ns f (tree t k) ls ∷ live)
+  shows_named ns f ls own = record {
     terms = names_shown t ns k s ∙ ap (names_meant ns (tree t k)) shows.terms;
     sorts = names_sorts t ns k s ∙ shows.sorts;
-    numbers = names_numbers t supply ns k s spared shows.numbers;
+    numbers = names_numbers t supply ns k s spared own shows.numbers;
   }
 
   module _ (place : ℕ) (attributes : Forms) (c : Context) (f : Form) where
@@ -131,7 +170,7 @@ module _ (t : Formulas) (supply : Supply) (s : Scoping) (live : List ReadBinding
     some_names [] is some mentions = absurd (true≢false (sym some))
     some_names (n ∷ ns) is some mentions = record {
       live = named_as (n ∷ ns) f (tree t k) c.locals ∷ live;
-      shows = shows_named (n ∷ ns) f c.locals;
+      shows = shows_named (n ∷ ns) f c.locals (terms_own c.defines place live [] (named_parts attributes) (n ∷ ns) is);
       given = names_first _ is ∙ ap (λ b. refused_if b BadForm place (binds (named_as (n ∷ ns) f (tree t k) c.locals) (tree t k)) (record { live = live; supply = supply })) mentions;
     }
 

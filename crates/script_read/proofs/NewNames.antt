@@ -9,7 +9,7 @@ use Rattle.term_table.specs.Formulas.{Formulas}
 use Rattle.script_read.specs.declared.causes.Cause.{Cause}
 use Rattle.script_read.specs.declared.causes.Cause.TheVariants.{Redeclared, ReservedName}
 use Rattle.script_read.specs.declared.faults.Fault.{Fault}
-use Rattle.script_read.specs.Known.{Scoping, find, terms_shown, sorts_shown, terms_live, sorts_live, meant_by}
+use Rattle.script_read.specs.Known.{Scoping, IsOwnName, find, terms_shown, sorts_shown, terms_live, sorts_live, meant_by}
 use Rattle.script_read.specs.Outlines.{At}
 use Rattle.script_read.specs.Parts.{numeral_by, numeral_in}
 use Rattle.script_read.specs.Places.{form_from, capped}
@@ -18,6 +18,7 @@ use Rattle.script_read.specs.Refusals.{Refused, at, unless}
 use Rattle.script_read.specs.Replies.{refused_seen}
 use Rattle.script_read.specs.ShapeClauses.{IsNumeralAt, counted_at}
 use Rattle.script_read.specs.Script.{declarable, sort_declarable}
+use Rattle.script_read.proofs.NameFacts.{not_theory}
 use Rattle.script_read.proofs.Placing.{numeral_here}
 use Rattle.script_read.proofs.Showing.{entry_found, entry_meant, sort_found}
 
@@ -73,6 +74,14 @@ passed_through false true a b place x y r h = absurd (cc)
 passed_through false false a b place x y r h = refl
 
 module _ (live : List ReadBinding) (n : At Name) where
+  -- a name that may be declared isn't one of the theories
+  pub declarable_own : (u : Unit {0}) → declarable live n (Ok (tt {0})) ≡ Ok u → IsOwnName n.it
+  declarable_own u h = by (is_reserved_for_declaring n.it) refl h
+    where
+      by : (b : Bool) → is_reserved_for_declaring n.it ≡ b → unless b ReservedName n.place (unless (is_some (entry_of live n.it)) Redeclared n.place (Ok (tt {0}))) ≡ Ok u → IsOwnName n.it
+      by true is h = absurd (cc)
+      by false is h = not_theory n.it is
+
   module _ {A : Type 0} (r : Result A Refused) where
     pub declarable_refused : (e : Refused) → declarable live n (Ok (tt {0})) ≡ Err e → declarable live n r ≡ Err e
     declarable_refused e h = refused_anyway (is_reserved_for_declaring n.it) (is_some (entry_of live n.it)) ReservedName Redeclared n.place (tt {0}) r e h

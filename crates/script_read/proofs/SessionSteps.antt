@@ -29,7 +29,7 @@ use Rattle.script_read.specs.Script.{Standing, Step, live_of, begun_with, declar
 use Rattle.script_read.specs.SortForms.{sort_in, sorts_in}
 use Rattle.script_read.specs.Steps.{StandsAt, Steps, StepsTo}
 use Rattle.script_read.proofs.Grown.{later_self}
-use Rattle.script_read.proofs.NewNames.{declarable_passed, sort_declarable_passed}
+use Rattle.script_read.proofs.NewNames.{declarable_own, declarable_passed, sort_declarable_passed}
 use Rattle.script_read.proofs.Showing.{shows_stays, shows_sort, shows_symbol}
 
 -- ---- refusals
@@ -143,7 +143,7 @@ module _ (t u : Formulas) (x : Session) (s : Standing) (stands : StandsAt t x s)
       stands =
           stands_begun t u x s scope (function_known (symbol_of_sorts n.it args to) ∷ live_of s) stands
           (subst (λ (sc : Scoping). Shows u x.sofar.fresh sc (function_known (symbol_of_sorts n.it args to) ∷ live_of s)) (sym scope_is)
-          (shows_symbol u x.sofar.fresh x.sofar.scope (live_of s) shown n.it e (symbol_of_sorts n.it args to) entry meant refl));
+          (shows_symbol u x.sofar.fresh x.sofar.scope (live_of s) shown n.it e (symbol_of_sorts n.it args to) entry meant refl (declarable_own (live_of s) n name free)));
       gives =
           new_symbol ∙ ap with_arguments read ∙ ap (with_result args) read_to
           ∙ ap (λ g. Ok (declare g ∷ [], begun_with s (function_known (symbol_of_sorts n.it args to) ∷ live_of s))) (sym is);

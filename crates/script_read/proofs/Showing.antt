@@ -25,7 +25,7 @@ use Rattle.term_subst.specs.declared.maps.Definition.{Definition}
 use Rattle.script_read.specs.declared.locals.Constant.{Constant}
 use Rattle.script_read.specs.declared.scopes.Entry.{Entry}
 use Rattle.script_read.specs.declared.scopes.Entry.TheVariants.{Symbol as SymbolEntry, Constant as ConstantEntry, Definition as DefinitionEntry, Term as TermEntry}
-use Rattle.script_read.specs.Known.{Scoped, is_mark, find, scoped, Scoping, nothing_known, with_entry, with_sort, with_definition, is_symbol_entry, declared_among, levels_in, Meant, symbol_meant, definition_meant, term_meant, no_definition, parameter_sorts, meant_by, terms_shown, sorts_shown, sorts_known, parameters_of, IsSpared, IsDefinition, IsConstant, IsFunction, IsNamedConstant, IsEntry, IsScopedEntry, IsScopedSort, AreScopedSorts, IsScoping, names_meant, terms_live, sorts_live, Shows}
+use Rattle.script_read.specs.Known.{Scoped, is_mark, find, scoped, Scoping, nothing_known, with_entry, with_sort, with_definition, is_symbol_entry, declared_among, levels_in, Meant, symbol_meant, definition_meant, term_meant, no_definition, parameter_sorts, meant_by, terms_shown, sorts_shown, sorts_known, parameters_of, IsSpared, IsDefinition, IsConstant, IsFunction, IsOwnName, HasOwnName, IsEntry, IsScopedEntry, IsScopedSort, AreScopedSorts, IsScoping, names_meant, terms_live, sorts_live, Shows}
 use Rattle.script_read.specs.Scope.{or_later, opened, closed, merged, flattened, popped, emptied}
 use Rattle.script_read.specs.Reading.{ReadBinding, sort_known, function_known, definition_as, named_as, level_known, live_sorts, is_level_known, is_declared, Entry as LiveEntry, symbol_entry, definition_entry, term_entry, entry_of}
 use Rattle.script_read.proofs.Grown.{same_map, node_stays, tree_stays, symbol_within, symbol_stays, sort_within, sort_stays, never_later, none_later, later_self}
@@ -344,6 +344,7 @@ module _ (t : Formulas) (supply : Supply) (s : Scoping) (live : List ReadBinding
     sorts = opened_scoped (sort_at t.sorts) n s.sorts ∙ ap (opened None n) shows.sorts ∙ sorts_opened n live;
     numbers = record {
       terms = opened_all (IsScopedEntry t supply s.definitions) n s.terms tt shows.numbers.terms;
+      names = opened_all HasOwnName n s.terms tt shows.numbers.names;
       sorts = opened_all (IsScopedSort t.sorts) n s.sorts tt shows.numbers.sorts;
       definitions = shows.numbers.definitions;
     };
@@ -355,6 +356,7 @@ module _ (t : Formulas) (supply : Supply) (s : Scoping) (live : List ReadBinding
     sorts = popped_scoped (sort_at t.sorts) global n s.sorts ∙ ap (popped is_mark global n) shows.sorts ∙ sorts_popped global n live;
     numbers = record {
       terms = popped_all (IsScopedEntry t supply s.definitions) global n s.terms shows.numbers.terms;
+      names = popped_all HasOwnName global n s.terms shows.numbers.names;
       sorts = popped_all (IsScopedSort t.sorts) global n s.sorts shows.numbers.sorts;
       definitions = shows.numbers.definitions;
     };
@@ -366,6 +368,7 @@ module _ (t : Formulas) (supply : Supply) (s : Scoping) (live : List ReadBinding
     sorts = emptied_scoped (sort_at t.sorts) global s.sorts ∙ ap (emptied is_mark global) shows.sorts ∙ sorts_emptied global live;
     numbers = record {
       terms = emptied_all (IsScopedEntry t supply s.definitions) global s.terms shows.numbers.terms;
+      names = emptied_all HasOwnName global s.terms shows.numbers.names;
       sorts = emptied_all (IsScopedSort t.sorts) global s.sorts shows.numbers.sorts;
       definitions = shows.numbers.definitions;
     };
@@ -377,7 +380,7 @@ pub shows_nothing : (t : Formulas) (supply : Supply) → Shows t supply nothing_
 shows_nothing t supply = record {
   terms = refl;
   sorts = refl;
-  numbers = record { terms = All-nil (IsScopedEntry t supply []); sorts = All-nil (IsScopedSort t.sorts); definitions = All-nil (IsDefinition t supply) };
+  numbers = record { terms = All-nil (IsScopedEntry t supply []); names = All-nil HasOwnName; sorts = All-nil (IsScopedSort t.sorts); definitions = All-nil (IsDefinition t supply) };
 }
 
 module _ (t : Formulas) (supply : Supply) (s : Scoping) (live : List ReadBinding) (shows : Shows t supply s live) where
@@ -387,17 +390,19 @@ module _ (t : Formulas) (supply : Supply) (s : Scoping) (live : List ReadBinding
     sorts = ap (λ r. Some (n, r) ∷ sorts_shown t s) is ∙ ap (λ bs. Some (n, to) ∷ bs) shows.sorts;
     numbers = record {
       terms = shows.numbers.terms;
+      names = shows.numbers.names;
       sorts = All-cons (IsScopedSort t.sorts) (Some (n, k)) s.sorts within shows.numbers.sorts;
       definitions = shows.numbers.definitions;
     };
   }
 
-  pub shows_symbol : (n : Name) (e : Entry) (f : Symbol) → IsEntry t supply s.definitions n e → meant_by t s.definitions e ≡ symbol_meant f → f.name ≡ n → Shows t supply (with_entry n e s) (function_known f ∷ live)
-  shows_symbol n e f is meant named = record {
+  pub shows_symbol : (n : Name) (e : Entry) (f : Symbol) → IsEntry t supply s.definitions n e → meant_by t s.definitions e ≡ symbol_meant f → f.name ≡ n → IsOwnName n → Shows t supply (with_entry n e s) (function_known f ∷ live)
+  shows_symbol n e f is meant named own = record {
     terms = ap (λ m. Some (n, m) ∷ terms_shown t s) meant ∙ ap (λ m. Some (m, symbol_meant f) ∷ terms_shown t s) (sym named) ∙ ap (λ bs. Some (f.name, symbol_meant f) ∷ bs) shows.terms;
     sorts = shows.sorts;
     numbers = record {
       terms = All-cons (IsScopedEntry t supply s.definitions) (Some (n, e)) s.terms is shows.numbers.terms;
+      names = All-cons HasOwnName (Some (n, e)) s.terms own shows.numbers.names;
       sorts = shows.numbers.sorts;
       definitions = shows.numbers.definitions;
     };
@@ -427,14 +432,15 @@ module _ (t : Formulas) (supply : Supply) (ds : List Definition) (d : Definition
   shown_more None is = refl
   shown_more (Some p) is = ap (λ m. Some (p.0, m)) (meant_more p.0 p.1 is)
 
-pub shows_definition : (t : Formulas) (supply : Supply) (s : Scoping) (live : List ReadBinding) → Shows t supply s live → (n : Name) (d : Definition) (xs : List Variable) (f : Form) (body : Term) → IsDefinition t supply d → parameter_sorts t d ≡ map (λ x. x.sort) xs → tree t d.body ≡ body → Shows t supply (with_definition n d s) (definition_as n xs f body ∷ live)
-shows_definition t supply s live shows n d xs f body is sorts term = record {
+pub shows_definition : (t : Formulas) (supply : Supply) (s : Scoping) (live : List ReadBinding) → Shows t supply s live → (n : Name) (d : Definition) (xs : List Variable) (f : Form) (body : Term) → IsDefinition t supply d → parameter_sorts t d ≡ map (λ x. x.sort) xs → tree t d.body ≡ body → IsOwnName n → Shows t supply (with_definition n d s) (definition_as n xs f body ∷ live)
+shows_definition t supply s live shows n d xs f body is sorts term own = record {
   terms =
       (λ i. Some (n, here i) ∷ same_map (scoped (meant_by t (s.definitions ++ d ∷ []))) (scoped (meant_by t s.definitions)) s.terms (All-weaker (IsScopedEntry t supply s.definitions) (λ b. scoped (meant_by t (s.definitions ++ d ∷ [])) b ≡ scoped (meant_by t s.definitions) b) (shown_more t supply s.definitions d) s.terms shows.numbers.terms) i)
       ∙ ap (λ bs. Some (n, definition_meant (map (λ x. x.sort) xs) body) ∷ bs) shows.terms;
   sorts = shows.sorts;
   numbers = record {
     terms = All-cons (IsScopedEntry t supply (s.definitions ++ d ∷ [])) (Some (n, DefinitionEntry (length s.definitions))) s.terms last (All-weaker (IsScopedEntry t supply s.definitions) (IsScopedEntry t supply (s.definitions ++ d ∷ [])) (scoped_more t supply s.definitions d) s.terms shows.numbers.terms);
+    names = All-cons HasOwnName (Some (n, DefinitionEntry (length s.definitions))) s.terms own shows.numbers.names;
     sorts = shows.numbers.sorts;
     definitions = All-push (IsDefinition t supply) s.definitions d shows.numbers.definitions is;
   };
@@ -536,6 +542,7 @@ module _ (t u : Formulas) (supply left : Supply) (grows : GrowsTo t u) (later : 
   pub scoping_stays : (s : Scoping) → IsScoping t supply s → IsScoping u left s
   scoping_stays s is = record {
     terms = All-weaker (IsScopedEntry t supply s.definitions) (IsScopedEntry u left s.definitions) (scoped_stays s.definitions) s.terms is.terms;
+    names = is.names;
     sorts = All-weaker (IsScopedSort t.sorts) (IsScopedSort u.sorts) scoped_sort_stays s.sorts is.sorts;
     definitions = All-weaker (IsDefinition t supply) (IsDefinition u left) definition_stays s.definitions is.definitions;
   }

@@ -165,4 +165,5 @@ module _ (t u : Formulas) (supply left : Supply) (grows : GrowsTo t u) (later : 
   locals_stay ps ls shows = record {
     names = shown_stay ps shows.numbers ∙ shows.names;
     numbers = All-weaker (λ p. IsLocal t supply p.1) (λ p. IsLocal u left p.1) (λ p is. local_stays p.1 is) ps shows.numbers;
+    own = shows.own;
   }

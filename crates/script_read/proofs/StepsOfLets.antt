@@ -26,8 +26,8 @@ use Rattle.script_read.specs.Parts.{let_word, place_of, symbol_in}
 use Rattle.script_read.specs.Reading.{Sofar, Reading, continued, gives, by_rule, beside, lets_as, ◌>>=◌}
 use Rattle.script_read.specs.Read.{Context, with_local, let_name, read, read_list, read_bindings}
 use Rattle.script_read.specs.Replies.{refused_seen}
-use Rattle.script_read.specs.Known.{IsSpared, AreSpared}
-use Rattle.script_read.specs.Bound.{LocalNames, let_local, local_meant, let_meant, locals_shown, IsLocal, AreLocals, name_at}
+use Rattle.script_read.specs.Known.{IsSpared, AreSpared, IsOwnName}
+use Rattle.script_read.specs.Bound.{LocalNames, let_local, local_meant, let_meant, locals_shown, IsLocal, AreLocals, name_at, HaveOwnNames}
 use Rattle.script_read.specs.Openings.{binds, binding_in, BindsAt}
 use Rattle.script_read.specs.PlaceClauses.{BeginsForm}
 use Rattle.script_read.specs.Places.{IsForm, form_from, forms_from}
@@ -91,6 +91,7 @@ module _ (ts : List Token) (t : Formulas) (sofar : SofarSeen) (reader : TermRead
         numbered = going.numbered;
         stands = going.stands;
         terms = All-nil (IsSpared t sofar.fresh);
+        own = All-nil (λ p. IsOwnName p.0);
         list_form = going.form;
         body_form = bound.3;
         waiting = going.waiting;
@@ -127,7 +128,7 @@ module _ (ts : List Token) (t : Formulas) (sofar : SofarSeen) (reader : TermRead
   binding_refused e refused =
       next.is ∙ ap (continued next.outer) (binding_is ∙ ap (λ n. continued body_of (continued (behind_name (forms_from ts (after_at ts lets.part)) earlier next.context) (beside state n))) refused)
 
-  module _ (term : ℕ) (form : IsForm ts term) (named_is : named ≡ Ok (name_at ts (suc lets.part), form_from ts term)) (new_name : is_among (map (λ p. p.0) lets.names) (name_at ts (suc lets.part)) ≡ false) (named_token : suc lets.part < length ts) where
+  module _ (term : ℕ) (form : IsForm ts term) (named_is : named ≡ Ok (name_at ts (suc lets.part), form_from ts term)) (new_name : is_among (map (λ p. p.0) lets.names) (name_at ts (suc lets.part)) ≡ false) (own_name : IsOwnName (name_at ts (suc lets.part))) (named_token : suc lets.part < length ts) where
     abbrev name : Name
     name = name_at ts (suc lets.part)
 
@@ -164,7 +165,9 @@ module _ (ts : List Token) (t : Formulas) (sofar : SofarSeen) (reader : TermRead
               stands = next.stands;
               bindings = next.bindings;
               terms = next.terms;
+              own = next.own;
               new_name = new_name;
+              own_name = own_name;
               named_token = named_token;
               part_form = begins.form;
               body_form = next.body_form;
@@ -225,6 +228,7 @@ module _ (ts : List Token) (t : Formulas) (sofar : SofarSeen) (reader : TermRead
       numbered = come.numbered;
       stands = waits.stands;
       terms = terms_spared;
+      own = subst HaveOwnNames (sym one_more) (All-push (λ p. IsOwnName p.0) lets.names (bound_name, k) waits.own waits.own_name);
       list_form = come.waiting.1;
       body_form = waits.body_form;
       waiting = come.waiting.3;
@@ -245,6 +249,10 @@ spared_lets : (t : Formulas) (supply : Supply) (names : List (Name × NodeId)) �
 spared_lets t supply [] spared = All-nil (λ p. IsLocal t supply p.1)
 spared_lets t supply (p ∷ ps) spared = All-cons (λ p. IsLocal t supply p.1) (let_local p) (map let_local ps)
     (All-head (IsSpared t supply) p.1 (map (λ q. q.1) ps) spared) (spared_lets t supply ps (All-tail (IsSpared t supply) p.1 (map (λ q. q.1) ps) spared))
+
+own_lets : (names : List (Name × NodeId)) → HaveOwnNames names → HaveOwnNames (map let_local names)
+own_lets [] own = All-nil (λ p. IsOwnName p.0)
+own_lets (p ∷ ps) own = All-cons (λ q. IsOwnName q.0) (let_local p) (map let_local ps) (All-head (λ q. IsOwnName q.0) p ps own) (own_lets ps (All-tail (λ q. IsOwnName q.0) p ps own))
 
 dropped : {A : Type 0} (xs ys : List A) (n : ℕ) → n ≡ length xs → drop n (xs ++ ys) ≡ ys
 dropped xs ys n all = drop-append-le n xs ys (omega (arith, all)) ∙ ap (λ zs. zs ++ ys) (drop_all n xs (omega (arith, all)))
@@ -267,6 +275,7 @@ module _ (ts : List Token) (t : Formulas) (sofar : SofarSeen) (reader : TermRead
               ∙ ap (λ ps. ps ++ locals_shown t reader.locals) (shown_lets t lets.names ∙ ap (map (λ p. (p.0, let_meant p.1))) (sym (append-nil (names_with_terms t lets.names))))
               ∙ ap (λ ps. map (λ p. (p.0, let_meant p.1)) (names_with_terms t lets.names ++ []) ++ ps) next.stands.shown.names;
           numbers = subst (AreLocals t sofar.fresh) (sym entered) (All-append (λ p. IsLocal t sofar.fresh p.1) (map let_local lets.names) reader.locals (spared_lets t sofar.fresh lets.names next.terms) next.stands.shown.numbers);
+          own = subst HaveOwnNames (sym entered) (All-append (λ p. IsOwnName p.0) (map let_local lets.names) reader.locals (own_lets lets.names next.own) next.stands.shown.own);
         };
         named = next.stands.named;
       } in

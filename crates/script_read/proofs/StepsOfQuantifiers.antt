@@ -2,6 +2,7 @@
 use Rattle.std.proofs.Common.{◌≡◌, ℕ, Bool, true, false, not, ◌||◌, List, [], ◌∷◌, ◌++◌, map, reverse, length, drop, All, Vec, Result, Ok, Err, refl, ap, sym, ◌∙◌, subst, arith}
 use Rattle.std.specs.Global.{Global}
 use Rattle.std.proofs.Math.Path.{fun_ext}
+use Rattle.std.proofs.lemmas.List.Elements.{All-weaker}
 use Rattle.smt_lex.specs.Lex.{Token}
 use Rattle.smt_lex.specs.Names.{Name}
 use Rattle.smt_lex.specs.Forest.{token_at, after_at}
@@ -35,9 +36,9 @@ use Rattle.script_read.specs.Variables.{quantifier_binder, variables_in}
 use Rattle.script_read.specs.Reading.{Sofar, Reading, continued, by_rule, beside, live_sorts, is_declared, ◌>>=◌}
 use Rattle.script_read.specs.Read.{Context, is_empty, has_sort, is_taken, draws_names, below_quantifier, renamed, constant_names, quantified_over, read, read_list}
 use Rattle.script_read.specs.Replies.{Refuses}
-use Rattle.script_read.specs.Known.{sorts_known, IsConstant}
-use Rattle.script_read.specs.Bound.{LocalNames, ShowsLocals, quantified_among, is_taken_in, variables_seen, symbols_seen, variables_of, entered}
-use Rattle.script_read.specs.BinderClauses.{AreSortedNames}
+use Rattle.script_read.specs.Known.{sorts_known, IsConstant, IsOwnName}
+use Rattle.script_read.specs.Bound.{LocalNames, ShowsLocals, name_at, quantified_among, is_taken_in, variables_seen, symbols_seen, variables_of, entered}
+use Rattle.script_read.specs.BinderClauses.{IsSortedName, AreSortedNames}
 use Rattle.script_read.specs.Openings.{binds, BindsAt}
 use Rattle.script_read.specs.Places.{SparesText, form_from, forms_from}
 use Rattle.script_read.specs.TermClauses.{ReadsAlone}
@@ -155,7 +156,7 @@ module _ (ts : List Token) (t : Formulas) (sofar : SofarSeen) (reader : TermRead
           let gains : Gains (now_at t sofar) (now_at v (record { scope = sofar.scope; fresh = left })) = record { table = all_grows; supply = later; definitions = refl } in
           let inside : Stands ts (defined_by ts reader) (now_at v (record { scope = sofar.scope; fresh = left })) locals below = record {
             shown = subst (λ ps. ShowsLocals v left ps below.locals) (sym bound_is)
-                (entered_shows u v ts left vs names cs reader.locals going.context.locals symbols_are constants (locals_stay t v sofar.fresh left all_grows later reader.locals going.context.locals going.stands.shown));
+                (entered_shows u v ts left vs names cs reader.locals going.context.locals symbols_are constants (All-weaker (IsSortedName u ts) (λ w. IsOwnName (name_at ts w.name)) (λ w is. is.own) vs sorted) (locals_stay t v sofar.fresh left all_grows later reader.locals going.context.locals going.stands.shown));
             named = going.stands.named;
           } in
           let many : length items.items ≡ length cs = ap length same in

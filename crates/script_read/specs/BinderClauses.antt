@@ -8,16 +8,18 @@ use Rattle.script_read.specs.declared.binders.Binder.{Binder}
 use Rattle.script_read.specs.declared.binders.Binder.TheVariants.{Quantifier, Definition}
 use Rattle.script_read.specs.declared.binders.SortedName.{SortedName}
 use Rattle.script_read.specs.Bound.{name_at}
+use Rattle.script_read.specs.Known.{IsOwnName}
 use Rattle.script_read.specs.Variables.{Binder as BinderOf, quantifier_binder, definition_binder}
 
 abbrev pub binder_seen : Binder → BinderOf
 binder_seen Quantifier = quantifier_binder
 binder_seen Definition = definition_binder
 
--- a token that is a symbol, and a sort of the table
+-- a token that is a symbol and no name of the theories, and a sort of the table
 pub record IsSortedName (t : Formulas) (ts : List Token) (x : SortedName) : Type 0 where
   pub token : x.name < length ts
   pub symbol : symbol_of (token_at ts x.name) ≡ Some (name_at ts x.name)
+  pub own : IsOwnName (name_at ts x.name)
   pub sort : IsSortId t.sorts x.sort
 
 abbrev pub AreSortedNames : Formulas → List Token → List SortedName → Type 0

@@ -15,7 +15,7 @@ use Rattle.script_read.specs.declared.locals.Local.{Local}
 use Rattle.script_read.specs.declared.locals.Local.TheVariants.{Let, Quantified, Parameter}
 use Rattle.script_read.specs.declared.locals.Constant.{Constant}
 use Rattle.script_read.specs.declared.binders.SortedName.{SortedName}
-use Rattle.script_read.specs.Known.{Scoping, declared_among, IsSpared, IsConstant}
+use Rattle.script_read.specs.Known.{Scoping, declared_among, IsSpared, IsConstant, IsOwnName}
 use Rattle.script_read.specs.Scope.{or_later}
 use Rattle.script_read.specs.Reading.{ReadLocal, lets_as, quantified_as, parameter_as}
 
@@ -78,6 +78,10 @@ IsLocal t supply (Parameter c) = IsConstant t supply c
 abbrev pub AreLocals : Formulas → Supply → LocalNames → Type 0
 AreLocals t supply ps = All (λ p. IsLocal t supply p.1) ps
 
+-- no name is one of the theories
+abbrev pub HaveOwnNames : {A : Type 0} → List (Name × A) → Type 0
+HaveOwnNames ps = All (λ p. IsOwnName p.0) ps
+
 -- ---- the local bindings that they stand for
 
 abbrev pub locals_live : List ReadLocal → List (Name × LocalMeant)
@@ -89,6 +93,7 @@ locals_live (parameter_as x n ∷ ls) = (x.name, parameter_meant (constant_of (r
 pub record ShowsLocals (t : Formulas) (supply : Supply) (ps : LocalNames) (ls : List ReadLocal) : Type 0 where
   pub names : locals_shown t ps ≡ locals_live ls
   pub numbers : AreLocals t supply ps
+  pub own : HaveOwnNames ps
 
 -- ---- names that are taken, and variables
 

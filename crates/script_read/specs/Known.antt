@@ -1,7 +1,7 @@
 -- What the reader keeps of the live bindings: names of terms and names of sorts apart, each list the latest first with the
 -- marks of levels, and the definitions by their numbers.
 use Rattle.std.specs.Prelude.{◌≡◌, ◌≢◌, ℕ, suc, ◌<◌, Bool, true, false, not, ◌&&◌, ◌||◌, is_some, List, [], ◌∷◌, ◌++◌, map, length, count_by, get_or, All, Option, Some, None, option_map, Result, Ok, Err}
-use Rattle.smt_lex.specs.Names.{Name}
+use Rattle.smt_lex.specs.Names.{Name, is_theory_name}
 use Rattle.smt_terms.specs.declared.ids.NodeId.{NodeId}
 use Rattle.smt_terms.specs.declared.ids.SymId.{SymId}
 use Rattle.smt_terms.specs.declared.ids.SortId.{SortId}
@@ -155,6 +155,14 @@ IsEntry t supply ds n (ConstantEntry c) = IsNamedConstant t supply n c
 IsEntry t supply ds n (DefinitionEntry k) = k < length ds
 IsEntry t supply ds n (TermEntry k) = IsSpared t supply k
 
+-- a name that isn't one of the theories
+abbrev pub IsOwnName : Name → Type 0
+IsOwnName n = is_theory_name n ≡ false
+
+abbrev pub HasOwnName : {A : Type 0} → Scoped A → Type 0
+HasOwnName None = Unit {0}
+HasOwnName (Some p) = IsOwnName p.0
+
 abbrev pub IsScopedEntry : Formulas → Supply → List Definition → Scoped Entry → Type 0
 IsScopedEntry t supply ds None = Unit {0}
 IsScopedEntry t supply ds (Some p) = IsEntry t supply ds p.0 p.1
@@ -168,6 +176,7 @@ AreScopedSorts ss bs = All (IsScopedSort ss) bs
 
 pub record IsScoping (t : Formulas) (supply : Supply) (s : Scoping) : Type 0 where
   pub terms : All (IsScopedEntry t supply s.definitions) s.terms
+  pub names : All HasOwnName s.terms
   pub sorts : AreScopedSorts t.sorts s.sorts
   pub definitions : All (IsDefinition t supply) s.definitions
 

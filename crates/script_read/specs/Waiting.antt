@@ -36,8 +36,8 @@ use Rattle.script_read.specs.Parts.{named_parts, Opening, opening}
 use Rattle.script_read.specs.Reading.{lets_as, ReadBinding, Sofar, Reading, ◌>>=◌, by_live}
 use Rattle.script_read.specs.Heads.{Callee as CalleeOf, written, array_of_sort, called, defined, operandless, applied}
 use Rattle.script_read.specs.Read.{Context, with_local, read, read_all, read_bindings, quantified_over, term_names, annotated}
-use Rattle.script_read.specs.Known.{Scoping, Shows, IsSpared, AreSpared, no_definition, parameter_sorts, IsConstant}
-use Rattle.script_read.specs.Bound.{LocalNames, ShowsLocals, variables_of, name_at}
+use Rattle.script_read.specs.Known.{Scoping, Shows, IsSpared, AreSpared, no_definition, parameter_sorts, IsConstant, IsOwnName}
+use Rattle.script_read.specs.Bound.{LocalNames, ShowsLocals, variables_of, name_at, HaveOwnNames}
 use Rattle.script_read.specs.Sizes.{form_size, forms_size}
 use Rattle.script_read.specs.Places.{IsForm, form_from, forms_from}
 
@@ -145,7 +145,9 @@ module _ (ts : List Token) (defines : Option Name) where
     pub stands : Stands w locals context
     pub bindings : Forms
     pub terms : AreSpared w.table w.supply (map (λ p. p.1) names)
+    pub own : HaveOwnNames names
     pub new_name : is_among (map (λ p. p.0) names) (name_at ts (suc part)) ≡ false
+    pub own_name : IsOwnName (name_at ts (suc part))
     pub named_token : suc part < length ts
     pub part_form : IsForm ts part
     pub body_form : IsForm ts body
@@ -221,6 +223,7 @@ module _ (ts : List Token) (defines : Option Name) where
     pub numbered : s.definitions ≡ w.definitions
     pub stands : Stands w locals context
     pub terms : AreSpared w.table w.supply (map (λ p. p.1) names)
+    pub own : HaveOwnNames names
     pub list_form : IsForm ts list
     pub body_form : IsForm ts body
     pub waiting : AllWait w frames (after_at ts list) locals outer

@@ -15,7 +15,7 @@ ghost use Rattle.term_subst.specs.Substituting.{IsLater};
 ghost use Rattle.term_walk.specs.Walking.{GrowsTo};
 ghost use Rattle.script_read.specs.Variables.{may_have, variable_in, variables_in};
 ghost use Rattle.script_read.specs.Read.{constant_names, renamed};
-ghost use Rattle.script_read.specs.Known.{AreScopedSorts, sorts_known, parameters_of, IsConstant};
+ghost use Rattle.script_read.specs.Known.{AreScopedSorts, sorts_known, parameters_of, IsConstant, IsOwnName};
 ghost use Rattle.script_read.specs.Bound.{name_at, variable_seen, variables_seen, is_taken_in, symbols_seen};
 ghost use Rattle.script_read.specs.BinderClauses.{binder_seen, IsSortedName, AreSortedNames};
 ghost use Rattle.script_read.specs.BinderSteps.{SameNames, IsNewName, drawn_for};
@@ -82,6 +82,7 @@ fn check_name(forest: &Forest, part: usize, i: usize, names: &NameSet) -> Result
     requires form { IsForm forest.now.tokens i }
     ensures new { (earlier : List Name) → SameNames earlier names.now → IsNewName forest.now.tokens earlier (place_of (form_from forest.now.tokens part)) i result }
     ensures symbol { OnOk result (symbol_of (token_at forest.now.tokens i) ≡ Some (name_at forest.now.tokens i)) }
+    ensures own { OnOk result (IsOwnName (name_at forest.now.tokens i)) }
 {
     if !is_symbol(forest, i) {
         return Err(bad_form(forest, part));

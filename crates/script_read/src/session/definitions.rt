@@ -9,7 +9,7 @@ ghost use Rattle.term_walk.specs.Walking.{GrowsTo};
 ghost use Rattle.script_read.specs.BinderClauses.{AreSortedNames};
 ghost use Rattle.script_read.specs.Bound.{name_at, variables_seen, symbols_seen, ShowsLocals};
 ghost use Rattle.script_read.specs.Heads.{parameters_from};
-ghost use Rattle.script_read.specs.Known.{AreScopedSorts, find, sorts_known, IsConstant};
+ghost use Rattle.script_read.specs.Known.{AreScopedSorts, find, sorts_known, IsConstant, IsOwnName};
 ghost use Rattle.script_read.specs.Places.{IsRead, IsForm, SparesText, form_from, forms_from};
 ghost use Rattle.script_read.specs.Replies.{Follows};
 ghost use Rattle.script_read.specs.Script.{Standing, parameters_read, read_body, defines_symbol};
@@ -110,6 +110,7 @@ fn define_body(
     requires sort { IsSortId table.old.sorts header.now.sort }
     requires known { (s : Standing) × StandsAt table.old session.old s }
     requires free { find session.old.sofar.scope.terms (name_at forest.now.tokens name) ≡ None }
+    requires own { IsOwnName (name_at forest.now.tokens name) }
     ensures step { (s : Standing) → StandsAt table.old session.old s → StepsTo no_command table.new session.new (read_body (name_at forest.now.tokens name) (variables_seen table.old forest.now.tokens header.now.parameters.items) (sort_at table.old.sorts header.now.sort) (form_from forest.now.tokens body) s) result }
     ensures later { IsLater session.old.sofar.fresh session.new.sofar.fresh }
     ensures asserted { session.new.asserted ≡ session.old.asserted }
@@ -144,6 +145,7 @@ fn bind_parameters(
     constants: &[Constant],
 ) -> Result<Locals, AllocError>
     requires names { All (λ x. x.name < length forest.now.tokens) parameters.now }
+    requires own { All (λ x. IsOwnName (name_at forest.now.tokens x.name)) parameters.now }
     requires constants { length constants.now ≡ length parameters.now }
     ensures { (s t : Formulas) (supply : Supply) → symbols_seen t constants.now ≡ parameters_from 0 (variables_seen s forest.now.tokens parameters.now) → All (IsConstant t supply) constants.now → IfOk result (λ locals. ShowsLocals t supply locals (parameters_read (variables_seen s forest.now.tokens parameters.now) (parameters_from 0 (variables_seen s forest.now.tokens parameters.now)) [])) }
 {

@@ -6,7 +6,7 @@ ghost use Rattle.term_table.specs.Formulas.{Formulas};
 ghost use Rattle.script_read.specs.Script.{declarable, sort_declarable};
 ghost use Rattle.script_read.specs.Reading.{ReadBinding};
 ghost use Rattle.script_read.specs.Bound.{name_at};
-ghost use Rattle.script_read.specs.Known.{Shows, find};
+ghost use Rattle.script_read.specs.Known.{Shows, IsOwnName, find};
 ghost use Rattle.script_read.specs.Replies.{Agrees};
 ghost use Rattle.script_read.specs.ShapeClauses.{IsNameAt, named_at};
 
@@ -22,6 +22,7 @@ pub fn check_new_name(forest: &Forest, name: usize, scope: &Scope) -> Result<(),
     requires { IsNameAt forest.now.tokens name }
     ensures test { (t : Formulas) (supply : Supply) (live : List ReadBinding) → Shows t supply scope.now live → Agrees (declarable live (named_at forest.now.tokens name) (Ok tt)) (λ u. u) result }
     ensures free { OnOk result (find scope.now.terms (name_at forest.now.tokens name) ≡ None) }
+    ensures own { OnOk result (IsOwnName (name_at forest.now.tokens name)) }
 {
     let text = forest.name(name);
     if is_reserved_for_declaring(text) {

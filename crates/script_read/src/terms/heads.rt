@@ -1,12 +1,12 @@
 //! The head of an application is read.
 
-ghost use Rattle.std.specs.Prelude.{◌≡◌, ◌≤◌, ℕ, List, length, IsTrue, Some};
+ghost use Rattle.std.specs.Prelude.{◌≡◌, ◌≤◌, ℕ, List, length, IsTrue, None, Some};
 ghost use Rattle.smt_lex.specs.Lex.{Token};
 ghost use Rattle.smt_lex.specs.Names.{Name};
 ghost use Rattle.smt_lex.specs.Forest.{token_at};
 ghost use Rattle.smt_lex.specs.Forms.{Forms, atom, node};
 ghost use Rattle.smt_terms.specs.Fresh.{Supply};
-ghost use Rattle.smt_terms.specs.Written.{operator_named, at_indices};
+ghost use Rattle.smt_terms.specs.Written.{at_indices};
 ghost use Rattle.sort_check.specs.Forms.{form_seen, is_apt_at};
 ghost use Rattle.term_table.specs.Formulas.{Formulas};
 ghost use Rattle.term_walk.specs.Walking.{GrowsTo};
@@ -170,12 +170,16 @@ fn named_callee(
 {
     let text = forest.name(name);
     let place = place_of(forest, i);
+    // neither a local name nor a live one is that of an operator
+    if let Some(form) = form_named(text) {
+        return written_callee(form, indices, place);
+    }
     if locals.find(text).is_some() {
         return Err(refused(Cause::UnknownName, place));
     }
     match scope.find(text) {
         Some(entry) => live_callee(entry, indices, place),
-        None => theory_callee(forest, name, indices, place),
+        None => theory_callee(text, indices, place),
     }
 }
 
@@ -194,26 +198,15 @@ fn live_callee(entry: Entry, indices: &Indices, place: u32) -> Result<Callee, Re
     }
 }
 
-// What a name calls that isn't live, with these indices, where the head begins at this place.
-fn theory_callee(
-    forest: &Forest,
-    name: usize,
-    indices: &Indices,
-    place: u32,
-) -> Result<Callee, ReadFault>
-    requires name { IsForm forest.now.tokens name }
-    requires indices { SomeIndices indices.now }
-    ensures { (t : Formulas) (supply : Supply) (s : Scoping) (fs : Forms) (ns : List ℕ) → AreIndices fs ns indices.now → ReadsCallee forest.now.tokens (world_of t supply s) (theory_head place (name_at forest.now.tokens name) fs ns (operator_named (name_at forest.now.tokens name))) result }
+// What a name calls that isn't live and no operator's, with these indices, where the head begins at this place.
+fn theory_callee(name: &[u8], indices: &Indices, place: u32) -> Result<Callee, ReadFault>
+    ensures { (ts : List Token) (t : Formulas) (supply : Supply) (s : Scoping) (fs : Forms) (ns : List ℕ) → AreIndices fs ns indices.now → ReadsCallee ts (world_of t supply s) (theory_head place name.now fs ns None) result }
 {
-    let text = forest.name(name);
-    if let Some(form) = form_named(text) {
-        return written_callee(form, indices, place);
-    }
-    if is_real_name(text) {
+    if is_real_name(name) {
         return Err(refused(Cause::RealSort, place));
     }
-    if is_theory_name(text) {
-        return constant_callee(text, indices, place);
+    if is_theory_name(name) {
+        return constant_callee(name, indices, place);
     }
     Err(refused(Cause::UnknownName, place))
 }

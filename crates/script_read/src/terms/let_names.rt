@@ -5,6 +5,7 @@ ghost use Rattle.smt_lex.specs.Names.{Name, is_among};
 ghost use Rattle.smt_terms.specs.declared.ids.NodeId.{NodeId};
 ghost use Rattle.script_read.specs.Bound.{let_local};
 ghost use Rattle.script_read.specs.Bound.{name_at};
+ghost use Rattle.script_read.specs.Known.{IsOwnName};
 ghost use Rattle.script_read.specs.Openings.{binding_in};
 ghost use Rattle.script_read.specs.Places.{IsForm, form_from};
 ghost use Rattle.script_read.specs.Replies.{Agrees};
@@ -99,6 +100,7 @@ pub fn binding_term(forest: &Forest, part: usize, names: &LetNames) -> Result<us
     ensures name { Agrees (binding_in (reverse (map (λ p. p.0) names.now)) (form_from forest.now.tokens part)) (λ j. (name_at forest.now.tokens (suc part), form_from forest.now.tokens j)) result }
     ensures form { IfOk result (IsForm forest.now.tokens) }
     ensures new { IfOk result (λ _. is_among (map (λ p. p.0) names.now) (name_at forest.now.tokens (suc part)) ≡ false) }
+    ensures own { IfOk result (λ _. IsOwnName (name_at forest.now.tokens (suc part))) }
     ensures token { IfOk result (λ _. suc part < length forest.now.tokens) }
     ensures size { IfOk result (λ j. form_size (form_from forest.now.tokens j) + 3 ≤ form_size (form_from forest.now.tokens part)) }
 {

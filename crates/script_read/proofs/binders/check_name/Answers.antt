@@ -4,6 +4,7 @@ use Rattle.script_read.specs.Bound.{name_at}
 use Rattle.script_read.specs.Parts.{place_of, symbol_in}
 use Rattle.script_read.specs.Places.{form_from}
 use Rattle.script_read.proofs.BinderReading.{variable-new, variable-again, among-same}
+use Rattle.script_read.proofs.NameFacts.{not_theory}
 use Rattle.script_read.proofs.binders.check_name.Goals as goal
 
 pub returns-then-has-clause-new : goal.returns-then-has-clause-new
@@ -27,3 +28,6 @@ returns-clause-new c earlier same b live f =
     (c.is_symbol.ensures.yes c.if-not-is_symbol.false)
     (ap is_reserved_for_declaring (sym c.name-name.ensures) ∙ sym c.is_reserved_for_declaring.ensures ∙ c.if-is_reserved_for_declaring.false)
     (ap (is_among earlier) (sym c.name-name.ensures) ∙ among-same earlier c.args.names.now c.name-name.result.now same ∙ sym c.has.ensures ∙ c.if-has.false)
+
+pub returns-clause-own : goal.returns-clause-own
+returns-clause-own c = not_theory _ (ap is_reserved_for_declaring (sym c.name-name.ensures) ∙ sym c.is_reserved_for_declaring.ensures ∙ c.if-is_reserved_for_declaring.false)

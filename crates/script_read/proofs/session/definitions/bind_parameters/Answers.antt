@@ -24,7 +24,7 @@ loop-i-preserved c = λ s t supply seen constants.
     let k : Constant = get_or c.args.constants.now c.loop-i.i no_constant in
     more_bound s t supply c.args.forest.now.tokens c.args.parameters.now c.args.constants.now seen constants c.loop-i.i x k (omega arith) (omega arith)
     (get_or_default c.args.parameters.now c.loop-i.i no_name x (omega arith)) (get_or_default c.args.constants.now c.loop-i.i no_constant k (omega arith))
-    c.loop-i.locals c.enter.new.self (c.loop-i.invariant s t supply seen constants)
+    c.loop-i.locals c.enter.new.self (c.requires.own c.loop-i.i no_name (omega arith)) (c.loop-i.invariant s t supply seen constants)
     (c.in_ok-enter.ensures ∙ renamed c.name.result.now _ k c.loop-i.locals c.name.ensures)
 
 pub returns : goal.returns

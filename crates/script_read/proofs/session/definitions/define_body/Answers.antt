@@ -123,7 +123,7 @@ returns-clause-step c = λ s stands.
     (ap (λ to. has_sort to (tree c.read_term.new.table c.in_ok-node.node)) (sym (sort_stays c.args.table.now.sorts c.read_term.new.table.sorts grows.sorts c.args.header.now.sort c.requires.sort)) ∙ sym c.has_sort.ensures.answer ∙ c.if-not-has_sort.false)
     made.0
     (made.1 ∙ sym (sorts_seen c.args.table.now c.args.forest.now.tokens c.args.header.now.parameters.items))
-    refl
+    refl c.requires.own
     (c.in_ok-define.ensures ∙ ap (λ m. with_definition m d c.read_term.new.sofar.scope) c.name.ensures)
 
 pub returns-clause-grows : goal.returns-clause-grows

@@ -1,4 +1,4 @@
-use Rattle.std.proofs.Common.{◌≡◌, ap, sym, ◌∙◌}
+use Rattle.std.proofs.Common.{ap, sym, ◌∙◌}
 use Rattle.smt_lex.specs.Lex.{name_of}
 use Rattle.smt_lex.specs.Forest.{token_at}
 use Rattle.script_read.specs.Known.{find}

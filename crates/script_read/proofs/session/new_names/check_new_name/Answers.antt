@@ -3,6 +3,7 @@ use Rattle.std.specs.Prelude.{is_some}
 use Rattle.smt_lex.specs.Names.{is_reserved_for_declaring}
 use Rattle.script_read.specs.Known.{find}
 use Rattle.script_read.specs.ShapeClauses.{named_at}
+use Rattle.script_read.proofs.NameFacts.{not_theory}
 use Rattle.script_read.proofs.NewNames.{refused_at, live_refused, new_passed}
 use Rattle.script_read.proofs.session.new_names.check_new_name.Goals as goal
 
@@ -18,3 +19,6 @@ returns-clause-test c = λ t supply live shows.
     new_passed live (named_at c.args.forest.now.tokens c.args.name) t c.args.scope.now shows.terms
     (ap is_reserved_for_declaring (sym c.name-text.ensures) ∙ sym c.is_reserved_for_declaring.ensures ∙ c.if-is_reserved_for_declaring.false)
     (ap (λ n. is_some (find c.args.scope.now.terms n)) (sym c.name-text.ensures) ∙ ap is_some (sym c.find.ensures) ∙ sym c.is_some.ensures ∙ c.if-is_some.false)
+
+pub returns-clause-own : goal.returns-clause-own
+returns-clause-own c = not_theory _ (ap is_reserved_for_declaring (sym c.name-text.ensures) ∙ sym c.is_reserved_for_declaring.ensures ∙ c.if-is_reserved_for_declaring.false)

@@ -10,7 +10,7 @@ use Rattle.term_table.specs.Formulas.{Formulas, symbol_at, symbol_over}
 use Rattle.term_walk.specs.Walking.{GrowsTo}
 use Rattle.term_walk.proofs.Visits.{table-grows}
 use Rattle.script_read.specs.Bound.{name_at}
-use Rattle.script_read.specs.Known.{IsEntry, symbol_meant, meant_by, with_entry}
+use Rattle.script_read.specs.Known.{IsEntry, symbol_meant, with_entry}
 use Rattle.script_read.specs.Places.{form_from}
 use Rattle.script_read.specs.ShapeClauses.{named_at, listed_at}
 use Rattle.script_read.specs.Replies.{refused_seen}

@@ -28,3 +28,7 @@ returns-clause-name c =
     (among_reversed (map (λ p. p.0) c.args.names.now) (name_at c.args.forest.now.tokens c.in-Some.name)
     ∙ ap (is_among (map (λ p. p.0) c.args.names.now)) (sym c.name-2.ensures) ∙ sym c.has.ensures ∙ c.if-has.false)
     ∙ (let same = c.in-Some.ensures.within.next in λ i. Ok (name_at c.args.forest.now.tokens (same i), form_from c.args.forest.now.tokens c.in-Some.term))
+
+pub returns-clause-own : goal.returns-clause-own
+returns-clause-own c =
+    ap is_theory_name (ap (name_at c.args.forest.now.tokens) (sym c.in-Some.ensures.within.next) ∙ sym c.name.ensures) ∙ sym c.is_theory_name.ensures ∙ c.if-is_theory_name.false

@@ -11,4 +11,4 @@ returns-in_err-term-clause-steps c t s r next =
 pub returns-clause-steps : goal.returns-clause-steps
 returns-clause-steps c t s r next =
     binding_begins c.args.forest.now.tokens t s c.args.self.now c.args.lets r next c.requires.part
-    c.in_ok-term.term c.in_ok-term.ensures.form c.in_ok-term.ensures.name c.in_ok-term.ensures.new c.in_ok-term.ensures.token c.push.new.self c.in_ok-push.ensures.items
+    c.in_ok-term.term c.in_ok-term.ensures.form c.in_ok-term.ensures.name c.in_ok-term.ensures.new c.in_ok-term.ensures.own c.in_ok-term.ensures.token c.push.new.self c.in_ok-push.ensures.items
