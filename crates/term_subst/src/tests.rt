@@ -7,49 +7,86 @@ use crate::{Fresh, SymMap, SymPairs};
 use smt_terms::{NodeId, SymId};
 use smt_values::SortId;
 use std::alloc::{AllocError, Global};
+use std::process::Abort;
 use std::test::Fail;
 use term_table::Table;
 use terms::{gives, supply_but};
 
-// The names that are drawn next, with a blank behind each.
-fn drawn(
+// Puts the name that is drawn next behind a text, and a blank.
+fn draw(table: &mut Table, fresh: &mut Fresh, text: &mut Vec<u8>) -> Result<(), AllocError> {
+    let symbol = fresh.next(table, SortId(0))?;
+    text.extend_from_slice(table.symbol_name(symbol))?;
+    text.push(b' ')?;
+    Ok(())
+}
+
+// Asserts that so many names are drawn next, which are these with a blank behind each.
+fn draws(
+    rt: &impl Abort,
     alloc: Global,
     table: &mut Table,
     fresh: &mut Fresh,
     count: usize,
-) -> Result<Vec<u8>, AllocError> {
+    names: &[u8],
+) -> Result<(), AllocError> {
     let mut text = Vec::new(alloc);
     for _ in 0..count {
-        let symbol = fresh.next(table, SortId(0))?;
-        text.extend_from_slice(table.symbol_name(symbol))?;
-        text.push(b' ')?;
+        draw(table, fresh, &mut text)?;
     }
-    Ok(text)
+    assert!(rt; text.as_slice() == names);
+    Ok(())
+}
+
+// Asserts that both supplies draw FV3 to FV9 and FV11.
+fn draw_alike(
+    rt: &impl Abort,
+    alloc: Global,
+    table: &mut Table,
+    first: &mut Fresh,
+    second: &mut Fresh,
+) -> Result<(), AllocError> {
+    let names = b"FV3 FV4 FV5 FV6 FV7 FV8 FV9 FV11 ";
+    draws(rt, alloc, table, first, 8, names)?;
+    draws(rt, alloc, table, second, 8, names)
+}
+
+// Asserts that a supply without FV1 and FV10 draws the others in order, and its copy the same ones.
+fn draws_in_order(
+    rt: &impl Abort,
+    alloc: Global,
+    table: &mut Table,
+    fresh: &mut Fresh,
+) -> Result<(), AllocError> {
+    draws(rt, alloc, table, fresh, 2, b"FV0 FV2 ")?;
+    let mut copy = fresh.copy()?;
+    draw_alike(rt, alloc, table, fresh, &mut copy)
+}
+
+// Asserts what `draws_in_order` does, in a new table.
+fn draws_anew(rt: &impl Abort, alloc: Global, fresh: &mut Fresh) -> Result<(), AllocError> {
+    let mut table = Table::new(alloc);
+    draws_in_order(rt, alloc, &mut table, fresh)
 }
 
 #[test]
 fn names_are_drawn_in_order(rt: HostRuntime) -> Result<(), Fail> {
-    let alloc = rt.alloc();
-    let mut table = Table::new(alloc);
-    let mut fresh = supply_but(alloc, b"FV1", b"FV10")?;
-    let first = drawn(alloc, &mut table, &mut fresh, 2)?;
-    assert!(rt; first.as_slice() == b"FV0 FV2 ".as_slice());
-    let mut copy = fresh.copy()?;
-    let rest = drawn(alloc, &mut table, &mut fresh, 8)?;
-    assert!(rt; rest.as_slice() == b"FV3 FV4 FV5 FV6 FV7 FV8 FV9 FV11 ".as_slice());
-    let again = drawn(alloc, &mut table, &mut copy, 8)?;
-    assert!(rt; again == rest);
+    let mut fresh = supply_but(rt.alloc(), b"FV1", b"FV10")?;
+    draws_anew(&rt, rt.alloc(), &mut fresh)?;
     Ok(())
 }
 
 #[test]
-fn maps_and_pairs_are_kept(rt: HostRuntime) -> Result<(), Fail> {
-    let alloc = rt.alloc();
-    let mut map = SymMap::new(alloc);
+fn the_last_image_is_kept(rt: HostRuntime) -> Result<(), Fail> {
+    let mut map = SymMap::new(rt.alloc());
     map.set(SymId(1), NodeId(7))?;
     map.set(SymId(1), NodeId(9))?;
     assert!(rt; map.get(SymId(1)) == Some(NodeId(9)));
-    let mut pairs = SymPairs::new(alloc);
+    Ok(())
+}
+
+#[test]
+fn pairs_are_kept(rt: HostRuntime) -> Result<(), Fail> {
+    let mut pairs = SymPairs::new(rt.alloc());
     pairs.push((SymId(1), NodeId(7)))?;
     assert!(rt; pairs.get(0) == (SymId(1), NodeId(7)));
     Ok(())

@@ -212,15 +212,15 @@ fn substituted(
     root: NodeId,
     symbol: SymId,
     image: NodeId,
+    fresh: &mut Fresh,
 ) -> Result<NodeId, AllocError>
     requires root { IsNode table.old root }
     requires pair { IsPair table.old (symbol, image) }
-    requires spared { (s : Supply) → AreSpared s table.old }
+    requires spared { AreSpared fresh.old table.old }
 {
     let mut map = SymMap::new(alloc);
     map.set(symbol, image)?;
-    let mut fresh = supply_but(alloc, b"FV1", b"FV10")?;
-    let node = substitute(alloc, table, &map, root, &mut fresh)?;
+    let node = substitute(alloc, table, &map, root, fresh)?;
     Ok(node)
 }
 
@@ -231,16 +231,16 @@ fn expanded(
     root: NodeId,
     symbol: SymId,
     image: NodeId,
+    fresh: &mut Fresh,
 ) -> Result<NodeId, AllocError>
     requires root { IsNode table.old root }
     requires pair { IsPair table.old (symbol, image) }
-    requires spared { (s : Supply) → AreSpared s table.old }
+    requires spared { AreSpared fresh.old table.old }
 {
     let mut params = Syms::new(alloc);
     params.push(symbol)?;
     let definition = Definition { params, body: root };
-    let mut fresh = supply_but(alloc, b"FV1", b"FV10")?;
-    let node = expand(alloc, table, &definition, &[image], &mut fresh)?;
+    let node = expand(alloc, table, &definition, &[image], fresh)?;
     Ok(node)
 }
 
@@ -263,6 +263,26 @@ enum Way {
     Expansion,
 }
 
+// A node with an image for a constant, put in this way.
+fn with_image(
+    alloc: Global,
+    table: &mut Table,
+    root: NodeId,
+    symbol: SymId,
+    image: NodeId,
+    way: Way,
+) -> Result<NodeId, AllocError>
+    requires root { IsNode table.old root }
+    requires pair { IsPair table.old (symbol, image) }
+    requires spared { (s : Supply) → AreSpared s table.old }
+{
+    let mut fresh = supply_but(alloc, b"FV1", b"FV10")?;
+    match way {
+        Way::Substitution => substituted(alloc, table, root, symbol, image, &mut fresh),
+        Way::Expansion => expanded(alloc, table, root, symbol, image, &mut fresh),
+    }
+}
+
 // The last node, with the one before it in the place of a constant.
 fn put_in(
     rt: &impl Abort,
@@ -277,29 +297,75 @@ fn put_in(
     if !are_spared(table) {
         panic!(rt; "a name that may be drawn");
     }
-    match way {
-        Way::Substitution => substituted(alloc, table, root, symbol, image),
-        Way::Expansion => expanded(alloc, table, root, symbol, image),
-    }
+    with_image(alloc, table, root, symbol, image, way)
+}
+
+// The node that putting an image in gives, where the table gains so many nodes.
+fn counted(
+    rt: &impl Abort,
+    alloc: Global,
+    table: &mut Table,
+    nodes: &mut Vec<NodeId>,
+    more: u64,
+    way: Way,
+) -> Result<NodeId, AllocError> {
+    let count = table.len();
+    let node = put_in(rt, alloc, table, nodes, way)?;
+    assert!(rt; table.len() == count.saturating_add(more));
+    Ok(node)
+}
+
+// The node that the last one of these texts becomes.
+fn result_of(
+    rt: &impl Abort,
+    alloc: Global,
+    table: &mut Table,
+    texts: &[(&[u8], usize)],
+    more: u64,
+    way: Way,
+) -> Result<NodeId, AllocError> {
+    let mut nodes = read_all(rt, alloc, table, texts)?;
+    counted(rt, alloc, table, &mut nodes, more, way)
+}
+
+// Asserts that a node is the last one of these texts.
+fn is_last(
+    rt: &impl Abort,
+    alloc: Global,
+    table: &mut Table,
+    texts: &[(&[u8], usize)],
+    node: NodeId,
+) -> Result<(), AllocError> {
+    let mut nodes = read_all(rt, alloc, table, texts)?;
+    assert!(rt; nodes.pop() == Some(node));
+    Ok(())
 }
 
 // Asserts that the texts give the wanted formula in this way, with so many more nodes.
 fn gives_by(
     rt: &impl Abort,
     alloc: Global,
+    table: &mut Table,
     texts: &[(&[u8], usize)],
     wanted: &[(&[u8], usize)],
     more: u64,
     way: Way,
-) -> Result<(), Fail> {
+) -> Result<(), AllocError> {
+    let node = result_of(rt, alloc, table, texts, more, way)?;
+    is_last(rt, alloc, table, wanted, node)
+}
+
+// Asserts what `gives_by` does, in a new table.
+fn gives_anew(
+    rt: &impl Abort,
+    alloc: Global,
+    texts: &[(&[u8], usize)],
+    wanted: &[(&[u8], usize)],
+    more: u64,
+    way: Way,
+) -> Result<(), AllocError> {
     let mut table = Table::new(alloc);
-    let mut nodes = read_all(rt, alloc, &mut table, texts)?;
-    let count = table.len();
-    let node = put_in(rt, alloc, &mut table, &mut nodes, way)?;
-    assert!(rt; table.len() == count.saturating_add(more));
-    let mut nodes = read_all(rt, alloc, &mut table, wanted)?;
-    assert!(rt; nodes.pop() == Some(node));
-    Ok(())
+    gives_by(rt, alloc, &mut table, texts, wanted, more, way)
 }
 
 /// Asserts that the last node of the texts, with the node before it for `x`, or for `i`, is the wanted formula, and that
@@ -311,7 +377,7 @@ pub(crate) fn gives(
     wanted: &[(&[u8], usize)],
     more: u64,
 ) -> Result<(), Fail> {
-    gives_by(rt, alloc, texts, wanted, more, Way::Substitution)?;
-    gives_by(rt, alloc, texts, wanted, more, Way::Expansion)?;
+    gives_anew(rt, alloc, texts, wanted, more, Way::Substitution)?;
+    gives_anew(rt, alloc, texts, wanted, more, Way::Expansion)?;
     Ok(())
 }
