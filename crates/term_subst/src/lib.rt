@@ -22,6 +22,3 @@ pub use fresh::Fresh;
 pub use maps::{Definition, Group, SymMap, SymPairs};
 pub use names::NameSet;
 pub use substitution::{expand, substitute};
-
-#[cfg(test)]
-mod tests;

@@ -12,12 +12,12 @@ ghost use Rattle.term_subst.specs.Building.{AreSpared};
 ghost use Rattle.term_subst.specs.Substituting.{IsPair};
 
 use super::spared::are_spared;
-use crate::{Definition, Fresh, NameSet, SymMap, expand, substitute};
 use smt_terms::{NodeId, SymId};
 use smt_values::{Op, SortId};
 use std::alloc::{AllocError, Global};
 use std::process::Abort;
 use std::test::Fail;
+use term_subst::{Definition, Fresh, NameSet, SymMap, expand, substitute};
 use term_table::{Syms, Table};
 
 const BOOL: SortId = SortId(0);

@@ -1,7 +1,7 @@
 use Rattle.std.proofs.Common.{arith}
 use Rattle.smt_terms.specs.declared.ids.NodeId.{NodeId}
 use Rattle.term_subst.proofs.Spared.{next-spared}
-use Rattle.term_subst.proofs.tests.spared.are_spared.Goals as goal
+use Rattle.term_subst_tests.proofs.tests.spared.are_spared.Goals as goal
 
 pub loop-number-preserved : goal.loop-number-preserved
 loop-number-preserved c s =

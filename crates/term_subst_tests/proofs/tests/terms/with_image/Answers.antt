@@ -1,4 +1,4 @@
-use Rattle.term_subst.proofs.tests.terms.with_image.Goals as goal
+use Rattle.term_subst_tests.proofs.tests.terms.with_image.Goals as goal
 
 pub substituted-requires-clause-spared : goal.substituted-requires-clause-spared
 substituted-requires-clause-spared c = c.requires.spared c.in_ok-fresh.fresh

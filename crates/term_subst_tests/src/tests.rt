@@ -3,12 +3,12 @@
 mod spared;
 mod terms;
 
-use crate::{Fresh, SymMap, SymPairs};
 use smt_terms::{NodeId, SymId};
 use smt_values::SortId;
 use std::alloc::{AllocError, Global};
 use std::process::Abort;
 use std::test::Fail;
+use term_subst::{Fresh, SymMap, SymPairs};
 use term_table::Table;
 use terms::{gives, supply_but};
 
