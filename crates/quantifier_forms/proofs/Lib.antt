@@ -22,4 +22,3 @@ pub mod Exchanged
 pub mod Pulled
 pub mod Turned
 pub mod TurnNodes
-pub mod Spared

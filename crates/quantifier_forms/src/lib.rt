@@ -22,6 +22,3 @@ mod work;
 pub use prenex_form::prenex;
 pub use self_substitution::self_subst;
 pub use shannon_expansion::shannon;
-
-#[cfg(test)]
-mod tests;

@@ -6,12 +6,15 @@
 //! where `FV2` is taken, `S` that Shannon's expansion does, and `Q` that self-substitution does.
 
 ghost use Rattle.std.specs.Prelude.{◌≡◌, ◌<◌, false, length, IfSome, IsTrue};
+ghost use Rattle.smt_terms.specs.Fresh.{Supply};
 ghost use Rattle.smt_terms.specs.Rank.{is_minus};
-ghost use Rattle.term_table.specs.Formulas.{Formulas, AreNodes, IsOpOf};
+ghost use Rattle.smt_terms.specs.SubstLaws.{GivesNone, names_within};
+ghost use Rattle.term_table.specs.Formulas.{Formulas, tree, AreNodes, IsOpOf};
+ghost use Rattle.normal_forms.specs.Nodes.{IsFormula};
 
 use super::spared::is_spared;
-use crate::{prenex, self_subst, shannon};
 use normal_forms::shapes::is_formula;
+use quantifier_forms::{prenex, self_subst, shannon};
 use smt_terms::NodeId;
 use smt_values::{Op, SortId};
 use std::alloc::{AllocError, Global};
@@ -140,8 +143,47 @@ enum Form {
     Substituted,
 }
 
-// A form of a formula, with names from the first one on, but for the third.
+// A form of a formula, with names that stand nowhere in it.
 fn formed(
+    alloc: Global,
+    table: &mut Table,
+    id: NodeId,
+    form: Form,
+    fresh: &mut Fresh,
+) -> Result<NodeId, AllocError>
+    requires formula { IsFormula table.old id }
+    requires spared { GivesNone fresh.old (names_within (tree table.old id)) }
+{
+    match form {
+        Form::Prenex => prenex(alloc, table, id, fresh),
+        Form::Expanded => shannon(alloc, table, id),
+        Form::Substituted => self_subst(alloc, table, id, fresh),
+    }
+}
+
+// The names from the first one on, but for the third.
+fn supply(alloc: Global) -> Result<Fresh, AllocError> {
+    let mut names = NameSet::new(alloc);
+    names.add(b"FV2")?;
+    Ok(Fresh::new(alloc, names))
+}
+
+// A form of a formula that has none of the names, with these names.
+fn with_names(
+    alloc: Global,
+    table: &mut Table,
+    id: NodeId,
+    form: Form,
+) -> Result<NodeId, AllocError>
+    requires formula { IsFormula table.old id }
+    requires spared { (s : Supply) → GivesNone s (names_within (tree table.old id)) }
+{
+    let mut fresh = supply(alloc)?;
+    formed(alloc, table, id, form, &mut fresh)
+}
+
+// A form of a node, which has to be a formula with names of one byte.
+fn form_of(
     rt: &impl Abort,
     alloc: Global,
     table: &mut Table,
@@ -151,14 +193,7 @@ fn formed(
     assert!(rt; id.0 < table.len());
     assert!(rt; is_formula(table, id));
     assert!(rt; is_spared(alloc, table, id)?);
-    let mut names = NameSet::new(alloc);
-    names.add(b"FV2")?;
-    let mut fresh = Fresh::new(alloc, names);
-    match form {
-        Form::Prenex => prenex(alloc, table, id, &mut fresh),
-        Form::Expanded => shannon(alloc, table, id),
-        Form::Substituted => self_subst(alloc, table, id, &mut fresh),
-    }
+    with_names(alloc, table, id, form)
 }
 
 // The node that an operator makes of the nodes behind it, which are taken off.
@@ -187,7 +222,7 @@ fn compare(
 ) -> Result<(), AllocError> {
     let pair = take(rt, alloc, found, 2)?;
     assert!(rt; pair.len() == 2);
-    let result = formed(rt, alloc, table, pair[0], form)?;
+    let result = form_of(rt, alloc, table, pair[0], form)?;
     assert!(rt; result == pair[1]);
     Ok(())
 }
@@ -266,6 +301,22 @@ fn built(
     Ok(nodes)
 }
 
+// Reads this text over towers, the first one lowest.
+fn read_over(
+    rt: &impl Abort,
+    alloc: Global,
+    table: &mut Table,
+    towers: &[Tower<'_>],
+    text: &[u8],
+) -> Result<(), AllocError> {
+    let mut known = Vec::new(alloc);
+    for tower in towers {
+        known = built(rt, alloc, table, known.as_slice(), *tower)?;
+    }
+    terms(rt, alloc, table, known.as_slice(), text)?;
+    Ok(())
+}
+
 /// Reads this text over towers, the first one lowest, in a new table.
 pub(crate) fn after(
     rt: &impl Abort,
@@ -274,10 +325,5 @@ pub(crate) fn after(
     text: &[u8],
 ) -> Result<(), AllocError> {
     let mut table = Table::new(alloc);
-    let mut known = Vec::new(alloc);
-    for tower in towers {
-        known = built(rt, alloc, &mut table, known.as_slice(), *tower)?;
-    }
-    terms(rt, alloc, &mut table, known.as_slice(), text)?;
-    Ok(())
+    read_over(rt, alloc, &mut table, towers, text)
 }

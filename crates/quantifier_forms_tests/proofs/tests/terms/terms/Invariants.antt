@@ -1,5 +1,5 @@
 use Rattle.std.proofs.Common.{◌≤◌, length}
-use Rattle.quantifier_forms.proofs.tests.terms.terms.Given as goal
+use Rattle.quantifier_forms_tests.proofs.tests.terms.terms.Given as goal
 
 abbrev pub invariant-loop-place : goal.invariant-loop-place
 invariant-loop-place g l = l.place ≤ length l.text
