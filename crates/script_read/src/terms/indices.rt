@@ -6,13 +6,14 @@ ghost use Rattle.script_read.specs.Places.{forms_from};
 ghost use Rattle.smt_lex.specs.Forms.{none};
 
 use crate::places::{GREATEST, begins, numeral_at, place_of};
+use smallvec::SmallVec;
 use smt_lex::Forest;
 use std::alloc::{AllocError, Global};
 
 /// The indices of a head. Those that are greater than an index may be are all alike.
 #[derive(Drop)]
 pub struct Indices {
-    pub values: Vec<u128>,
+    pub values: SmallVec<u128, 2>,
     /// The place of the first that is greater than it may be.
     pub beyond: Option<u32>,
 }
@@ -23,7 +24,7 @@ impl Indices {
         ensures { AreIndices none [] result }
     {
         Indices {
-            values: Vec::new(alloc),
+            values: SmallVec::new(alloc),
             beyond: None,
         }
     }
@@ -34,7 +35,7 @@ impl Indices {
         requires { i ≤ length forest.now.tokens }
         ensures { IfOk result (ReadsIndices (forms_from forest.now.tokens i)) }
     {
-        let mut values = Vec::new(alloc);
+        let mut values = SmallVec::new(alloc);
         let mut next = i;
         while begins(forest, next) {
             let Some(value) = numeral_at(forest, next) else {
