@@ -1,6 +1,7 @@
 -- Indices of heads: those that are greater than they may be, and how many an operator takes.
 use Rattle.std.proofs.Common.{◌≡◌, ◌≢◌, ℕ, ◌-◌, ◌<◌, ◌≤◌, ◌^◌, Bool, true, false, List, [], ◌∷◌, ◌++◌, map, length, All, Option, Some, None, option_map, Ok, refl, ap, sym, ◌∙◌, arith, append_assoc, append-nil, if◌then◌else◌}
 use Rattle.std.specs.Prelude.{nat_lt, unwrap_or}
+use Rattle.std.specs.Option.{option_or}
 use Rattle.std.proofs.lemmas.Bool.{ltb-false}
 use Rattle.std.proofs.lemmas.List.{map-append}
 use Rattle.std.proofs.lemmas.List.Elements.{All-nil, All-cons}
@@ -43,6 +44,21 @@ beyond_limit (f ⨾ fs) c place is = by (nat_lt greatest_number (unwrap_or (nume
     by : (b : Bool) → (if b then Some (place_of f) else beyond_in fs) ≡ Some place → (beyond_in fs ≡ Some place → indices_within fs c ≡ at NumberLimit place) → unless b NumberLimit (place_of f) (indices_within fs c) ≡ at NumberLimit place
     by true here below = let same : place_of f ≡ place = cc in ap (λ p. at NumberLimit p) same
     by false here below = below here
+
+pub one_more_place : (o : Option ℕ) (fs gs : Forms) (f : Form) → fs ≡ f ⨾ gs → option_or o (beyond_in fs) ≡ option_or (option_or o (beyond_in (f ⨾ none))) (beyond_in gs)
+one_more_place o fs gs f forms = ap (λ hs. option_or o (beyond_in hs)) forms ∙ by o (nat_lt greatest_number (unwrap_or (numeral_in f) 0))
+  where
+    by : (p : Option ℕ) (b : Bool) → option_or p (if b then Some (place_of f) else beyond_in gs) ≡ option_or (option_or p (if b then Some (place_of f) else None)) (beyond_in gs)
+    by None true = refl
+    by None false = refl
+    by (Some place) b = refl
+
+pub no_more_places : (o : Option ℕ) (fs : Forms) → fs ≡ none → option_or o (beyond_in fs) ≡ o
+no_more_places o fs forms = ap (λ hs. option_or o (beyond_in hs)) forms ∙ by o
+  where
+    by : (p : Option ℕ) → option_or p None ≡ p
+    by None = refl
+    by (Some place) = refl
 
 -- ---- lists of numerals
 

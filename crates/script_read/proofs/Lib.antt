@@ -14,6 +14,7 @@ mod ClearReads
 mod ClearScript
 mod ClearTerms
 pub mod CommandsStay
+mod CommandWords
 mod DefinedName
 mod DefinitionSteps
 mod Defining
@@ -77,6 +78,7 @@ pub mod Stepping
 mod SubstClear
 mod SymbolsRead
 mod TheoryConstants
+mod TheoryNames
 mod TermsMean
 mod UsableBindings
 mod UsableReads

@@ -1,5 +1,5 @@
 -- The names of a text, token by token.
-use Rattle.std.proofs.Common.{◌≡◌, ℕ, zero, suc, ◌+◌, ◌<◌, ◌≤◌, inl, inr, Bool, true, false, not, cond, List, [], ◌∷◌, ◌++◌, length, Some, refl, ap, sym, ◌∙◌, arith, ◌&&◌, ◌==◌, true≢false}
+use Rattle.std.proofs.Common.{◌≡◌, ℕ, zero, suc, ◌+◌, ◌<◌, ◌≤◌, inl, inr, Bool, true, false, not, cond, List, [], ◌∷◌, ◌++◌, length, None, Some, if◌then◌else◌, refl, ap, sym, ◌∙◌, arith, ◌&&◌, ◌==◌, true≢false}
 use Rattle.std.proofs.lemmas.List.{drop_more, drop_all}
 use Rattle.std.proofs.lemmas.Bool.Decides.{eqb_tells}
 use Rattle.smt_lex.specs.declared.items.Item.{Item}
@@ -93,6 +93,17 @@ names_at_start ts ns matched = ap (names_around (names_with_all ns (rest ts).0))
 
 pub with_name_alike : (ns : List Name) (n : Name) → with_name_held ns n ≡ with_name ns (Some n)
 with_name_alike ns n = ap (λ b. cond b ns (ns ++ n ∷ [])) (sym (among_alike ns n))
+
+-- a word that is there, reserved or not
+pub word_there : (ns : List Name) (n : Name) (reserved : Bool) → name_among ns n ≡ true → ns ≡ with_name ns (if reserved then None else Some n)
+word_there ns n true among = refl
+word_there ns n false among = ap (λ b. cond b ns (ns ++ n ∷ [])) (sym (among_alike ns n ∙ among))
+
+pub word_reserved : (ns : List Name) (n : Name) (reserved : Bool) → reserved ≡ true → ns ≡ with_name ns (if reserved then None else Some n)
+word_reserved ns n reserved is = rw is refl
+
+pub word_added : (ns : List Name) (n : Name) (reserved : Bool) → reserved ≡ false → with_name_held ns n ≡ with_name ns (if reserved then None else Some n)
+word_added ns n reserved is = rw is (with_name_alike ns n)
 
 -- ---- each symbol of the text is among its names
 

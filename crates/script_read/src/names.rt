@@ -6,77 +6,7 @@ ghost use Rattle.smt_lex.specs.Lexicon.{is_some_of};
 ghost use Rattle.std.specs.Char.{is_ascii_digit};
 ghost use Rattle.script_read.specs.Heads.{real_names, takes_no_index};
 
-// The names of the theories, but for `bv` and digits.
-const CORE_NAMES: [&[u8]; 10] = [
-    b"true",
-    b"false",
-    b"not",
-    b"and",
-    b"or",
-    b"xor",
-    b"=>",
-    b"=",
-    b"distinct",
-    b"ite",
-];
-
-const NUMBER_NAMES: [&[u8]; 15] = [
-    b"-",
-    b"+",
-    b"*",
-    b"/",
-    b"div",
-    b"mod",
-    b"abs",
-    b"<=",
-    b"<",
-    b">=",
-    b">",
-    b"divisible",
-    b"to_real",
-    b"to_int",
-    b"is_int",
-];
-
-const BIT_VECTOR_NAMES: [&[u8]; 35] = [
-    b"concat",
-    b"extract",
-    b"bvnot",
-    b"bvneg",
-    b"bvand",
-    b"bvor",
-    b"bvxor",
-    b"bvadd",
-    b"bvmul",
-    b"bvnand",
-    b"bvnor",
-    b"bvxnor",
-    b"bvsub",
-    b"bvudiv",
-    b"bvurem",
-    b"bvsdiv",
-    b"bvsrem",
-    b"bvsmod",
-    b"bvshl",
-    b"bvlshr",
-    b"bvashr",
-    b"bvcomp",
-    b"bvult",
-    b"bvule",
-    b"bvslt",
-    b"bvsle",
-    b"bvugt",
-    b"bvuge",
-    b"bvsgt",
-    b"bvsge",
-    b"repeat",
-    b"zero_extend",
-    b"sign_extend",
-    b"rotate_left",
-    b"rotate_right",
-];
-
-const ARRAY_NAMES: [&[u8]; 3] = [b"select", b"store", b"const"];
+use sort_check::form_named;
 
 // The sorts of the theories.
 const THEORY_SORTS: [&[u8]; 5] = [b"Bool", b"Int", b"Real", b"Array", b"BitVec"];
@@ -121,21 +51,17 @@ pub fn is_bit_vector_constant(name: &[u8]) -> bool
     }
 }
 
-/// Whether the name belongs to a theory.
-#[tactic(auto, unfolding(smt_lex::specs::Names::is_theory_name))]
+/// Whether the name belongs to a theory: it is that of an operator, or one of a few others.
 pub fn is_theory_name(name: &[u8]) -> bool
     ensures { result ≡ is_theory_name name.now }
 {
-    if is_among(&CORE_NAMES, name) {
+    if form_named(name).is_some() {
         return true;
     }
-    if is_among(&NUMBER_NAMES, name) {
+    if takes_no_index(name) {
         return true;
     }
-    if is_among(&BIT_VECTOR_NAMES, name) {
-        return true;
-    }
-    is_among(&ARRAY_NAMES, name) || is_bit_vector_constant(name)
+    is_real_name(name) || is_bit_vector_constant(name)
 }
 
 /// Whether the name is that of a function of the theory of reals.

@@ -1,6 +1,7 @@
 //! Scripts: `script b`, the commands of the bytes b with their terms and the names that are left, or the first refusal.
 
 ghost use Rattle.std.specs.Prelude.{◌≡◌, ◌++◌, IfOk, OnOk, option_to_list};
+ghost use Rattle.term_table.specs.Formulas.{IsUnchanged};
 ghost use Rattle.term_walk.specs.Walking.{GrowsTo};
 ghost use Rattle.script_read.specs.CommandLists.{ReadsScript, AreCommandsOf};
 ghost use Rattle.script_read.specs.Places.{IsRead, SparesText, forms_from};
@@ -33,8 +34,16 @@ pub fn read_script(
 {
     let names = names_in(alloc, forest)?;
     let mut session = Session::new(alloc, Fresh::new(alloc, names));
+    make_room(table, forest);
     let commands = read_commands(alloc, table, forest, &mut session)?;
     Ok((Script { commands }, session.into_names()))
+}
+
+// Makes room for about as many nodes as the text has. Without memory for them all, the reading asks for it as it goes.
+fn make_room(table: &mut Table, forest: &Forest)
+    ensures { IsUnchanged table.old table.new }
+{
+    let _ = table.reserve(forest.len() / 8);
 }
 
 // Reads all commands of a text.

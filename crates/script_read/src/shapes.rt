@@ -1,6 +1,8 @@
 //! The outer shapes of commands (SMT-LIB 2.6, section 3.9).
 
-ghost use Rattle.std.specs.Prelude.{◌≡◌, ◌≤◌, length, map, option_map, IfOk, IfSome};
+ghost use Rattle.std.specs.Prelude.{◌≡◌, ◌≤◌, length, map, option_map, if◌then◌else◌, IfOk, IfSome};
+ghost use Rattle.smt_lex.specs.Names.{is_command_word};
+ghost use Rattle.script_read.specs.declared.causes.Cause.TheVariants.{UnknownCommand, UnsupportedCommand};
 ghost use Rattle.script_read.specs.Outlines.{outline, word_among, supported, shape, symbol_at, numeral_at, list_in, is_globals, option_shape, set_logic_word, set_info_word, set_option_word, get_info_word, get_option_word, echo_word, declare_sort_word, define_sort_word, declare_const_word, declare_fun_word, define_fun_word, assert_word, check_sat_assuming_word, push_word, pop_word};
 ghost use Rattle.script_read.specs.ShapeClauses.{outline_seen, IsOutline, named_at, counted_at, IsNameAt, IsNumeralAt, IsPlaceIn, IfGiven};
 ghost use Rattle.script_read.specs.Parts.{is_keyword, keyword_in, is_text, word_in};
@@ -481,7 +483,19 @@ fn shape_of(forest: &Forest, word: CommandWord, i: usize) -> Option<Outline>
     }
 }
 
+// Why a command has no outline whose word isn't supported.
+fn unsupported_cause(word: &[u8]) -> Cause
+    ensures { result ≡ (if is_command_word word.now then UnsupportedCommand else UnknownCommand) }
+{
+    if is_command_word(word) {
+        Cause::UnsupportedCommand
+    } else {
+        Cause::UnknownCommand
+    }
+}
+
 /// The outline of the command that begins at token `i`, or why it has none. It takes no memory.
+#[tactic(auto, using(crate::proofs::CommandWords::supported_is_command))]
 pub fn outline_of(forest: &Forest, i: usize) -> Result<Outline, Fault>
     requires { IsForm forest.now.tokens i }
     ensures outline { Agrees (outline (form_from forest.now.tokens i)) (outline_seen forest.now.tokens) result }
@@ -496,11 +510,8 @@ pub fn outline_of(forest: &Forest, i: usize) -> Result<Outline, Fault>
     let Some(word) = word_at(forest, first) else {
         return Err(bad_form(forest, i));
     };
-    if !is_command_word(word) {
-        return Err(fault(forest, i, Cause::UnknownCommand));
-    }
     let Some(command) = supported_command(word) else {
-        return Err(fault(forest, i, Cause::UnsupportedCommand));
+        return Err(fault(forest, i, unsupported_cause(word)));
     };
     match shape_of(forest, command, forest.after(first)) {
         Some(outline) => Ok(outline),

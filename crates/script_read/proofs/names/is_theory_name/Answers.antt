@@ -1,20 +1,19 @@
-use Rattle.std.proofs.Common.{◌≡◌, Bool, true, false, ◌||◌, refl, sym, ◌∙◌}
-use Rattle.smt_lex.specs.Names.{is_theory_name}
+use Rattle.std.proofs.Common.{is_some, ap, sym, ◌∙◌}
+use Rattle.script_read.proofs.TheoryNames.{operator_theory, word_theory, real_theory, digits_decide, found_some}
 use Rattle.script_read.proofs.names.is_theory_name.Goals as goal
 
-third_holds : (a b c d e : Bool) → a ≡ false → b ≡ false → c ≡ true → true ≡ ((((a || b) || c) || d) || e)
-third_holds a b c d e no_a no_b is_c = rw no_a (rw no_b (rw is_c refl))
+pub returns-then-is_some : goal.returns-then-is_some
+returns-then-is_some c =
+    sym (operator_theory c.args.name.now (ap is_some (sym c.form_named.ensures.named) ∙ found_some c.form_named.result ∙ sym c.is_some.ensures ∙ c.if-is_some.true))
 
-fifth_decides : (a b c d e : Bool) → a ≡ false → b ≡ false → c ≡ false → d ≡ false → e ≡ ((((a || b) || c) || d) || e)
-fifth_decides a b c d e no_a no_b no_c no_d = rw no_a (rw no_b (rw no_c (rw no_d refl)))
+pub returns-then-takes_no_index : goal.returns-then-takes_no_index
+returns-then-takes_no_index c = sym (word_theory c.args.name.now (sym c.takes_no_index.ensures ∙ c.if-takes_no_index.true))
 
-pub returns-then-is_among-3 : goal.returns-then-is_among-3
-unfolding is_theory_name
-returns-then-is_among-3 c =
-    third_holds _ _ _ _ _ (sym c.is_among.ensures ∙ c.if-is_among.false) (sym c.is_among-2.ensures ∙ c.if-is_among-2.false) (sym c.is_among-3.ensures ∙ c.if-is_among-3.true)
+pub returns-then-is_real_name : goal.returns-then-is_real_name
+returns-then-is_real_name c = c.if-is_real_name.true ∙ sym (real_theory c.args.name.now (sym c.is_real_name.ensures ∙ c.if-is_real_name.true))
 
-pub returns-else-is_among-4 : goal.returns-else-is_among-4
-unfolding is_theory_name
-returns-else-is_among-4 c =
+pub returns-else-is_real_name : goal.returns-else-is_real_name
+returns-else-is_real_name c =
     c.is_bit_vector_constant.ensures
-    ∙ fifth_decides _ _ _ _ _ (sym c.is_among.ensures ∙ c.if-is_among.false) (sym c.is_among-2.ensures ∙ c.if-is_among-2.false) (sym c.is_among-3.ensures ∙ c.if-is_among-3.false) (sym c.is_among-4.ensures ∙ c.if-is_among-4.false)
+    ∙ digits_decide c.args.name.now (ap is_some (sym c.form_named.ensures.named) ∙ found_some c.form_named.result ∙ sym c.is_some.ensures ∙ c.if-is_some.false)
+    (sym c.takes_no_index.ensures ∙ c.if-takes_no_index.false) (sym c.is_real_name.ensures ∙ c.if-is_real_name.false)

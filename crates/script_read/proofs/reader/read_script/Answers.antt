@@ -27,17 +27,17 @@ read_commands-requires-clause-text c =
 pub read_commands-requires-clause-known : goal.read_commands-requires-clause-known
 read_commands-requires-clause-known c = (
   first_standing (forms_from c.args.forest.now.tokens 0),
-  begun c.args.table.now (forms_from c.args.forest.now.tokens 0) c.new-session.result c.new.result c.in_ok-names.names c.new-session.ensures c.new.ensures c.in_ok-names.ensures,
+  begun c.make_room.new.table (forms_from c.args.forest.now.tokens 0) c.new-session.result c.new.result c.in_ok-names.names c.new-session.ensures c.new.ensures c.in_ok-names.ensures,
 )
 
 pub returns-in_err-commands-clause-script : goal.returns-in_err-commands-clause-script
 returns-in_err-commands-clause-script c =
     script_refused c.read_commands.new.table c.args.forest.now c.requires c.read_commands.new.session.sofar.fresh c.in_err-commands.field-0.0 c.from_residual-in_err-commands.result c.from_residual-in_err-commands.ensures.1
     (c.in_err-commands.ensures.commands (first_standing (forms_from c.args.forest.now.tokens 0))
-    (begun c.args.table.now (forms_from c.args.forest.now.tokens 0) c.new-session.result c.new.result c.in_ok-names.names c.new-session.ensures c.new.ensures c.in_ok-names.ensures))
+    (begun c.make_room.new.table (forms_from c.args.forest.now.tokens 0) c.new-session.result c.new.result c.in_ok-names.names c.new-session.ensures c.new.ensures c.in_ok-names.ensures))
 
 pub returns-clause-script : goal.returns-clause-script
 returns-clause-script c =
     script_read c.read_commands.new.table c.args.forest.now c.requires c.in_ok-commands.commands c.read_commands.new.session.sofar.fresh c.into_names.result c.into_names.ensures
     (c.in_ok-commands.ensures.commands (first_standing (forms_from c.args.forest.now.tokens 0))
-    (begun c.args.table.now (forms_from c.args.forest.now.tokens 0) c.new-session.result c.new.result c.in_ok-names.names c.new-session.ensures c.new.ensures c.in_ok-names.ensures))
+    (begun c.make_room.new.table (forms_from c.args.forest.now.tokens 0) c.new-session.result c.new.result c.in_ok-names.names c.new-session.ensures c.new.ensures c.in_ok-names.ensures))

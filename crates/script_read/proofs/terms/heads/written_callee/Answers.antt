@@ -1,4 +1,4 @@
-use Rattle.std.proofs.Common.{◌≡◌, ◌<◌, ◌^◌, All, length, vec_len, rules, ap, sym, subst, ◌∙◌}
+use Rattle.std.proofs.Common.{◌≡◌, ◌<◌, ◌^◌, All, length, ap, sym, subst, ◌∙◌}
 use Rattle.smt_terms.specs.Written.{at_indices}
 use Rattle.sort_check.specs.Forms.{form_seen, index_count}
 use Rattle.script_read.specs.declared.causes.Cause.TheVariants.{NumberLimit}
@@ -9,17 +9,16 @@ use Rattle.script_read.proofs.terms.heads.written_callee.Goals as goal
 
 pub returns-in-Some : goal.returns-in-Some
 returns-in-Some c ts t supply s fs ns are =
-    let held : vec_len c.args.indices.now.values ≡ length c.args.indices.now.values.items = search rules in
-    let same : length c.args.indices.now.values.items ≡ index_count (form_seen c.args.form) = sym held ∙ sym c.len.ensures ∙ c.if-len-index_count.false ∙ c.index_count.ensures.number in
+    let same : length c.args.indices.now.values.items ≡ index_count (form_seen c.args.form) = sym c.len.ensures.value ∙ c.if-len-index_count.false ∙ c.index_count.ensures.number in
     callee_fault ts (world_of t supply s) (written_at c.args.place fs (at_indices (form_seen c.args.form) ns)) c.refused-in-Some.result NumberLimit c.in-Some.beyond c.refused-in-Some.ensures
     (index_beyond ts (world_of t supply s) c.args.place fs ns c.args.indices.now are (form_seen c.args.form) c.in-Some.beyond same c.in-Some.is)
 
 pub at_indices-requires-clause-indices : goal.at_indices-requires-clause-indices
 at_indices-requires-clause-indices c =
     let some = c.requires.indices in
-    subst (All (λ i. i < 2 ^ 127)) (sym c.deref.ensures.value) (indices_small some.0 some.1 c.args.indices.now some.2 c.in_default.is)
+    subst (All (λ i. i < 2 ^ 127)) (sym c.deref.ensures) (indices_small some.0 some.1 c.args.indices.now some.2 c.in_default.is)
 
 pub returns : goal.returns
 returns c ts t supply s fs ns are =
     operator_called ts (world_of t supply s) c.args.place fs ns c.args.indices.now are (form_seen c.args.form) c.at_indices.result
-    (ap (at_indices (form_seen c.args.form)) (sym c.deref.ensures.value) ∙ c.at_indices.ensures.named) c.at_indices.ensures.apt c.in_default.is
+    (ap (at_indices (form_seen c.args.form)) (sym c.deref.ensures) ∙ c.at_indices.ensures.named) c.at_indices.ensures.apt c.in_default.is
