@@ -20,6 +20,7 @@ use crate::forms::{negative_form, positive_form};
 use crate::making::{negation, truth};
 use crate::node_forms::Forms;
 use crate::shapes::{is_formula, shape_of};
+use smallvec::SmallVec;
 use smt_terms::NodeId;
 use std::alloc::{AllocError, Global};
 use std::sync::ledger::Ledger;
@@ -27,18 +28,18 @@ use term_table::Table;
 use term_walk::walks::walk;
 use term_walk::{Kept, NodeStep, Steps};
 
-// The positive forms and the negative forms of these nodes.
+// The positive forms and the negative forms of these nodes. Up to four take no memory.
 fn sides(
     alloc: Global,
     kept: &Kept<Forms>,
     kids: &[NodeId],
-) -> Result<(Vec<NodeId>, Vec<NodeId>), AllocError>
+) -> Result<(SmallVec<NodeId, 4>, SmallVec<NodeId, 4>), AllocError>
     requires { All (λ k. IsSome (result_at kept.now k.0)) kids.now }
     ensures positive { IfOk result (λ s. AreTaken (λ f. f.positive) kept.now kids.now s.0.items) }
     ensures negative { IfOk result (λ s. AreTaken (λ f. f.negative) kept.now kids.now s.1.items) }
 {
-    let mut positives = Vec::with_capacity(alloc, kids.len())?;
-    let mut negatives = Vec::with_capacity(alloc, kids.len())?;
+    let mut positives = SmallVec::with_capacity(alloc, kids.len())?;
+    let mut negatives = SmallVec::with_capacity(alloc, kids.len())?;
     for kid in kids {
         let forms = kept.get(*kid).unwrap();
         positives.push(forms.positive)?;
@@ -54,7 +55,7 @@ fn operand_forms(
     id: NodeId,
     connective: Connective,
     kept: &Kept<Forms>,
-) -> Result<(Vec<NodeId>, Vec<NodeId>), AllocError>
+) -> Result<(SmallVec<NodeId, 4>, SmallVec<NodeId, 4>), AllocError>
     requires formula { IsFormula table.now id }
     requires shape { IsOfKind (tree table.now id) (kind_seen connective) }
     requires related { AreRelated HasForms table.now kept.now }

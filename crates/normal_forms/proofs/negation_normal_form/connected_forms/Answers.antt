@@ -15,6 +15,6 @@ returns-clause-forms c =
     connected-forms t0 t1 c.negative_form.new.table u k c.in_ok-positives.positives.items c.in_ok-positives.negatives.items c.in_ok-positive.positive c.in_ok-negative.negative
     c.requires.shape found.positives found.negatives found.yes found.no c.connected_positive.ensures.grows c.negative_form.ensures.grows
     c.in_ok-positive.ensures.formula
-    (c.in_ok-positive.ensures.term ∙ (λ i. positive k u (trees_at t0 (c.deref.ensures.value i)) (trees_at t0 (c.deref-2.ensures.value i))))
+    (c.in_ok-positive.ensures.term ∙ (λ i. positive k u (trees_at t0 (c.deref.ensures i)) (trees_at t0 (c.deref-2.ensures i))))
     c.in_ok-negative.ensures.formula
-    (c.in_ok-negative.ensures.term u ∙ (λ i. negative k u (trees_at t1 (c.deref-3.ensures.value i)) (trees_at t1 (c.deref-4.ensures.value i))))
+    (c.in_ok-negative.ensures.term u ∙ (λ i. negative k u (trees_at t1 (c.deref-3.ensures i)) (trees_at t1 (c.deref-4.ensures i))))
