@@ -8,6 +8,7 @@ mod Duals
 mod Inherited
 pub mod Inside
 mod Inverted
+mod Joined
 mod Keeps
 pub mod MadeNodes
 pub mod Nnf

@@ -12,7 +12,7 @@ use Rattle.smt_terms.specs.Rank.{several as several_of, shape, rank, sort_of, so
 use Rattle.smt_terms.specs.Takes.{Takes}
 use Rattle.smt_terms.proofs.Ranked.{takes-rank}
 use Rattle.smt_terms.proofs.Sorted.{sort_of-apply}
-use Rattle.term_table.specs.Formulas.{Formulas, tree, tree_in, trees_at, sort_or_bool, sorts_in, Kind, kind, theory, kind_rank, IsKindOf, Makes, AreNodes}
+use Rattle.term_table.specs.Formulas.{Formulas, tree, tree_in, trees_at, sort_or_bool, sorts_in, Kind, kind, theory, kind_rank, rank_over, IsKindOf, Makes, AreNodes}
 use Rattle.normal_forms.specs.Nodes.{IsFormula}
 use Rattle.normal_forms.proofs.NnfShape.{no-minus}
 
@@ -112,6 +112,14 @@ module _ (t : Formulas) (ks : List NodeId) (formulas : All (IsFormula t) ks) whe
   unfolding kind
   makes-or le = makes-over Or refl not-minus-or (or-rank (length (trees_at t ks)) (several le))
 
+  pub ranked-and : 2 ≤ length ks → rank_over t And (trees_at t ks) ≡ Ok bool
+  unfolding kind
+  ranked-and le = ranks-bool And (and-rank (length (trees_at t ks)) (several le))
+
+  pub ranked-or : 2 ≤ length ks → rank_over t Or (trees_at t ks) ≡ Ok bool
+  unfolding kind
+  ranked-or le = ranks-bool Or (or-rank (length (trees_at t ks)) (several le))
+
   pub sort-and : 2 ≤ length ks → sort_of (all_of (trees_at t ks)) ≡ Some bool
   sort-and le = sort-over And (and-rank (length (trees_at t ks)) (several le))
 
@@ -129,12 +137,20 @@ pub makes-not : (t : Formulas) (k : NodeId) → IsFormula t k → Makes t Not (k
 unfolding kind
 makes-not t k h = makes-over t (k ∷ []) (one-formula t k h) Not refl not-minus-not not-rank
 
+pub ranked-not : (t : Formulas) (k : NodeId) → IsFormula t k → rank_over t Not (trees_at t (k ∷ [])) ≡ Ok bool
+unfolding kind
+ranked-not t k h = ranks-bool t (k ∷ []) (one-formula t k h) Not not-rank
+
 pub sort-not : (t : Formulas) (k : NodeId) → IsFormula t k → sort_of (negated (tree t k)) ≡ Some bool
 sort-not t k h = sort-over t (k ∷ []) (one-formula t k h) Not not-rank
 
 pub makes-truth : (t : Formulas) (b : Bool) → Makes t (Truth b) []
 unfolding kind
 makes-truth t b = makes-over t [] (no-formulas t) (Truth b) refl (not-minus-truth b) (truth-rank b)
+
+pub ranked-truth : (t : Formulas) (b : Bool) → rank_over t (Truth b) (trees_at t []) ≡ Ok bool
+unfolding kind
+ranked-truth t b = ranks-bool t [] (no-formulas t) (Truth b) (truth-rank b)
 
 pub sort-truth : (t : Formulas) (b : Bool) → sort_of (truth_term b) ≡ Some bool
 sort-truth t b = sort-over t [] (no-formulas t) (Truth b) (truth-rank b)

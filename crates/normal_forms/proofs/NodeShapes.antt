@@ -14,7 +14,7 @@ use Rattle.normal_forms.specs.declared.connective.Connective.{Connective}
 use Rattle.normal_forms.specs.declared.connective.Connective.TheVariants.{Not, And, Or, Xor, Implies, Equal, Distinct, Ite as IteConnective}
 use Rattle.normal_forms.specs.Shape.{is_quantified, term_kind, kind_seen, IsOfKind, Takes}
 
-terms-list : (ts : Terms) → terms (list ts) ≡ ts
+pub terms-list : (ts : Terms) → terms (list ts) ≡ ts
 terms-list none = refl
 terms-list (t ⨾ ts) = ap (λ us. t ⨾ us) (terms-list ts)
 

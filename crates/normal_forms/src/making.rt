@@ -7,9 +7,12 @@ ghost use Rattle.term_walk.specs.Walking.{GrowsTo};
 ghost use Rattle.normal_forms.specs.Nodes.{IsFormula};
 
 use smt_terms::NodeId;
-use smt_values::Op;
+use smt_values::{Op, SortId};
 use std::alloc::AllocError;
 use term_table::Table;
+
+// The sort `Bool`.
+const BOOL: SortId = SortId(0);
 
 /// `true` or `false`.
 #[tactic(auto, unfolding(term_table::specs::Formulas::kind))]
@@ -18,7 +21,7 @@ pub fn truth(table: &mut Table, value: bool) -> Result<NodeId, AllocError>
     ensures term { IfOk result (λ k. tree table.new k ≡ truth_term value) }
     ensures grows { GrowsTo table.old table.new }
 {
-    let id = table.intern(Op::Truth(value), &[])?;
+    let id = table.intern_of_sort(Op::Truth(value), &[], BOOL)?;
     Ok(id)
 }
 
@@ -30,7 +33,7 @@ pub fn negation(table: &mut Table, id: NodeId) -> Result<NodeId, AllocError>
     ensures term { IfOk result (λ k. tree table.new k ≡ negated (tree table.old id)) }
     ensures grows { GrowsTo table.old table.new }
 {
-    let id = table.intern(Op::Not, &[id])?;
+    let id = table.intern_of_sort(Op::Not, &[id], BOOL)?;
     Ok(id)
 }
 
@@ -43,7 +46,7 @@ pub fn conjunction(table: &mut Table, kids: &[NodeId]) -> Result<NodeId, AllocEr
     ensures term { IfOk result (λ k. tree table.new k ≡ all_of (trees_at table.old kids.now)) }
     ensures grows { GrowsTo table.old table.new }
 {
-    let id = table.intern(Op::And, kids)?;
+    let id = table.intern_of_sort(Op::And, kids, BOOL)?;
     Ok(id)
 }
 
@@ -56,7 +59,7 @@ pub fn disjunction(table: &mut Table, kids: &[NodeId]) -> Result<NodeId, AllocEr
     ensures term { IfOk result (λ k. tree table.new k ≡ any_of (trees_at table.old kids.now)) }
     ensures grows { GrowsTo table.old table.new }
 {
-    let id = table.intern(Op::Or, kids)?;
+    let id = table.intern_of_sort(Op::Or, kids, BOOL)?;
     Ok(id)
 }
 

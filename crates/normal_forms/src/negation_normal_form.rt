@@ -1,9 +1,10 @@
 //! Negation normal form.
 
-ghost use Rattle.std.specs.Prelude.{◌≡◌, ◌∷◌, [], ◌+◌, ◌≤◌, length, map, true, Some, All, IsSome, IsTrue, IfOk};
+ghost use Rattle.std.specs.Prelude.{◌≡◌, ◌∷◌, [], ◌+◌, ◌≤◌, List, length, map, true, Some, All, IsSome, IsTrue, IfOk};
 ghost use Rattle.smt_terms.specs.Sorts.{bool};
 ghost use Rattle.smt_terms.specs.Rank.{sort_of};
 ghost use Rattle.smt_terms.specs.Shapes.{is_nnf};
+ghost use Rattle.smt_terms.specs.Term.{Term};
 ghost use Rattle.term_table.specs.Formulas.{tree, trees_at, operands, IsNode};
 ghost use Rattle.term_walk.specs.Places.{result_at};
 ghost use Rattle.term_walk.specs.Subterms.{all_subterms, places};
@@ -19,6 +20,7 @@ use crate::forms::{negative_form, positive_form};
 use crate::making::{negation, truth};
 use crate::node_forms::Forms;
 use crate::shapes::{is_formula, shape_of};
+use smallvec::SmallVec;
 use smt_terms::NodeId;
 use std::alloc::{AllocError, Global};
 use std::sync::ledger::Ledger;
@@ -26,18 +28,18 @@ use term_table::Table;
 use term_walk::walks::walk;
 use term_walk::{Kept, NodeStep, Steps};
 
-// The positive forms and the negative forms of these nodes.
+// The positive forms and the negative forms of these nodes. Up to four take no memory.
 fn sides(
     alloc: Global,
     kept: &Kept<Forms>,
     kids: &[NodeId],
-) -> Result<(Vec<NodeId>, Vec<NodeId>), AllocError>
+) -> Result<(SmallVec<NodeId, 4>, SmallVec<NodeId, 4>), AllocError>
     requires { All (λ k. IsSome (result_at kept.now k.0)) kids.now }
     ensures positive { IfOk result (λ s. AreTaken (λ f. f.positive) kept.now kids.now s.0.items) }
     ensures negative { IfOk result (λ s. AreTaken (λ f. f.negative) kept.now kids.now s.1.items) }
 {
-    let mut positives = Vec::with_capacity(alloc, kids.len())?;
-    let mut negatives = Vec::with_capacity(alloc, kids.len())?;
+    let mut positives = SmallVec::with_capacity(alloc, kids.len())?;
+    let mut negatives = SmallVec::with_capacity(alloc, kids.len())?;
     for kid in kids {
         let forms = kept.get(*kid).unwrap();
         positives.push(forms.positive)?;
@@ -53,7 +55,7 @@ fn operand_forms(
     id: NodeId,
     connective: Connective,
     kept: &Kept<Forms>,
-) -> Result<(Vec<NodeId>, Vec<NodeId>), AllocError>
+) -> Result<(SmallVec<NodeId, 4>, SmallVec<NodeId, 4>), AllocError>
     requires formula { IsFormula table.now id }
     requires shape { IsOfKind (tree table.now id) (kind_seen connective) }
     requires related { AreRelated HasForms table.now kept.now }
@@ -67,6 +69,44 @@ fn operand_forms(
 {
     let found = sides(alloc, kept, table.kids(id))?;
     Ok(found)
+}
+
+// Whether a node is the `and` or the `or` of these nodes.
+fn joins(table: &Table, id: NodeId, connective: Connective, kids: &[NodeId]) -> bool
+    requires formula { IsFormula table.now id }
+    requires shape { IsOfKind (tree table.now id) (kind_seen connective) }
+    ensures { IsTrue result → (ns : List Term) → tree table.now id ≡ plain.positive (kind_seen connective) (tree table.now id) (trees_at table.now kids.now) ns }
+{
+    match connective {
+        Connective::And => table.kids(id) == kids,
+        Connective::Or => table.kids(id) == kids,
+        _ => false,
+    }
+}
+
+// The positive form of a connective. An `and` or an `or` of formulas that are their own positive forms is its own.
+fn connected_positive(
+    table: &mut Table,
+    id: NodeId,
+    connective: Connective,
+    ps: &[NodeId],
+    ns: &[NodeId],
+) -> Result<NodeId, AllocError>
+    requires id { IsFormula table.old id }
+    requires shape { IsOfKind (tree table.old id) (kind_seen connective) }
+    requires ps { All (IsFormula table.old) ps.now }
+    requires ns { All (IsFormula table.old) ns.now }
+    requires number { Takes connective (length ps.now) }
+    requires same { length ns.now ≡ length ps.now }
+    ensures formula { IfOk result (IsFormula table.new) }
+    ensures term { IfOk result (λ k. tree table.new k ≡ plain.positive (kind_seen connective) (tree table.old id) (trees_at table.old ps.now) (trees_at table.old ns.now)) }
+    ensures grows { GrowsTo table.old table.new }
+{
+    if joins(table, id, connective, ps) {
+        return Ok(id);
+    }
+    let positive = positive_form(table, connective, ps, ns)?;
+    Ok(positive)
 }
 
 // The forms of a connective.
@@ -85,7 +125,7 @@ fn connected_forms(
     ensures grows { GrowsTo table.old table.new }
 {
     let (positives, negatives) = operand_forms(alloc, table, id, connective, kept)?;
-    let positive = positive_form(table, connective, &positives, &negatives)?;
+    let positive = connected_positive(table, id, connective, &positives, &negatives)?;
     let negative = negative_form(table, connective, &positives, &negatives)?;
     Ok(Forms { positive, negative })
 }

@@ -1,11 +1,14 @@
 use Rattle.std.proofs.Common.{◌∙◌, ap}
 use Rattle.smt_terms.specs.Rank.{sort_of}
 use Rattle.term_table.specs.Formulas.{kind}
-use Rattle.normal_forms.proofs.MadeNodes.{makes-and, sort-and}
+use Rattle.normal_forms.proofs.MadeNodes.{makes-and, ranked-and, sort-and}
 use Rattle.normal_forms.proofs.making.conjunction.Goals as goal
 
-pub intern-requires : goal.intern-requires
-intern-requires c = makes-and c.args.table.now c.args.kids.now c.requires.kids c.requires.several
+pub intern_of_sort-requires-clause-makes : goal.intern_of_sort-requires-clause-makes
+intern_of_sort-requires-clause-makes c = makes-and c.args.table.now c.args.kids.now c.requires.kids c.requires.several
+
+pub intern_of_sort-requires-clause-rank : goal.intern_of_sort-requires-clause-rank
+intern_of_sort-requires-clause-rank c = ranked-and c.args.table.now c.args.kids.now c.requires.kids c.requires.several
 
 pub returns-clause-formula : goal.returns-clause-formula
 unfolding kind

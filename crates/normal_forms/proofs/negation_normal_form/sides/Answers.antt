@@ -12,10 +12,10 @@ loop-kid-preserved c =
     let f : Forms = c.unwrap-forms.result.now in
     let found : result_at c.args.kept.now (get_or c.args.kids.now c.loop-kid.kid-index none_yet).0 ≡ Some f = sym c.get.ensures ∙ ap option_copied c.unwrap-forms.ensures in
     record {
-      positives = ap length c.in_ok-push.ensures.items ∙ length-append c.loop-kid.positives.items (f.positive ∷ []) ∙ ap (λ n. n + 1) inv.positives;
-      negatives = ap length c.in_ok-push-2.ensures.items ∙ length-append c.loop-kid.negatives.items (f.negative ∷ []) ∙ ap (λ n. n + 1) inv.negatives;
-      yes = taken-push (λ g. g.positive) c.args.kept.now c.args.kids.now c.loop-kid.positives.items c.push.new.self.items c.loop-kid.kid-index none_yet f inv.positives c.loop-kid-test.true inv.yes found c.in_ok-push.ensures.items;
-      no = taken-push (λ g. g.negative) c.args.kept.now c.args.kids.now c.loop-kid.negatives.items c.push-in-loop-kid.new.self.items c.loop-kid.kid-index none_yet f inv.negatives c.loop-kid-test.true inv.no found c.in_ok-push-2.ensures.items;
+      positives = ap length c.in_ok-push.ensures.ok ∙ length-append c.loop-kid.positives.items (f.positive ∷ []) ∙ ap (λ n. n + 1) inv.positives;
+      negatives = ap length c.in_ok-push-2.ensures.ok ∙ length-append c.loop-kid.negatives.items (f.negative ∷ []) ∙ ap (λ n. n + 1) inv.negatives;
+      yes = taken-push (λ g. g.positive) c.args.kept.now c.args.kids.now c.loop-kid.positives.items c.push.new.self.items c.loop-kid.kid-index none_yet f inv.positives c.loop-kid-test.true inv.yes found c.in_ok-push.ensures.ok;
+      no = taken-push (λ g. g.negative) c.args.kept.now c.args.kids.now c.loop-kid.negatives.items c.push-in-loop-kid.new.self.items c.loop-kid.kid-index none_yet f inv.negatives c.loop-kid-test.true inv.no found c.in_ok-push-2.ensures.ok;
     }
 
 pub returns-clause-positive : goal.returns-clause-positive
