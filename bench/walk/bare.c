@@ -1,12 +1,13 @@
-// How much more time a node takes as a table of nodes outgrows the caches, where each node has two operands drawn at random: a bare table in C, with
-// twelve bytes a node, four bytes an index place, and nothing else.
+// How much more time a node takes as a table of nodes outgrows the caches: a bare table in C, with twelve bytes a node, four bytes an index place, and
+// nothing else. Each node stands over two drawn at random (`drawn`), or over the last one and the one half as far (`next`).
 //
-//     cc -O2 -o bare bare.c && ./bare 10000 300 && ./bare 1000000 5
+//     cc -O2 -o bare bare.c && ./bare drawn 10000 300 && ./bare drawn 1000000 5
 //
 // makes so many nodes so often and prints the least time a node took.
 #include <stdint.h>
 #include <stdio.h>
 #include <stdlib.h>
+#include <string.h>
 #include <sys/resource.h>
 
 struct node {
@@ -34,7 +35,15 @@ static size_t hash_of(struct node node) {
     return mixed ^ mixed >> 29;
 }
 
-static double seconds_to_make(size_t count) {
+static struct node node_at(size_t made, int is_drawn) {
+    uint32_t operator = 1 + (made & 1);
+    if (is_drawn) {
+        return (struct node){operator, draw_below(made), draw_below(made)};
+    }
+    return (struct node){operator, (uint32_t)made - 1, (uint32_t)made / 2};
+}
+
+static double seconds_to_make(size_t count, int is_drawn) {
     double start = processor_seconds();
     size_t places = 1;
     while (places < 2 * count) {
@@ -45,7 +54,7 @@ static double seconds_to_make(size_t count) {
     size_t made = 1;
     nodes[0] = (struct node){0, 0, 0};
     while (made < count) {
-        struct node node = {1 + (made & 1), draw_below(made), draw_below(made)};
+        struct node node = node_at(made, is_drawn);
         size_t place = hash_of(node) & (places - 1);
         while (index[place] != 0) {
             struct node other = nodes[index[place]];
@@ -65,13 +74,13 @@ static double seconds_to_make(size_t count) {
 }
 
 int main(int count, char **words) {
-    if (count != 3) {
+    if (count != 4) {
         return 1;
     }
-    size_t nodes = strtoul(words[1], NULL, 10);
+    size_t nodes = strtoul(words[2], NULL, 10);
     double least = 1e9;
-    for (int run = atoi(words[2]); run > 0; run--) {
-        double seconds = seconds_to_make(nodes);
+    for (int run = atoi(words[3]); run > 0; run--) {
+        double seconds = seconds_to_make(nodes, strcmp(words[1], "drawn") == 0);
         least = seconds < least ? seconds : least;
     }
     printf("%zu nodes: %.1f ns a node\n", nodes, least * 1e9 / (double)nodes);
