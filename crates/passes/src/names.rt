@@ -1,5 +1,7 @@
 //! The passes, and what is wrong with a list of them.
 
+use thiserror::Error;
+
 /// A pass over the assertions of a script. All but the last three are equivalence passes: each assertion gives way to one
 /// of the same value.
 #[derive(Clone, Copy, Debug, PartialEq, Eq)]
@@ -29,10 +31,12 @@ pub enum Pass {
 }
 
 /// What is wrong with a list of passes.
-#[derive(Clone, Copy, Debug, PartialEq, Eq)]
+#[derive(Clone, Copy, Debug, PartialEq, Eq, Error)]
 pub enum ListFault {
     /// A name isn't that of a pass, or there are more than 32.
+    #[error("a name isn't that of a pass, or there are more than 32")]
     BadPass,
     /// `ite`, `cnf` or `ackermann` stands behind `rules`.
+    #[error("ite, cnf or ackermann stands behind rules")]
     AfterRules,
 }

@@ -24,11 +24,13 @@ use std::sync::ledger::{Blank, Ledger};
 use term_subst::Fresh;
 use term_table::Table;
 use term_walk::{Kept, Steps};
+use thiserror::Error;
 
 /// Why passes make no script of a script.
-#[derive(Clone, Copy, Debug, PartialEq, Eq)]
+#[derive(Clone, Copy, Debug, PartialEq, Eq, Error)]
 pub enum PassFault {
     /// There is no memory.
+    #[error("want of memory")]
     Memory,
 }
 

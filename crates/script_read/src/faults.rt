@@ -2,6 +2,7 @@
 
 use crate::causes::Cause;
 use std::alloc::{AllocError, AllocFailed};
+use thiserror::Error;
 
 /// What is wrong, and the first byte of the form that it is wrong with.
 #[derive(Clone, Copy, Debug, PartialEq, Eq)]
@@ -54,7 +55,8 @@ impl<T: Drop> From<AllocFailed<T>> for ReadFault {
 
 /// Why a script is refused: the number of the cause, the command from 1 on, and the line from 1 on and the byte from 0 on
 /// of the form that it is wrong with.
-#[derive(Clone, Copy, Debug, PartialEq, Eq)]
+#[derive(Clone, Copy, Debug, PartialEq, Eq, Error)]
+#[error("line {line}, byte {byte}: command {command} is refused with {code}")]
 pub struct Refusal {
     pub code: u16,
     pub command: u64,
@@ -63,11 +65,13 @@ pub struct Refusal {
 }
 
 /// Why a script isn't read.
-#[derive(Clone, Copy, Debug, PartialEq, Eq)]
+#[derive(Clone, Copy, Debug, PartialEq, Eq, Error)]
 pub enum ScriptFault {
     /// The first refusal.
+    #[error(transparent)]
     Refused(Refusal),
     /// There is no memory.
+    #[error("want of memory")]
     Memory,
 }
 

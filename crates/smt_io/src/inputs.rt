@@ -5,24 +5,30 @@ ghost use Rattle.smt_io.specs.Told.{behind, IsAtEnd};
 
 use crate::sink::Failed;
 use std::alloc::{AllocError, Global};
+use thiserror::Error;
 
 /// Why a text wasn't begun.
-#[derive(Clone, Copy, Debug, PartialEq, Eq)]
+#[derive(Clone, Copy, Debug, PartialEq, Eq, Error)]
 pub enum StartFault {
     /// The text can't be had, and the count of its name rose.
+    #[error("the text can't be had")]
     Failed,
     /// Want of memory.
+    #[error("want of memory")]
     Memory,
 }
 
 /// Why a text wasn't read whole.
-#[derive(Clone, Copy, Debug, PartialEq, Eq)]
+#[derive(Clone, Copy, Debug, PartialEq, Eq, Error)]
 pub enum ReadFault {
     /// A call on the source failed, and the count of the text's name rose.
+    #[error("the text can't be read")]
     Failed,
     /// The text has more than 67,108,864 bytes.
+    #[error("the text has more than 67,108,864 bytes")]
     TooLong,
     /// Want of memory.
+    #[error("want of memory")]
     Memory,
 }
 

@@ -3,8 +3,11 @@ ghost use Rattle.std.specs.Prelude.{◌≡◌, ℕ, ◌<◌, ◌≤◌, List, le
 ghost use Rattle.smt_io.specs.Counts.{NeverFalls, Rose};
 ghost use Rattle.smt_io.specs.Told.{with_bytes};
 
+use thiserror::Error;
+
 /// A call on a source or a sink failed, and its count of faults rose.
-#[derive(Clone, Copy, Debug, PartialEq, Eq)]
+#[derive(Clone, Copy, Debug, PartialEq, Eq, Error)]
+#[error("a call on a source or a sink failed")]
 pub struct Failed;
 
 /// Where text goes. A sink tells the list of the bytes sent, or doesn't, and no call changes which.

@@ -5,19 +5,25 @@ ghost use Rattle.smt_lex.specs.Lex.{line_at};
 ghost use Rattle.smt_lex.specs.declared.faults.LexFault.TheVariants.{Memory};
 
 use std::alloc::{AllocError, AllocFailed};
+use thiserror::Error;
 
 /// The first fault of a text. A place counts bytes from 0, a line counts from 1.
-#[derive(Clone, Copy, Debug, PartialEq, Eq)]
+#[derive(Clone, Copy, Debug, PartialEq, Eq, Error)]
 pub enum LexFault {
     /// A byte that may not stand where it does.
+    #[error("line {line}: a byte that may not stand here, at {place}")]
     BadByte { place: u32, line: u64 },
     /// A run of symbol bytes, `:` and `#` that is no token.
+    #[error("line {line}: no token, at {place}")]
     BadToken { place: u32, line: u64 },
     /// A string literal or quoted symbol that isn't closed, at its first byte.
+    #[error("line {line}: a string or quoted symbol that isn't closed, at {place}")]
     OpenText { place: u32, line: u64 },
     /// A `)` without its `(`, or at the end of the text a `(` without its `)`.
+    #[error("line {line}: a parenthesis without its other one, at {place}")]
     Unbalanced { place: u32, line: u64 },
     /// There was not enough memory.
+    #[error("want of memory")]
     Memory,
 }
 

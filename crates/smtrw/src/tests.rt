@@ -201,6 +201,8 @@ nodes 3
 @1%rewrite -%)%%smtrw: script refused: 13 Unbalanced at command 0, line 1, byte 0
 @1%rewrite -%007%%smtrw: script refused: 11 BadToken at command 0, line 1, byte 0
 @1%rewrite -%[%%smtrw: script refused: 10 BadByte at command 0, line 1, byte 0
+@1%rewrite -%|a\\b|%%smtrw: script refused: 10 BadByte at command 0, line 1, byte 2
+@1%rewrite -%(echo \"x)%%smtrw: script refused: 12 OpenText at command 0, line 1, byte 6
 @1%rewrite -%(declare-fun a () Bool)
 (check-sat-assuming (a (not (not a))))
 %%smtrw: script refused: 32 BadForm at command 2, line 2, byte 47

@@ -4,6 +4,7 @@ ghost use Rattle.std.specs.Prelude.{◌≡◌};
 ghost use Rattle.smtrw_answers.specs.Answers.{number_of};
 
 use script_read::Refusal;
+use thiserror::Error;
 
 /// What is wrong with the program's words.
 #[derive(Clone, Copy, Debug, PartialEq, Eq)]
@@ -36,7 +37,8 @@ pub enum Why {
 }
 
 /// A fault of the program's words: the number of the word, counted from 1 (0 for a check that isn't there), and why.
-#[derive(Clone, Copy, Debug, PartialEq, Eq)]
+#[derive(Clone, Copy, Debug, PartialEq, Eq, Error)]
+#[error("word {word}: {why:?}")]
 pub struct Usage {
     pub word: u32,
     pub why: Why,

@@ -15,6 +15,7 @@ use crate::status::Usage;
 use passes::{ListFault, Passes, parse_list};
 use smt_print::Layout;
 use std::alloc::Global;
+use thiserror::Error;
 
 /// A file that a word names: its path, or `-` for standard input.
 #[derive(Clone, Copy, Debug)]
@@ -56,11 +57,13 @@ impl<'a> Asked<'a> {
 }
 
 /// Why the words ask for nothing.
-#[derive(Clone, Copy, Debug, PartialEq, Eq)]
+#[derive(Clone, Copy, Debug, PartialEq, Eq, Error)]
 pub enum WordsFault {
     /// The first fault of the words.
+    #[error(transparent)]
     Usage(Usage),
     /// There was no memory to take the words apart.
+    #[error("want of memory")]
     Memory,
 }
 

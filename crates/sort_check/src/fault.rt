@@ -4,13 +4,16 @@ ghost use Rattle.std.specs.Prelude.{◌≡◌};
 
 use std::alloc::{AllocError, AllocFailed};
 use term_table::RankFault;
+use thiserror::Error;
 
 /// Why a node isn't made.
-#[derive(Clone, Copy, Debug, PartialEq, Eq)]
+#[derive(Clone, Copy, Debug, PartialEq, Eq, Error)]
 pub enum MakeFault {
     /// The operator has no rank over these operands.
+    #[error(transparent)]
     Rank(RankFault),
     /// There is no memory.
+    #[error("want of memory")]
     Memory,
 }
 

@@ -191,19 +191,40 @@ fn names_and_shared_terms(rt: HostRuntime) -> Result<(), Fail> {
     let said = "smtrw: script refused: 13 Unbalanced at command 0, line 4, byte 4254\n";
     ends(&rt, rt.alloc(), "rewrite -", script.as_str(), 1, 0, said)?;
     script.push(')')?;
-    ends(
-        &rt,
-        rt.alloc(),
-        "rewrite --passes=nnf --layout=dag -",
-        script.as_str(),
-        0,
-        12_000,
-        "",
-    )
+    let end = nested(rt.alloc(), ".def_299", ")", 301, "\n", "", "")?;
+    sends(&rt, rt.alloc(), script.as_str(), SHARED, end.as_str())
+}
+
+/// How the dag of a hundred nested lets begins.
+const SHARED: &str = "(declare-fun p () Bool)
+(declare-fun a () Bool)
+(declare-fun b () Bool)
+(assert (let ((.def_0 (or p a))) (let ((.def_1 (or p b))) (let ((.def_2 (and .def_0 .def_1))) (let ((.def_3 (or .def_2 a))) ";
+
+/// Brings a script into negation normal form, as a dag, and tells whether what is written begins and ends so.
+fn sends(
+    rt: &impl Abort,
+    alloc: Global,
+    script: &str,
+    begin: &str,
+    end: &str,
+) -> Result<(), Fail> {
+    let mut inputs = input_of(alloc, script.as_bytes(), 65_536)?;
+    let mut out = MemSink::new(alloc, 65_536, ROOM)?;
+    let mut err = MemSink::new(alloc, 65_536, ROOM)?;
+    let words = "rewrite --passes=nnf --layout=dag -";
+    let status = answer(alloc, words, &mut inputs, &mut out, &mut err)?;
+    assert!(rt; status.number() == 0);
+    assert!(rt; out.bytes().starts_with(begin.as_bytes()));
+    assert!(rt; out.bytes().ends_with(end.as_bytes()));
+    Ok(())
 }
 
 #[test]
 fn the_longest_script_is_read(rt: HostRuntime) -> Result<(), Fail> {
-    let script = nested(rt.alloc(), "", "        ", 8_388_608, "", "", "")?;
-    ends(&rt, rt.alloc(), "rewrite -", script.as_str(), 0, 0, "")
+    let mut script = nested(rt.alloc(), "", "        ", 8_388_608, "", "", "")?;
+    ends(&rt, rt.alloc(), "rewrite -", script.as_str(), 0, 0, "")?;
+    script.push(' ')?;
+    let said = "smtrw: script refused: 2 TooLong at command 0, line 0, byte 67108864\n";
+    ends(&rt, rt.alloc(), "rewrite -", script.as_str(), 1, 0, said)
 }
