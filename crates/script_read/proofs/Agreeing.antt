@@ -14,7 +14,7 @@ use Rattle.smt_terms.specs.SubstLaws.{names_within, Later}
 use Rattle.smt_terms.specs.Val.{Env, assign, val}
 use Rattle.smt_terms.specs.Values.{Value, default_value}
 use Rattle.smt_terms.proofs.Agree.{SameAt}
-use Rattle.smt_terms.proofs.Equal.{Decides-symbol_eq}
+use Rattle.smt_terms.proofs.Equal.{Decides-symbol_eq, symbol_itself}
 use Rattle.smt_terms.proofs.Operands.{narrow_sort}
 use Rattle.smt_terms.proofs.Ranked.{le_true}
 use Rattle.smt_terms.proofs.Sorted.{sort_of-apply}
@@ -24,7 +24,7 @@ use Rattle.script_read.specs.Mean.{Denoted, Meaning, bound_to, with_bound, with_
 use Rattle.script_read.specs.Read.{local_constants}
 use Rattle.script_read.specs.Reading.{ReadLocal, lets_as, quantified_as, parameter_as, ReadBinding, Sofar, as_local, term_among, term_or, bound_as, constant_as}
 use Rattle.script_read.proofs.Fitting.{Unassigned, LiveFits, BoundFits, Agrees, pairs_denoted, LetsMean, ConstantSound, LocalsSound, Sound, Moves}
-use Rattle.script_read.proofs.NameFacts.{symbol_itself, spared_later}
+use Rattle.script_read.proofs.NameFacts.{spared_later}
 
 -- ---- states
 

@@ -9,6 +9,7 @@ use Rattle.smt_lex.specs.Names.{Name, is_among, is_reserved_for_declaring}
 use Rattle.smt_terms.specs.Equal.{name_eq}
 use Rattle.smt_terms.specs.Free.{name_among}
 use Rattle.smt_terms.specs.Sorts.{Sort, Variable}
+use Rattle.smt_terms.proofs.Equal.{name_same}
 use Rattle.term_table.specs.Formulas.{Formulas, Grows}
 use Rattle.term_subst.specs.Names.{with_name}
 use Rattle.script_read.specs.declared.binders.SortedName.{SortedName}
@@ -23,7 +24,7 @@ use Rattle.script_read.specs.Refusals.{Refused, at, and_then, unless, mapped}
 use Rattle.script_read.specs.SortForms.{Sorts, sort_in}
 use Rattle.script_read.specs.Variables.{Binder, may_have, variable_of, variable_in, variables_in}
 use Rattle.script_read.proofs.Grown.{same_map, sort_within, sort_stays}
-use Rattle.script_read.proofs.NameFacts.{among_alike, name_same}
+use Rattle.script_read.proofs.NameFacts.{among_alike}
 use Rattle.script_read.proofs.SortReading.{known_stays}
 
 -- ---- one variable

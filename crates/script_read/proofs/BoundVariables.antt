@@ -14,6 +14,7 @@ use Rattle.smt_terms.specs.Rank.{is_sort, are_bindable}
 use Rattle.smt_terms.specs.Sorts.{Sort, Variable}
 use Rattle.smt_terms.specs.SubstLaws.{GivesNone}
 use Rattle.smt_terms.specs.Term.{constant_of}
+use Rattle.smt_terms.proofs.Equal.{name_itself}
 use Rattle.smt_values.specs.SortIds.{sort_at, IsSortId, IsSortList}
 use Rattle.smt_values.proofs.SortIds.{sort_is}
 use Rattle.term_table.specs.Formulas.{Formulas, symbol_at}
@@ -30,7 +31,7 @@ use Rattle.script_read.specs.Known.{Scoping, Scoped, find, sorts_known, IsScoped
 use Rattle.script_read.specs.Bound.{LocalNames, quantified_meant, locals_shown, IsLocal, ShowsLocals, name_at, variable_seen, variables_seen, symbols_seen, variable_for, variables_of, entered}
 use Rattle.script_read.specs.BinderClauses.{IsSortedName, AreSortedNames}
 use Rattle.script_read.specs.Places.{SparesText}
-use Rattle.script_read.proofs.NameFacts.{name_itself, spared_first, spared_none, all_within_text}
+use Rattle.script_read.proofs.NameFacts.{spared_first, spared_none, all_within_text}
 use Rattle.script_read.proofs.Quantifying.{names_bindable}
 use Rattle.script_read.proofs.SortFacts.{SortsFine, VariablesSound, variables_read, variables_some}
 

@@ -17,14 +17,13 @@ use Rattle.smt_terms.proofs.Among.{is_among-append, is_among-with_more}
 use Rattle.smt_terms.proofs.Equal.{Decides-symbol_eq}
 use Rattle.smt_terms.proofs.Operands.{fewer_sorts}
 use Rattle.smt_terms.proofs.Ranked.{rank-takes}
+use Rattle.smt_terms.proofs.SubstClear.{made_clear, subst-hides_nothing}
 use Rattle.smt_terms.proofs.SubstFree.{subst-leaves_free}
-use Rattle.smt_terms.proofs.Tests.{and_true, both_true, either_true, left_true, right_true}
+use Rattle.smt_terms.proofs.Tests.{and_true, both_true, either_true, left_true, right_true, contrary}
 use Rattle.script_read.specs.Heads.{term_width, term_algebra, operand_sorts, parameters_from, rank_of_arguments}
 use Rattle.script_read.proofs.Builds.{builds}
 use Rattle.script_read.proofs.Expanding.{Arguments, arguments_sound, free_spared, unwrapped}
 use Rattle.script_read.proofs.Fitting.{have_sorts}
-use Rattle.script_read.proofs.SortFacts.{contrary}
-use Rattle.script_read.proofs.SubstClear.{made_clear, subst_clear}
 
 -- ---- terms whose free symbols are among these, with clear names
 
@@ -172,7 +171,7 @@ no_parameter_left (x ∷ xs) ts to g ranked among found =
 
 pub expand_clear : (fs gs : List Symbol) (s : Supply) (xs : List Variable) (t : Term) (ts : List Term) (r to : Sort) → ((g : Symbol) → is_among fs g ≡ true → is_among gs g ≡ true) → sort_of t ≡ Some r → have_sorts xs ≡ true → GivesNone s (names_within t) → GivesNone s (names_within_each (terms ts)) → rank_of_arguments xs ts ≡ Ok to → ClearTerm (parameters_from 0 xs ++ fs) t → ClearEach gs (terms ts) → ClearTerm gs (expand (parameters_from 0 xs) t ts s).0
 expand_clear fs gs s xs t ts r to more sorted fine spared operands ranked body each = record {
-  clear = subst_clear (zip (parameters_from 0 xs) ts) t s r sorted body.clear constants images spared (λ g u found. (image_from 0 xs gs ts each g u found).0.clear);
+  clear = subst-hides_nothing (zip (parameters_from 0 xs) ts) t s r sorted constants images spared body.clear (λ g u found. (image_from 0 xs gs ts each g u found).0.clear);
   within = λ g among. left g (subst-leaves_free (zip (parameters_from 0 xs) ts) t s r sorted constants g among);
 }
   where

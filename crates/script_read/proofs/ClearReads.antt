@@ -15,8 +15,9 @@ use Rattle.smt_terms.specs.SubstLaws.{names_within, names_within_each, GivesNone
 use Rattle.smt_terms.specs.Term.{Quantifier, symbol, const_array, Term, quantified, terms, over, constant_of, constant}
 use Rattle.smt_terms.specs.Written.{written_rank, build}
 use Rattle.smt_terms.proofs.Among.{is_among-without}
-use Rattle.smt_terms.proofs.Equal.{Decides-symbol_eq}
-use Rattle.smt_terms.proofs.Tests.{both_true, either_true, left_true, right_true, not_true}
+use Rattle.smt_terms.proofs.ClearTerms.{clear_wider, constants-append, constants-reverse, Apart, apart_front}
+use Rattle.smt_terms.proofs.Equal.{Decides-symbol_eq, name_same, symbol_itself}
+use Rattle.smt_terms.proofs.Tests.{both_true, either_true, left_true, right_true, not_true, contrary}
 use Rattle.script_read.specs.declared.causes.Cause.TheVariants.{WrongSort, BadForm}
 use Rattle.script_read.specs.Heads.{atom_term, vector_constant, Callee, written, array_of_sort, called, defined, operandless, callee_of, term_algebra, operand_sorts, where_ranked, parameters_from, expanded, rank_of_arguments, applied}
 use Rattle.script_read.specs.Mean.{mean}
@@ -29,13 +30,12 @@ use Rattle.script_read.specs.Variables.{quantifier_binder, variables_in}
 use Rattle.script_read.proofs.Agreeing.{variable_as, moves_both}
 use Rattle.script_read.proofs.Calling.{CalleeSound, callee_read}
 use Rattle.script_read.proofs.ClearBuilt.{ClearTerm, ClearEach, clear_more, in_left, in_right, in_either, each_clear, none_clear, number_clear, head_clear, symbol_clear, constant_clear, build_clear, expand_clear}
-use Rattle.script_read.proofs.ClearTerms.{clear_wider, constants-append, constants-reverse, Apart, apart_front}
 use Rattle.script_read.proofs.Fitting.{Within, AllWithin, declared_of, Sound, Moves, Reads, ReadsAll, ReadsBindings, Ready}
-use Rattle.script_read.proofs.NameFacts.{name_same, symbol_itself, spared_later, spared_both}
+use Rattle.script_read.proofs.NameFacts.{spared_later, spared_both}
 use Rattle.script_read.proofs.Naming.{none_of}
 use Rattle.script_read.proofs.Outcomes.{ok_same}
 use Rattle.script_read.proofs.Quantifying.{Known, Renames, renames}
-use Rattle.script_read.proofs.SortFacts.{VariablesRead, variables_read, unless_passed, contrary}
+use Rattle.script_read.proofs.SortFacts.{VariablesRead, variables_read, unless_passed}
 use Rattle.script_read.proofs.Sources.{entry_alone, AtomSource, of_constant, of_local, of_entry, atom_source, entry_called, CalleeSource, of_operator, of_sort_form, of_nothing, of_live, callee_source}
 use Rattle.script_read.proofs.TermsMean.{OnOk, then_on, on_rule, on_last, on_unless, on_given, on_refused, on_both, moves_supply, ready_later, ready_let, untaken, callee_later, vector_source, form_reads, bindings_read, all_read}
 

@@ -14,8 +14,9 @@ use Rattle.smt_terms.specs.Shapes.{is_clear_below, is_clear}
 use Rattle.smt_terms.specs.Sorts.{Sort, bool, free_sort, Symbol, Variable}
 use Rattle.smt_terms.specs.Subst.{parameter}
 use Rattle.smt_terms.specs.Term.{Term, constant}
-use Rattle.smt_terms.proofs.Equal.{Decides-symbol_eq}
-use Rattle.smt_terms.proofs.Tests.{and_true, either_true, left_true, right_true}
+use Rattle.smt_terms.proofs.ClearTerms.{Apart, apart_front, free_distinct}
+use Rattle.smt_terms.proofs.Equal.{Decides-symbol_eq, name_itself}
+use Rattle.smt_terms.proofs.Tests.{and_true, either_true, left_true, right_true, contrary}
 use Rattle.script_read.specs.declared.causes.Cause.{Cause}
 use Rattle.script_read.specs.declared.causes.Cause.TheVariants.{BadForm, Redeclared, ReservedName, PopTooFar, NumberLimit, SortArity, UnsupportedOption}
 use Rattle.script_read.specs.Commands.{Command, passed, declare_sort, declare, assert, check, check_assuming, push, pop, reset, reset_assertions, globals, exit, with_asserted, live, literals}
@@ -35,16 +36,15 @@ use Rattle.script_read.specs.Variables.{definition_binder, variables_in}
 use Rattle.script_read.proofs.Agreement.{numbered_ok, read_ok}
 use Rattle.script_read.proofs.ClearBuilt.{ClearTerm, clear_more, in_left, in_right, in_either}
 use Rattle.script_read.proofs.ClearReads.{BindingClear, AllClear, declared_apart, LocalsClear, constant_terms, ClearRead, form_clear}
-use Rattle.script_read.proofs.ClearTerms.{Apart, apart_front, free_distinct}
 use Rattle.script_read.proofs.Defining.{variables_fine, nothing_ready, body_ready}
 use Rattle.script_read.proofs.Fitting.{Within, AllWithin, declared_of, Sound, Reads}
 use Rattle.script_read.proofs.Meanings.{live_with, literals_with}
-use Rattle.script_read.proofs.NameFacts.{name_itself, parameter_reserved, parameter_numbers, all_within_text}
+use Rattle.script_read.proofs.NameFacts.{parameter_reserved, parameter_numbers, all_within_text}
 use Rattle.script_read.proofs.Outcomes.{and_then_ok, mapped_ok, given_ok, ok_same}
 use Rattle.script_read.proofs.Paired.{Stands, sound_of, OutlineWithin, outline_within, gone_ok, command_goes, first_stands}
 use Rattle.script_read.proofs.Shown.{scene_of, of_sort_ok}
 use Rattle.script_read.specs.Scenes.{seen_command}
-use Rattle.script_read.proofs.SortFacts.{VariablesRead, variables_read, contrary}
+use Rattle.script_read.proofs.SortFacts.{VariablesRead, variables_read}
 use Rattle.script_read.proofs.Standing.{alike_merged, alike_flattened}
 use Rattle.script_read.proofs.TermsMean.{form_reads, ok_on}
 

@@ -1,6 +1,7 @@
 -- Definitions: a body that is read over its parameters means what the form means over the arguments' values.
 use Rattle.std.proofs.Common.{◌≡◌, ◌∙◌, sym, ap, subst, refl, ℕ, suc, Bool, true, false, cond, ◌⊎◌, inl, inr, List, [], ◌∷◌, map, Some, None}
 use Rattle.std.specs.Prelude.{option_map, bytes_eq}
+use Rattle.std.proofs.lemmas.Bool.{false_from_ne_true}
 use Rattle.smt_lex.specs.Names.{Name, is_among as is_among_names, is_reserved_for_declaring}
 use Rattle.smt_terms.specs.Equal.{name_eq, symbol_eq}
 use Rattle.smt_terms.specs.Free.{is_among}
@@ -12,8 +13,8 @@ use Rattle.smt_terms.specs.SubstLaws.{names_within, GivesNone}
 use Rattle.smt_terms.specs.Term.{Term}
 use Rattle.smt_terms.specs.Val.{Env}
 use Rattle.smt_terms.proofs.Agree.{SameAt}
-use Rattle.smt_terms.proofs.Equal.{Decides-symbol_eq}
-use Rattle.smt_terms.proofs.Tests.{and_true, both_false, either_true, left_true, right_true, both_true}
+use Rattle.smt_terms.proofs.Equal.{Decides-symbol_eq, name_same, name_itself, symbol_itself}
+use Rattle.smt_terms.proofs.Tests.{and_true, both_false, either_true, left_true, right_true, both_true, contrary}
 use Rattle.script_read.specs.Heads.{parameters_from}
 use Rattle.script_read.specs.Laws.{denoted}
 use Rattle.script_read.specs.Mean.{Denoted, Meaning, with_bound, with_all, denoted_as, with_arguments}
@@ -23,8 +24,8 @@ use Rattle.script_read.specs.Scope.{or_later}
 use Rattle.script_read.specs.Script.{parameters_read}
 use Rattle.script_read.proofs.Agreeing.{variable_denotes, pairs_bound}
 use Rattle.script_read.proofs.Fitting.{Given, LiveFits, BoundFits, Agrees, pairs_denoted, LetsMean, Origin, drawn, quantified, internal, ConstantSound, LocalsSound, have_sorts, Sound, Ready}
-use Rattle.script_read.proofs.NameFacts.{name_same, name_itself, name_turned, symbol_itself, parameter_reserved, parameter_never, spared_first, spared_none}
-use Rattle.script_read.proofs.SortFacts.{VariablesSound, earlier_apart, refuted, contrary}
+use Rattle.script_read.proofs.NameFacts.{name_turned, parameter_reserved, parameter_never, spared_first, spared_none}
+use Rattle.script_read.proofs.SortFacts.{VariablesSound, earlier_apart}
 
 pub variables_fine : (ns earlier : List Name) (xs : List Variable) → VariablesSound ns earlier xs → have_sorts xs ≡ true
 variables_fine ns earlier [] sound = refl
@@ -39,7 +40,7 @@ module _ (ns : List Name) (fs : List Symbol) (s : Sofar) (sound : Sound ns fs s)
   origin_parameter ls x n k (internal h) = internal h
 
   parameter_undeclared : (i : ℕ) (x : Variable) → is_among fs (parameter i x.sort) ≡ false
-  parameter_undeclared i x = refuted (is_among fs (parameter i x.sort)) (λ e. absurd (contrary {A = ⊥} (is_reserved_for_declaring (parameter i x.sort).name) (parameter_reserved i x.sort) (sound.symbols (parameter i x.sort) e).1))
+  parameter_undeclared i x = false_from_ne_true (is_among fs (parameter i x.sort)) (λ e. absurd (contrary {A = ⊥} (is_reserved_for_declaring (parameter i x.sort).name) (parameter_reserved i x.sort) (sound.symbols (parameter i x.sort) e).1))
 
   locals_parameter : (i : ℕ) (x : Variable) (ls : List ReadLocal) → LocalsSound ns fs s.supply ls → LocalsSound ns fs s.supply (parameter_as x (parameter i x.sort).name ∷ ls)
   locals_parameter i x ls locals = record {

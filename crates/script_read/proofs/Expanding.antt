@@ -1,60 +1,32 @@
 -- A definition over its arguments: substitution of the arguments for the parameters keeps what the definition means.
-use Rattle.std.proofs.Common.{◌≡◌, ◌≢◌, ◌∙◌, sym, ap, subst, refl, ℕ, suc, ◌<◌, Bool, true, false, cond, ◌||◌, ◌⊎◌, inl, inr, List, [], ◌∷◌, map, zip, Option, Some, None, Ok, arith}
+use Rattle.std.proofs.Common.{◌≡◌, ◌≢◌, ◌∙◌, sym, ap, subst, refl, ℕ, suc, ◌<◌, Bool, true, false, cond, ◌⊎◌, inl, inr, List, [], ◌∷◌, map, zip, Option, Some, None, Ok, arith}
 use Rattle.std.specs.Prelude.{unwrap_or}
 use Rattle.smt_lex.specs.Names.{is_reserved_for_declaring}
 use Rattle.smt_terms.specs.Equal.{name_eq, symbol_eq}
-use Rattle.smt_terms.specs.Free.{is_among, name_among, names_of, head_symbols, free, free_of}
+use Rattle.smt_terms.specs.Free.{is_among, name_among, names_of, free}
 use Rattle.smt_terms.specs.Fresh.{Supply, NeverGives}
 use Rattle.smt_terms.specs.Models.{Model}
 use Rattle.smt_terms.specs.Rank.{is_sort, sort_of, sorts_of}
 use Rattle.smt_terms.specs.Sorts.{Name, Sort, bool, Symbol, Variable}
 use Rattle.smt_terms.specs.Subst.{Map, image, subst as substitute, parameter, expand}
 use Rattle.smt_terms.specs.SubstLaws.{value_or, under, HaveSorts, names_within, names_within_each, GivesNone, GivesNoImage, Later}
-use Rattle.smt_terms.specs.Term.{symbol, Term, apply, quantified, Terms, none, ◌⨾◌, terms, constant}
+use Rattle.smt_terms.specs.Term.{symbol, Term, terms, constant}
 use Rattle.smt_terms.specs.Val.{Env, val}
-use Rattle.smt_terms.proofs.Among.{is_among-with_more, is_among-without}
 use Rattle.smt_terms.proofs.Cuts.{name_among-append}
-use Rattle.smt_terms.proofs.Equal.{Decides-symbol_eq}
+use Rattle.smt_terms.proofs.Equal.{Decides-symbol_eq, symbol_itself, name_same}
 use Rattle.smt_terms.proofs.Operands.{fewer_sorts}
 use Rattle.smt_terms.proofs.Ranked.{rank-takes}
-use Rattle.smt_terms.proofs.Runs.{among-name}
 use Rattle.smt_terms.proofs.Sorted.{sorted}
-use Rattle.smt_terms.proofs.Substitution.{subst-keeps_meaning, subst-gives_later}
+use Rattle.smt_terms.proofs.Substitution.{symbols-spared, subst-keeps_meaning, subst-gives_later}
 use Rattle.smt_terms.proofs.SubstNames.{subst-spares_names}
-use Rattle.smt_terms.proofs.Tests.{both_true, either_true, left_true, right_true}
+use Rattle.smt_terms.proofs.Tests.{both_true, either_true, left_true, right_true, contrary}
 use Rattle.script_read.specs.Heads.{operand_sorts, parameters_from, rank_of_arguments}
 use Rattle.script_read.specs.Laws.{denoted}
 use Rattle.script_read.proofs.Agreeing.{variable_sort}
 use Rattle.script_read.proofs.Fitting.{Unassigned, Given, have_sorts}
-use Rattle.script_read.proofs.NameFacts.{symbol_itself, parameter_reserved, parameters_apart, name_same}
-use Rattle.script_read.proofs.SortFacts.{contrary}
+use Rattle.script_read.proofs.NameFacts.{parameter_reserved, parameters_apart}
 
--- ---- a free name stands in the term
-
-or_else : (a b c d : Bool) → (a ≡ true → c ≡ true) → (b ≡ true → d ≡ true) → (a || b) ≡ true → (c || d) ≡ true
-or_else a b c d f g h = go (either_true a b h)
-  where
-    go : (a ≡ true) ⊎ (b ≡ true) → (c || d) ≡ true
-    go (inl k) = left_true c d (f k)
-    go (inr k) = right_true c d (g k)
-
-mutual
-  pub free_named : (t : Term) (g : Symbol) → is_among (free t) g ≡ true → name_among (names_within t) g.name ≡ true
-  free_named (apply h ts) g among =
-      name_among-append (names_of (head_symbols h)) (names_within_each ts) g.name
-      ∙ or_else (is_among (head_symbols h) g) (is_among (free_of ts) g) (name_among (names_of (head_symbols h)) g.name) (name_among (names_within_each ts) g.name)
-      (among-name (head_symbols h) g) (free_named_each ts g) (sym (is_among-with_more (head_symbols h) (free_of ts) g) ∙ among)
-  free_named (quantified q xs body) g among =
-      name_among-append (map (λ x. x.name) xs) (names_within body) g.name
-      ∙ right_true (name_among (map (λ x. x.name) xs) g.name) (name_among (names_within body) g.name)
-      (free_named body g (both_true (is_among (free body) g) _ (sym (is_among-without xs (free body) g) ∙ among)).0)
-
-  free_named_each : (ts : Terms) (g : Symbol) → is_among (free_of ts) g ≡ true → name_among (names_within_each ts) g.name ≡ true
-  free_named_each none g among = absurd cc
-  free_named_each (t ⨾ ts) g among =
-      name_among-append (names_within t) (names_within_each ts) g.name
-      ∙ or_else (is_among (free t) g) (is_among (free_of ts) g) (name_among (names_within t) g.name) (name_among (names_within_each ts) g.name)
-      (free_named t g) (free_named_each ts g) (sym (is_among-with_more (free t) (free_of ts) g) ∙ among)
+-- ---- names that are free in a term
 
 name_from : (fs : List Symbol) (n : Name) → name_among (names_of fs) n ≡ true → (g : Symbol) × (is_among fs g ≡ true) × (name_eq g.name n ≡ true)
 name_from [] n h = absurd cc
@@ -67,7 +39,7 @@ name_from (f ∷ fs) n h = go (either_true (name_eq f.name n) (name_among (names
 pub free_spared : (s : Supply) (t : Term) → GivesNone s (names_within t) → GivesNone s (names_of (free t))
 free_spared s t given n among =
     let found = name_from (free t) n among in
-    subst (NeverGives s) (name_same found.0.name n found.2) (given found.0.name (free_named t found.0 found.1))
+    subst (NeverGives s) (name_same found.0.name n found.2) (symbols-spared s t given found.0 found.1)
 
 -- ---- the arguments in the places of the parameters
 

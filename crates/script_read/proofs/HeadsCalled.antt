@@ -12,6 +12,7 @@ use Rattle.smt_terms.specs.Sorts.{Variable}
 use Rattle.smt_terms.specs.Written.{Indexed, operator_named, at_indices}
 use Rattle.smt_values.specs.SortIds.{sort_at, IsSortId}
 use Rattle.smt_terms.specs.declared.ids.SortId.{SortId}
+use Rattle.smt_terms.proofs.Equal.{name_same}
 use Rattle.sort_check.specs.declared.written.Operator.{Operator}
 use Rattle.sort_check.specs.Forms.{index_count, written_seen, is_apt}
 use Rattle.term_table.specs.Formulas.{Formulas, tree, symbol_at}
@@ -39,7 +40,7 @@ use Rattle.script_read.specs.SortForms.{Sorts, sort_in}
 use Rattle.script_read.specs.Waiting.{World, ReadsCallee}
 use Rattle.script_read.proofs.HeadIndices.{numerals_parts, within_limit, beyond_limit, values_within, as_many_indices}
 use Rattle.script_read.proofs.LiteralNodes.{entry_is}
-use Rattle.script_read.proofs.NameFacts.{name_same, operator_reserved}
+use Rattle.script_read.proofs.NameFacts.{operator_reserved}
 use Rattle.script_read.proofs.Showing.{entry_found, entry_meant}
 use Rattle.script_read.proofs.ShowingLocals.{bound_none, bound_some}
 

@@ -12,7 +12,6 @@ mod Calling
 mod ClearBuilt
 mod ClearReads
 mod ClearScript
-mod ClearTerms
 pub mod CommandsStay
 mod CommandWords
 mod DefinedName
@@ -75,7 +74,6 @@ pub mod StepsOfCalls
 pub mod StepsOfLets
 pub mod StepsOfQuantifiers
 pub mod Stepping
-mod SubstClear
 mod SymbolsRead
 mod TheoryConstants
 mod TheoryNames

@@ -11,6 +11,7 @@ use Rattle.smt_terms.specs.Equal.{name_eq}
 use Rattle.smt_terms.specs.Fresh.{Supply}
 use Rattle.smt_terms.specs.Sorts.{Sort, Symbol}
 use Rattle.smt_terms.specs.Term.{Term}
+use Rattle.smt_terms.proofs.Equal.{name_same}
 use Rattle.term_table.specs.Formulas.{Formulas, symbol_at, tree, trees_at, IsNode, AreNodes}
 use Rattle.term_table.specs.declared.lists.Nodes.{Nodes}
 use Rattle.term_walk.specs.Walking.{GrowsTo}
@@ -32,7 +33,6 @@ use Rattle.script_read.specs.Scope.{or_later}
 use Rattle.script_read.specs.Script.{Standing, live_of, begun_with, boolean_constant, constant_entry, declared_constant, literal, literals_in, assumes}
 use Rattle.script_read.specs.Steps.{StandsAt, Steps}
 use Rattle.script_read.proofs.Grown.{nodes_stay, trees_stay}
-use Rattle.script_read.proofs.NameFacts.{name_same}
 use Rattle.script_read.proofs.SessionSteps.{stands_grown, begun_at, stands_begun}
 use Rattle.script_read.proofs.Showing.{entry_found, entry_meant}
 

@@ -13,7 +13,7 @@ use Rattle.smt_terms.specs.Subst.{parameter}
 use Rattle.smt_terms.specs.SubstLaws.{GivesNone, Later}
 use Rattle.smt_terms.specs.Written.{Indexed, core_operators, number_operators, vector_operators, array_operators, named_in, or_else, operator_named}
 use Rattle.smt_terms.proofs.Tests.{left_true, right_true, either_true, alike_from}
-use Rattle.smt_terms.proofs.Equal.{Decides-name_eq, Decides-symbol_eq}
+use Rattle.smt_terms.proofs.Equal.{Decides-name_eq, name_same, name_itself, Decides-symbol_eq}
 use Rattle.smt_terms.proofs.Fresh.{never-next}
 use Rattle.smt_terms.proofs.Cuts.{name_among-append}
 use Rattle.smt_terms.proofs.Numeral.{numeral-injective}
@@ -22,21 +22,8 @@ use Rattle.script_read.proofs.Fitting.{Within, AllWithin}
 
 -- ---- equal names
 
-pub name_same : (m n : Name) → name_eq m n ≡ true → m ≡ n
-name_same m n h = (Decides-name_eq m n).0 h
-
-pub name_itself : (n : Name) → name_eq n n ≡ true
-name_itself n = (Decides-name_eq n n).1 refl
-
 pub name_turned : (m n : Name) → name_eq m n ≡ name_eq n m
 name_turned m n = alike_from (name_eq m n) (name_eq n m) (λ h. (Decides-name_eq n m).1 (sym (name_same m n h))) (λ h. (Decides-name_eq m n).1 (sym (name_same n m h)))
-
-pub names_differ : (m n : Name) → m ≢ n → name_eq m n ≡ false
-names_differ m n apart = go (name_eq m n) refl
-  where
-    go : (b : Bool) → name_eq m n ≡ b → b ≡ false
-    go true e = absurd (apart (name_same m n e))
-    go false e = refl
 
 -- one test of membership is the other
 pub among_alike : (ns : List Name) (n : Name) → is_among ns n ≡ name_among ns n
@@ -185,9 +172,6 @@ parameters_apart i j s t apart = go (symbol_eq (parameter i s) (parameter j t)) 
     go false e = refl
 
 -- ---- symbols
-
-pub symbol_itself : (g : Symbol) → symbol_eq g g ≡ true
-symbol_itself g = (Decides-symbol_eq g g).1 refl
 
 pub symbols_differ : (g h : Symbol) → g.name ≢ h.name → symbol_eq g h ≡ false
 symbols_differ g h apart = go (symbol_eq g h) refl

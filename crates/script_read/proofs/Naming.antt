@@ -2,6 +2,7 @@
 use Rattle.std.proofs.Common.{◌≡◌, ◌∙◌, sym, ap, subst, refl, ℕ, Bool, true, false, cond, ◌⊎◌, inl, inr, List, [], ◌∷◌, map, Option, Some, None, Ok}
 use Rattle.std.specs.Prelude.{bytes_eq, is_some}
 use Rattle.std.specs.List.{list_any}
+use Rattle.std.proofs.lemmas.Bool.{false_from_ne_true}
 use Rattle.smt_lex.specs.Names.{Name, is_among as is_among_names, is_theory_name, is_reserved_for_declaring}
 use Rattle.smt_lex.specs.Forms.{Form}
 use Rattle.smt_terms.specs.Equal.{name_eq, symbol_eq}
@@ -14,8 +15,8 @@ use Rattle.smt_terms.specs.Term.{Term}
 use Rattle.smt_terms.specs.Val.{Env}
 use Rattle.smt_terms.specs.Values.{default_value}
 use Rattle.smt_terms.proofs.Agree.{val_same}
-use Rattle.smt_terms.proofs.Equal.{Decides-symbol_eq}
-use Rattle.smt_terms.proofs.Tests.{both_false, either_true}
+use Rattle.smt_terms.proofs.Equal.{Decides-symbol_eq, name_same}
+use Rattle.smt_terms.proofs.Tests.{both_false, either_true, contrary}
 use Rattle.script_read.specs.declared.causes.Cause.TheVariants.{Redeclared, ReservedName}
 use Rattle.script_read.specs.Laws.{denoted}
 use Rattle.script_read.specs.Mean.{Denoted, Meaning, mean, with_locals, meaning}
@@ -26,9 +27,9 @@ use Rattle.script_read.specs.Refusals.{unless, mapped}
 use Rattle.script_read.specs.Scope.{Binding, sort_name, function, definition, named, level, or_later, live_sort}
 use Rattle.script_read.proofs.Agreeing.{agrees_default, HaveDefaults}
 use Rattle.script_read.proofs.Fitting.{Unassigned, EntryMeans, LiveFits, Agrees, EntrySound, Sound, Moves, Ready}
-use Rattle.script_read.proofs.NameFacts.{name_same, theory_reserved}
+use Rattle.script_read.proofs.NameFacts.{theory_reserved}
 use Rattle.script_read.proofs.Outcomes.{and_then_ok, mapped_ok, ok_same}
-use Rattle.script_read.proofs.SortFacts.{unless_passed, refuted, contrary}
+use Rattle.script_read.proofs.SortFacts.{unless_passed}
 
 -- ---- what a list of bindings means, in part
 
@@ -137,7 +138,7 @@ module _ (ns : List Name) (fs : List Symbol) (ls : List ReadLocal) (s : Sofar) (
     where
       undeclared : Unassigned fs (default_env ls d)
       undeclared g among =
-          ap (λ b. cond b (Some (default_value g.result)) (d g)) (refuted (is_among (local_constants ls) g) (λ e. absurd (contrary {A = ⊥} (is_among fs g) among (ready.locals.constants g e).undeclared)))
+          ap (λ b. cond b (Some (default_value g.result)) (d g)) (false_from_ne_true (is_among (local_constants ls) g) (λ e. absurd (contrary {A = ⊥} (is_among fs g) among (ready.locals.constants g e).undeclared)))
           ∙ own g among
 
       defaults : HaveDefaults ls (default_env ls d)

@@ -3,7 +3,7 @@
 use Rattle.std.proofs.Common.{◌≡◌, ◌∙◌, sym, ap, subst, refl, ℕ, suc, ◌+◌, ◌≤◌, ◌==◌, Bool, true, false, not, cond, ◌&&◌, ◌||◌, List, [], ◌∷◌, ◌++◌, length, replicate, Option, Some, None, Result, Ok, Err, arith}
 use Rattle.std.specs.Prelude.{⊤, nat_lt, nat_le, is_some, option_map, codes, count_by}
 use Rattle.std.specs.List.{list_all}
-use Rattle.std.proofs.lemmas.Bool.{ltb-false}
+use Rattle.std.proofs.lemmas.Bool.{ltb-false, false_from_ne_true}
 use Rattle.std.proofs.lemmas.List.{length-map}
 use Rattle.smt_lex.specs.Names.{Name, is_among, is_reserved_for_declaring, is_reserved_for_sorts}
 use Rattle.smt_lex.specs.Lex.{Fault, symbol_of}
@@ -17,9 +17,10 @@ use Rattle.smt_terms.specs.Rank.{is_sort, sort_of, is_regular, is_well_sorted}
 use Rattle.smt_terms.specs.Shapes.{is_bool, is_clear_below, is_clear}
 use Rattle.smt_terms.specs.Sorts.{Sort, bool, free_sort, Symbol, Variable}
 use Rattle.smt_terms.specs.Term.{Term, constant}
-use Rattle.smt_terms.proofs.Equal.{Decides-sort_eq}
+use Rattle.smt_terms.proofs.ClearTerms.{Apart, free_distinct}
+use Rattle.smt_terms.proofs.Equal.{Decides-sort_eq, symbol_itself, name_itself}
 use Rattle.smt_terms.proofs.Ranked.{le_true}
-use Rattle.smt_terms.proofs.Tests.{and_true, both_true, left_true, right_true, both_false}
+use Rattle.smt_terms.proofs.Tests.{and_true, both_true, left_true, right_true, both_false, contrary}
 use Rattle.script_read.specs.declared.causes.Cause.{Cause}
 use Rattle.script_read.specs.declared.causes.Cause.TheVariants.{BadForm, Redeclared, ReservedName, PopTooFar, NumberLimit, SortArity, UnsupportedOption}
 use Rattle.script_read.specs.Commands.{Command, declare_sort, check_assuming, pop, reset, reset_assertions, globals, exit, Level, State, empty_level, start, levels_popped, levels_emptied, throughout, on_latest, with_sort, with_symbol, with_assertion, after, sorts_of_state, symbols_of_state}
@@ -38,13 +39,12 @@ use Rattle.script_read.specs.Variables.{definition_binder, variables_in}
 use Rattle.script_read.proofs.Agreement.{numbered_ok, read_ok}
 use Rattle.script_read.proofs.ClearReads.{AllClear, declared_apart, ClearRead, form_clear}
 use Rattle.script_read.proofs.ClearScript.{StepClear, command_clear, nothing_clear}
-use Rattle.script_read.proofs.ClearTerms.{Apart, free_distinct}
 use Rattle.script_read.proofs.Defining.{nothing_ready}
 use Rattle.script_read.proofs.Fitting.{Within, AllWithin, declared_of, Sound}
 use Rattle.script_read.proofs.FormTexts.{IsWritten, AreWritten}
 use Rattle.script_read.proofs.LastExit.{ExitsLast, text_exits_last}
 use Rattle.script_read.proofs.LiveSorts.{sort_live, sorts_live, variables_are_usable}
-use Rattle.script_read.proofs.NameFacts.{all_within_text, symbol_itself, name_itself}
+use Rattle.script_read.proofs.NameFacts.{all_within_text}
 use Rattle.script_read.proofs.OutlineFacts.{is_exit_form, OutlineTold, outline_told, passed_again}
 use Rattle.script_read.proofs.Outcomes.{and_then_ok, mapped_ok, given_ok, ok_same}
 use Rattle.script_read.proofs.Paired.{Stands, sound_of, OutlineWithin, outline_within, of_sort_sorted, gone_ok, command_goes, first_stands}
@@ -52,7 +52,7 @@ use Rattle.script_read.proofs.RegularReads.{RegularRead, form_regular, nothing_r
 use Rattle.script_read.proofs.RegularStanding.{sorts_fine}
 use Rattle.script_read.proofs.ShownLevels.{Bare, bare_levels, levels_of, levels_some, levels_length, bare_sort, bare_symbol, bare_pushed, bare_popped, bare_emptied, bare_sorts, bare_symbols, levels_opened, levels_of_popped, levels_of_emptied, known_sorts, known_symbols, is_own, with_sort_if, name_last_if, sorts_known, symbols_known, known_live, named_live, declared_known, entry_known}
 use Rattle.script_read.proofs.Shown.{scene_of, of_sort_ok}
-use Rattle.script_read.proofs.SortFacts.{sort_fine, contrary, refuted}
+use Rattle.script_read.proofs.SortFacts.{sort_fine}
 use Rattle.script_read.proofs.TermsMean.{ok_on}
 use Rattle.script_read.proofs.UsableBindings.{IsUsableTerm, AllUsable, sorts_usable, usable_opened, usable_popped, usable_emptied}
 use Rattle.script_read.proofs.UsableReads.{sorts_at, Kept, same_sorts, UsableRead, sorts_kept, form_usable, parameters_usable, nothing_usable}
@@ -230,7 +230,7 @@ module _ (ns : List Name) (fit : NamesFit ns) (f : Form) (begun : Bool) (st : St
       let next : Step = Ok (declare_sort n.it ∷ [], begun_with s (sort_known n.it (free_sort n.it) ∷ live_of s)) in
       sort_declarable_led n (unless (not (arity.it == 0)) SortArity arity.place next) (λ allowed new.
       unless_led f begun st (not (arity.it == 0)) SortArity arity.place next (λ none_there.
-      let other : is_among (sorts_of_state st) n.it ≡ false = refuted (is_among (sorts_of_state st) n.it) (λ among. contrary {A = ⊥} (is_some (live_sorts live_before n.it)) (known_live live_before n.it (sym (ap (λ ks. is_among ks n.it) (state_sorts begun st s tracked)) ∙ among)) new) in
+      let other : is_among (sorts_of_state st) n.it ≡ false = false_from_ne_true (is_among (sorts_of_state st) n.it) (λ among. contrary {A = ⊥} (is_some (live_sorts live_before n.it)) (known_live live_before n.it (sym (ap (λ ks. is_among ks n.it) (state_sorts begun st s tracked)) ∙ among)) new) in
       let rest : (not (is_reserved_for_sorts n.it) && not (is_among (sorts_of_state st) n.it)) ≡ true = and_true (not (is_reserved_for_sorts n.it)) (not (is_among (sorts_of_state st) n.it)) (ap not allowed) (ap not other) in (
         and_true (is_writable n.it) (not (is_reserved_for_sorts n.it) && not (is_among (sorts_of_state st) n.it)) (fit n.it text) rest,
         (λ same. absurd cc),
@@ -249,7 +249,7 @@ module _ (ns : List Name) (fit : NamesFit ns) (f : Form) (begun : Bool) (st : St
       no_parameters_led parameters (mapped make (sort_in (live_sorts (live_of s)) g))
       (mapped_led f begun st make (sort_in (live_sorts (live_of s)) g) (λ to h.
       let live_to : sort_is_live (sorts_known live_before) to ≡ true = sort_live (sorts_known live_before) g (live_sorts live_before) to (sorts_usable live_before tracked.usable) h in
-      let other : is_own n.it to ≡ false = refuted (is_own n.it to) (λ e. contrary {A = ⊥} (is_some (live_sorts live_before n.it)) (known_live live_before n.it (ap (sort_is_live (sorts_known live_before)) (sym ((Decides-sort_eq to (free_sort n.it)).0 e)) ∙ live_to)) new) in
+      let other : is_own n.it to ≡ false = false_from_ne_true (is_own n.it to) (λ e. contrary {A = ⊥} (is_some (live_sorts live_before n.it)) (known_live live_before n.it (ap (sort_is_live (sorts_known live_before)) (sym ((Decides-sort_eq to (free_sort n.it)).0 e)) ∙ live_to)) new) in
       record {
         levels = tracked.levels ∙ sym (ap (λ b. with_sort_if b n.it levels_before) other);
         global = tracked.global;
@@ -267,7 +267,7 @@ module _ (ns : List Name) (fit : NamesFit ns) (f : Form) (begun : Bool) (st : St
       let fine : list_all is_sort (to ∷ args) ≡ true = and_true (is_sort to) (list_all is_sort args) (sort_fine g (live_sorts live_before) to sound.sorts k) (sorts_fine arguments (live_sorts live_before) args sound.sorts h) in
       let live : list_all (sort_is_live (sorts_known live_before)) (to ∷ args) ≡ true = and_true (sort_is_live (sorts_known live_before) to) (list_all (sort_is_live (sorts_known live_before)) args) (sort_live (sorts_known live_before) g (live_sorts live_before) to there k) (sorts_live (sorts_known live_before) arguments (live_sorts live_before) args there h) in
       let in_state : list_all (sort_is_live (sorts_of_state st)) (to ∷ args) ≡ true = ap (λ ks. list_all (sort_is_live ks) (to ∷ args)) (state_sorts begun st s tracked) ∙ live in
-      let other : is_among (names_of (symbols_of_state st)) n.it ≡ false = refuted (is_among (names_of (symbols_of_state st)) n.it) (λ among. contrary {A = ⊥} (is_some (entry_of live_before n.it)) (named_live live_before n.it (sym (ap (λ fs. is_among (names_of fs) n.it) (state_symbols begun st s tracked)) ∙ among)) new) in
+      let other : is_among (names_of (symbols_of_state st)) n.it ≡ false = false_from_ne_true (is_among (names_of (symbols_of_state st)) n.it) (λ among. contrary {A = ⊥} (is_some (entry_of live_before n.it)) (named_live live_before n.it (sym (ap (λ fs. is_among (names_of fs) n.it) (state_symbols begun st s tracked)) ∙ among)) new) in
       let usable_name : is_usable n.it ≡ true = and_true (is_writable n.it) (not (is_reserved_for_declaring n.it)) (fit n.it text) (ap not allowed) in
       let rest : (not (is_among (names_of (symbols_of_state st)) n.it) && list_all (λ r. is_sort r && sort_is_live (sorts_of_state st) r) (to ∷ args)) ≡ true =
       and_true (not (is_among (names_of (symbols_of_state st)) n.it)) (list_all (λ r. is_sort r && sort_is_live (sorts_of_state st) r) (to ∷ args)) (ap not other) (both_all is_sort (sort_is_live (sorts_of_state st)) (to ∷ args) fine in_state) in (
@@ -388,7 +388,7 @@ module _ (ns : List Name) (fit : NamesFit ns) (f : Form) (begun : Bool) (st : St
   sets_led place None = tt
   sets_led place (Some b) =
       unless_led f begun st s.begun UnsupportedOption place (Ok (globals b ∷ [], record { sofar = s.sofar; global = b; begun = false; asserted = s.asserted })) (λ early.
-      let not_begun : begun ≡ false = refuted begun (λ k. contrary {A = ⊥} s.begun (tracked.begun_too k) early) in
+      let not_begun : begun ≡ false = false_from_ne_true begun (λ k. contrary {A = ⊥} s.begun (tracked.begun_too k) early) in
       (ap not not_begun, (λ same. absurd cc), record { levels = tracked.levels; global = refl; begun_too = λ k. contrary {A = false ≡ true} begun k not_begun; usable = tracked.usable }))
 
   reset_led : Led f begun st (reset ∷ []) (record { sofar = record { live = []; supply = s.sofar.supply }; global = false; begun = false; asserted = s.asserted })

@@ -3,6 +3,7 @@
 use Rattle.std.proofs.Common.{◌≡◌, ◌≢◌, ◌∙◌, sym, ap, subst, refl, Bool, true, false, not, cond, ◌&&◌, ◌⊎◌, inl, inr, List, [], ◌∷◌, ◌++◌, map, Some}
 use Rattle.std.specs.Prelude.{bytes_eq}
 use Rattle.std.specs.List.{list_all}
+use Rattle.std.proofs.lemmas.Bool.{false_from_ne_true}
 use Rattle.smt_lex.specs.Names.{Name, is_among as is_among_names, is_reserved_for_declaring}
 use Rattle.smt_terms.specs.Equal.{name_eq, symbol_eq}
 use Rattle.smt_terms.specs.Free.{is_among, name_among, names_of}
@@ -15,19 +16,19 @@ use Rattle.smt_terms.specs.Term.{Quantifier, Term, constant_of}
 use Rattle.smt_terms.specs.Val.{Env, assign, runs}
 use Rattle.smt_terms.specs.Values.{Sizes, over_values}
 use Rattle.smt_terms.proofs.Among.{is_among-append}
-use Rattle.smt_terms.proofs.Equal.{Decides-symbol_eq}
+use Rattle.smt_terms.proofs.ClearTerms.{Apart, apart_front}
+use Rattle.smt_terms.proofs.Equal.{Decides-symbol_eq, name_same, name_itself, names_differ}
 use Rattle.smt_terms.proofs.Fresh.{never-next, never-after, never-drawn}
 use Rattle.smt_terms.proofs.Runs.{among-name}
-use Rattle.smt_terms.proofs.Tests.{and_true, both_true, both_false, either_true, or_false, right_true, left_true}
+use Rattle.smt_terms.proofs.Tests.{and_true, both_true, both_false, either_true, or_false, right_true, left_true, contrary}
 use Rattle.script_read.specs.Mean.{Meaning, with_bound, denoted_as, over_variables}
 use Rattle.script_read.specs.Read.{local_constants, constant_names, name_drawn_if, with_quantified, renamed}
 use Rattle.script_read.specs.Reading.{ReadLocal, quantified_as, ReadBinding, bound_as, is_quantified, constant_as}
 use Rattle.script_read.specs.Variables.{quantifier_binder, may_have}
 use Rattle.script_read.proofs.Agreeing.{variable_as, agrees_variable, locals_later}
-use Rattle.script_read.proofs.ClearTerms.{Apart, apart_front}
 use Rattle.script_read.proofs.Fitting.{Agrees, LetsMean, Origin, drawn, quantified, internal, ConstantSound, LocalsSound}
-use Rattle.script_read.proofs.NameFacts.{name_same, name_itself, names_differ, spared_first, spared_none, drawn_outside}
-use Rattle.script_read.proofs.SortFacts.{VariableSound, VariablesSound, earlier_apart, refuted, contrary}
+use Rattle.script_read.proofs.NameFacts.{spared_first, spared_none, drawn_outside}
+use Rattle.script_read.proofs.SortFacts.{VariableSound, VariablesSound, earlier_apart}
 
 -- ---- one local variable more
 
@@ -101,7 +102,7 @@ untaken_more fs earlier ls taken x n u = record {
   undeclared = u.undeclared;
   unquantified = λ k free apart.
       let parts = both_false (bytes_eq k x.name) (is_among_names earlier k) apart in
-      or_false (name_eq x.name k) (is_quantified ls k) (refuted (name_eq x.name k) (λ e. absurd (contrary {A = ⊥} (bytes_eq k x.name) (turned k (name_same x.name k e)) parts.0))) (u.unquantified k free parts.1);
+      or_false (name_eq x.name k) (is_quantified ls k) (false_from_ne_true (name_eq x.name k) (λ e. absurd (contrary {A = ⊥} (bytes_eq k x.name) (turned k (name_same x.name k e)) parts.0))) (u.unquantified k free parts.1);
 }
   where
     turned : (k : Name) → x.name ≡ k → bytes_eq k x.name ≡ true
@@ -123,10 +124,10 @@ renames_by true ns fs taken earlier x xs s ls is sound other known locals untake
     never = never-drawn s
 
     outside : is_among (local_constants ls) c ≡ false
-    outside = refuted (is_among (local_constants ls) c) (λ e. absurd (never-next s (next_name s) (locals.constants c e).spared refl))
+    outside = false_from_ne_true (is_among (local_constants ls) c) (λ e. absurd (never-next s (next_name s) (locals.constants c e).spared refl))
 
     undeclared : is_among fs c ≡ false
-    undeclared = refuted (is_among fs c) (λ e. absurd (never-next s (next_name s) (known.text (next_name s) (known.symbols c e)) refl))
+    undeclared = false_from_ne_true (is_among fs c) (λ e. absurd (never-next s (next_name s) (known.text (next_name s) (known.symbols c e)) refl))
 
     unshared : (g : Symbol) → is_among (local_constants ls ++ fs) g ≡ true → next_name s ≢ g.name
     unshared g among same = spared_by (either_true (is_among (local_constants ls) g) (is_among fs g) (sym (is_among-append (local_constants ls) fs g) ∙ among))
@@ -151,10 +152,10 @@ renames_by false ns fs taken earlier x xs s ls is sound other known locals untak
     impossible (internal h) = contrary (is_reserved_for_declaring x.name) h sound.allowed
 
     outside : is_among (local_constants ls) c ≡ false
-    outside = refuted (is_among (local_constants ls) c) (λ e. absurd (impossible (locals.constants c e).origin))
+    outside = false_from_ne_true (is_among (local_constants ls) c) (λ e. absurd (impossible (locals.constants c e).origin))
 
     undeclared : is_among fs c ≡ false
-    undeclared = refuted (is_among fs c) (λ e. absurd (contrary {A = ⊥} (name_among (names_of fs) x.name) (among-name fs c e) (untaken.undeclared x.name is)))
+    undeclared = false_from_ne_true (is_among fs c) (λ e. absurd (contrary {A = ⊥} (name_among (names_of fs) x.name) (among-name fs c e) (untaken.undeclared x.name is)))
 
     unshared : (g : Symbol) → is_among (local_constants ls ++ fs) g ≡ true → x.name ≢ g.name
     unshared g among same = named_by (either_true (is_among (local_constants ls) g) (is_among fs g) (sym (is_among-append (local_constants ls) fs g) ∙ among))

@@ -9,8 +9,9 @@ use Rattle.smt_terms.specs.Equal.{name_eq, sort_eq}
 use Rattle.smt_terms.specs.Free.{name_among}
 use Rattle.smt_terms.specs.Rank.{most_bits, is_array, is_sort, has_name}
 use Rattle.smt_terms.specs.Sorts.{Sort, bool, int, bit_vector, array, free_sort, Variable}
+use Rattle.smt_terms.proofs.Equal.{name_same}
 use Rattle.smt_terms.proofs.Ranked.{le_true}
-use Rattle.smt_terms.proofs.Tests.{and_true, right_true}
+use Rattle.smt_terms.proofs.Tests.{and_true, right_true, contrary}
 use Rattle.script_read.specs.declared.causes.Cause.{Cause}
 use Rattle.script_read.specs.declared.causes.Cause.TheVariants.{QuantifiedSort, ReservedName, Redeclared, WidthLimit, BadIndex, IndexSort, BadForm, RealSort, SortArity}
 use Rattle.script_read.specs.Parts.{place_of, symbol_in, word_in, is_name, numeral_in}
@@ -19,20 +20,9 @@ use Rattle.script_read.specs.SortForms.{Sorts, live_or_unknown, sort_of_name, so
 use Rattle.script_read.specs.Variables.{Binder, may_have, variable_of, variable_in, variables_in}
 use Rattle.script_read.specs.Read.{is_empty}
 use Rattle.script_read.proofs.Fitting.{Within, AllWithin}
-use Rattle.script_read.proofs.NameFacts.{name_same}
 use Rattle.script_read.proofs.Outcomes.{and_then_ok, mapped_ok, ok_same}
 
 -- ---- tests that were passed
-
-pub refuted : (b : Bool) → (b ≡ true → ⊥) → b ≡ false
-refuted true k = absurd (k refl)
-refuted false k = refl
-
-pub contrary : {A : Type 0} (b : Bool) → b ≡ true → b ≡ false → A
-contrary b h k = absurd (clash h k)
-  where
-    clash : b ≡ true → b ≡ false → ⊥
-    clash h k = absurd cc
 
 pub unless_passed : {A : Type 0} (test : Bool) (cause : Cause) (place : ℕ) (r : Result A Refused) (a : A) → unless test cause place r ≡ Ok a → (test ≡ false) × (r ≡ Ok a)
 unless_passed true cause place r a h = absurd cc

@@ -1,7 +1,8 @@
 -- The tests of equality say `true` exactly at equal arguments.
-use Rattle.std.proofs.Common.{◌≡◌, ℕ, Bool, true, false, ◌&&◌, ◌==◌, ℤ, pos, negsuc, not, if◌then◌else◌, ◌-◌, List, [], ◌∷◌, get_or, refl, ap, sym, ◌∙◌, subst}
+use Rattle.std.proofs.Common.{◌≡◌, ◌≢◌, ℕ, Bool, true, false, ◌&&◌, ◌==◌, ℤ, pos, negsuc, not, if◌then◌else◌, ◌-◌, List, [], ◌∷◌, get_or, refl, ap, sym, ◌∙◌, subst}
 use Rattle.std.specs.Bool.{Decides}
 use Rattle.std.specs.Ordering.{int_eq}
+use Rattle.std.proofs.lemmas.Bool.{false_from_ne_true}
 use Rattle.std.proofs.lemmas.Bool.Decides.{Decides-eqb, Decides-int_eq}
 use Rattle.std.proofs.lemmas.Slice.Eq.{bytes_eq-Decides, slice_eq-Decides}
 use lib.Pointwise.{pointwise}
@@ -16,6 +17,15 @@ use Rattle.smt_terms.proofs.Tests.{both_true, and_true}
 
 pub Decides-name_eq : (m n : Name) → Decides (name_eq m n) (m ≡ n)
 Decides-name_eq = bytes_eq-Decides
+
+pub name_same : (m n : Name) → name_eq m n ≡ true → m ≡ n
+name_same m n h = (Decides-name_eq m n).0 h
+
+pub name_itself : (n : Name) → name_eq n n ≡ true
+name_itself n = (Decides-name_eq n n).1 refl
+
+pub names_differ : (m n : Name) → m ≢ n → name_eq m n ≡ false
+names_differ m n apart = false_from_ne_true (name_eq m n) (λ e. apart (name_same m n e))
 
 sort_same : (s t : Sort) → sort_eq s t ≡ true → s ≡ t
 sort_same bool bool h = refl
@@ -57,7 +67,7 @@ symbol_same f g h =
     let result : f.result ≡ g.result = (Decides-sort_eq f.result g.result).0 rest.1 in
     λ i. record { name = name i; args = args i; result = result i }
 
-symbol_itself : (f : Symbol) → symbol_eq f f ≡ true
+pub symbol_itself : (f : Symbol) → symbol_eq f f ≡ true
 symbol_itself f =
     and_true (name_eq f.name f.name) (pointwise sort_eq f.args f.args && sort_eq f.result f.result)
     ((Decides-name_eq f.name f.name).1 refl)

@@ -5,6 +5,7 @@ pub mod BitLaws
 pub mod BitLengths
 pub mod BoolOperands
 pub mod Built
+pub mod ClearTerms
 pub mod Connected
 pub mod ConstantTerms
 pub mod Cuts
@@ -31,6 +32,7 @@ pub mod SameOperands
 pub mod SameStores
 pub mod Sorted
 pub mod SortsOfTerms
+pub mod SubstClear
 pub mod SubstFree
 pub mod SubstNames
 pub mod StoredTerms

@@ -1,6 +1,6 @@
 -- The renaming of a quantifier's variables: the names that it leaves, the sorts of what it maps to, and that the quantifier
 -- over the new variables runs as the old one did.
-use Rattle.std.proofs.Common.{◌≡◌, ◌≢◌, Bool, true, false, not, cond, ◌&&◌, ◌||◌, ◌⊎◌, inl, inr, List, [], ◌∷◌, map, Some, refl, ap, sym, ◌∙◌, subst}
+use Rattle.std.proofs.Common.{◌≡◌, Bool, true, false, not, cond, ◌&&◌, ◌⊎◌, inl, inr, List, [], ◌∷◌, map, Some, refl, ap, sym, ◌∙◌, subst}
 use Rattle.std.specs.Prelude.{⊤}
 use Rattle.std.specs.List.{list_all}
 use Rattle.smt_terms.specs.Sorts.{Name, Variable}
@@ -11,26 +11,15 @@ use Rattle.smt_terms.specs.Rank.{has_name, are_distinct, is_quantifiable, are_bi
 use Rattle.smt_terms.specs.Fresh.{Supply, next_name, after_draw, fresh_for, NeverGives}
 use Rattle.smt_terms.specs.Subst.{Map, image, Renamed, bind, renaming}
 use Rattle.smt_terms.specs.SubstLaws.{HaveSorts, GivesNone, GivesNoImage, Later}
-use Rattle.smt_terms.proofs.Tests.{both_true, and_true, either_true, both_false, not_true}
-use Rattle.smt_terms.proofs.Equal.{Decides-name_eq, Decides-symbol_eq}
+use Rattle.smt_terms.proofs.Tests.{both_true, and_true, either_true, both_false, or_false, not_true}
+use Rattle.smt_terms.proofs.Equal.{Decides-name_eq, names_differ, Decides-symbol_eq}
 use Rattle.smt_terms.proofs.Fresh.{never-next, never-after, never-drawn}
 
 -- ---- names and tests
 
-or_false : (a b : Bool) → a ≡ false → b ≡ false → (a || b) ≡ false
-or_false false b h k = k
-or_false true b h k = absurd cc
-
 not_and : (a b : Bool) → a ≡ false → b ≡ true → (not a && b) ≡ true
 not_and false b h k = k
 not_and true b h k = absurd cc
-
-differs : (m n : Name) → m ≢ n → name_eq m n ≡ false
-differs m n apart = go (name_eq m n) refl
-  where
-    go : (b : Bool) → name_eq m n ≡ b → b ≡ false
-    go true e = absurd (apart ((Decides-name_eq m n).0 e))
-    go false e = refl
 
 -- the one name that is free in a variable
 pub only_name : (y : Variable) (n : Name) → name_among (names_of (free (variable y))) n ≡ true → y.name ≡ n
@@ -121,7 +110,7 @@ renaming-spared c (x ∷ xs) f s none = bind-spared (name_among c x.name) x f s 
 bind-apart : (b : Bool) (n : Name) (x : Variable) (f : Map) (s : Supply) (below : Map → Supply → Renamed) → ((g : Map) (t : Supply) → NeverGives t n → has_name n (map (λ y. y.name) (below g t).variables) ≡ false) → name_eq n x.name ≡ false → NeverGives s n → has_name n (map (λ y. y.name) (bind b x f s below).variables) ≡ false
 bind-apart true n x f s below apart other never =
     or_false (name_eq n (next_name s)) (has_name n (map (λ y. y.name) (below ((constant_of x, variable (fresh_for x s)) ∷ f) (after_draw s)).variables))
-    (differs n (next_name s) (never-next s n never)) (apart ((constant_of x, variable (fresh_for x s)) ∷ f) (after_draw s) (never-after s n never))
+    (names_differ n (next_name s) (never-next s n never)) (apart ((constant_of x, variable (fresh_for x s)) ∷ f) (after_draw s) (never-after s n never))
 bind-apart false n x f s below apart other never =
     or_false (name_eq n x.name) (has_name n (map (λ y. y.name) (below f s).variables)) other (apart f s never)
 
@@ -136,7 +125,7 @@ spared-apart : (s : Supply) (xs : List Variable) → VariablesSpared s xs → ha
 spared-apart s [] spared = refl
 spared-apart s (x ∷ xs) spared =
     or_false (name_eq (next_name s) x.name) (has_name (next_name s) (map (λ y. y.name) xs))
-    (differs (next_name s) x.name (λ e. never-next s x.name spared.0 (sym e))) (spared-apart s xs spared.1)
+    (names_differ (next_name s) x.name (λ e. never-next s x.name spared.0 (sym e))) (spared-apart s xs spared.1)
 
 bind-distinct : (b : Bool) (c : List Name) (x : Variable) (xs : List Variable) (f : Map) (s : Supply) → ((g : Map) (t : Supply) → VariablesSpared t xs → are_distinct (map (λ y. y.name) (renaming c xs g t).variables) ≡ true) → has_name x.name (map (λ y. y.name) xs) ≡ false → VariablesSpared s (x ∷ xs) → are_distinct (map (λ y. y.name) (bind b x f s (λ g t. renaming c xs g t)).variables) ≡ true
 bind-distinct true c x xs f s distinct apart spared =

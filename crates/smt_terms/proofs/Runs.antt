@@ -38,11 +38,11 @@ KeysFree c f (x ∷ xs) = (name_among c x.name ≡ false → image f (constant_o
 abbrev pub SymbolsSpared : Supply → List Symbol → Type 0
 SymbolsSpared s fs = (g : Symbol) → is_among fs g ≡ true → NeverGives s g.name
 
-fresh-unnamed : (c : List Name) (s : Supply) (xs : List Variable) → VariablesSpared s xs → NoneNamed c xs (next_name s)
+pub fresh-unnamed : (c : List Name) (s : Supply) (xs : List Variable) → VariablesSpared s xs → NoneNamed c xs (next_name s)
 fresh-unnamed c s [] spared = tt
 fresh-unnamed c s (x ∷ xs) spared = (λ kept. never-next s x.name spared.0, fresh-unnamed c s xs spared.1)
 
-front-apart : (c : List Name) (x y : Variable) (xs : List Variable) (f : Map) → NoneNamed c xs y.name → ImagesApart c (x ∷ xs) f → ImagesApart c xs ((constant_of x, variable y) ∷ f)
+pub front-apart : (c : List Name) (x y : Variable) (xs : List Variable) (f : Map) → NoneNamed c xs y.name → ImagesApart c (x ∷ xs) f → ImagesApart c xs ((constant_of x, variable y) ∷ f)
 front-apart c x y xs f unnamed apart g u found n among = go (symbol_eq (constant_of x) g) found
   where
     go : (b : Bool) → cond b (Some (variable y)) (image f g) ≡ Some u → NoneNamed c xs n
@@ -52,7 +52,7 @@ front-apart c x y xs f unnamed apart g u found n among = go (symbol_eq (constant
         subst (NoneNamed c xs) here unnamed
     go false e = (apart g u e n among).1
 
-front-keys : (c : List Name) (x : Variable) (u : Term) (xs : List Variable) (f : Map) → name_among c x.name ≡ true → KeysFree c f xs → KeysFree c ((constant_of x, u) ∷ f) xs
+pub front-keys : (c : List Name) (x : Variable) (u : Term) (xs : List Variable) (f : Map) → name_among c x.name ≡ true → KeysFree c f xs → KeysFree c ((constant_of x, u) ∷ f) xs
 front-keys c x u [] f captured keys = tt
 front-keys c x u (y ∷ xs) f captured keys = (λ kept. go (symbol_eq (constant_of x) (constant_of y)) refl kept, front-keys c x u xs f captured keys.1)
   where

@@ -12,7 +12,7 @@ use Rattle.smt_terms.specs.Made.{minus, made}
 use Rattle.smt_terms.specs.Subst.{Map, image, cut_to, names_in, Renamed, bind, renaming, Chosen, Choices, map_eq, chosen_for, keep, kept_or, quantify, image_or_itself, rebuilt, subst_from, substs_from}
 use Rattle.smt_terms.specs.SubstLaws.{ReplacesConstants, LeftFree, stays, comes, SubstLeavesFree}
 use Rattle.smt_terms.proofs.Tests.{both_true, and_true, left_true, right_true, either_true}
-use Rattle.smt_terms.proofs.Equal.{Decides-symbol_eq, Decides-term_eq}
+use Rattle.smt_terms.proofs.Equal.{symbol_itself, Decides-symbol_eq, Decides-term_eq}
 use Rattle.smt_terms.proofs.Among.{is_among-with_more, is_among-without}
 use Rattle.smt_terms.proofs.Ranked.{rank-takes}
 use Rattle.smt_terms.proofs.Sorted.{IsApplied, applied, sorted, quantified_sort}
@@ -29,15 +29,12 @@ more-bound : (f : Map) (x : Variable) (ys : List Variable) (h : Symbol) (u : Ter
 more-bound f x ys h u (before e) = before e
 more-bound f x ys h u (bound y e among) = bound y e (right_true (symbol_eq (constant_of x) (constant_of y)) (is_among (map constant_of ys) (constant_of y)) among)
 
-itself-eq : (f : Symbol) → symbol_eq f f ≡ true
-itself-eq f = (Decides-symbol_eq f f).1 refl
-
 from-front : (f : Map) (x y : Variable) (ys : List Variable) (h : Symbol) (u : Term) → Source ((constant_of x, variable y) ∷ f) ys h u → Source f (y ∷ ys) h u
 from-front f x y ys h u (bound z e among) = more-bound f y ys h u (bound z e among)
 from-front f x y ys h u (before e) = go (symbol_eq (constant_of x) h) e
   where
     go : (b : Bool) → cond b (Some (variable y)) (image f h) ≡ Some u → Source f (y ∷ ys) h u
-    go true k = let same : u ≡ variable y = cc in bound y same (left_true (symbol_eq (constant_of y) (constant_of y)) (is_among (map constant_of ys) (constant_of y)) (itself-eq (constant_of y)))
+    go true k = let same : u ≡ variable y = cc in bound y same (left_true (symbol_eq (constant_of y) (constant_of y)) (is_among (map constant_of ys) (constant_of y)) (symbol_itself (constant_of y)))
     go false k = before k
 
 bind-source : (b : Bool) (x : Variable) (f : Map) (s : Supply) (below : Map → Supply → Renamed) (h : Symbol) (u : Term) → ((g : Map) (t : Supply) → image (below g t).map h ≡ Some u → Source g (below g t).variables h u) → image (bind b x f s below).map h ≡ Some u → Source f (bind b x f s below).variables h u
@@ -120,10 +117,10 @@ one-symbol k g among = go (either_true (symbol_eq k g) false among)
 
 constant-left : (f : Map) (k : Symbol) (o : Option Term) → image f k ≡ o → (g : Symbol) → is_among (free (image_or_itself o k)) g ≡ true → LeftFree f (free (constant k)) g
 constant-left f k None e g among = stays among (ap (image f) (sym (one-symbol k g among)) ∙ e)
-constant-left f k (Some u) e g among = comes k u (left_true (symbol_eq k k) false (itself-eq k)) e among
+constant-left f k (Some u) e g among = comes k u (left_true (symbol_eq k k) false (symbol_itself k)) e among
 
 -- a symbol with operands isn't replaced
-applied-none : (f : Map) (k : Symbol) (t : Term) (ts : Terms) (s : Sort) → ReplacesConstants f → sort_of (apply (symbol k) (t ⨾ ts)) ≡ Some s → image f k ≡ None
+pub applied-none : (f : Map) (k : Symbol) (t : Term) (ts : Terms) (s : Sort) → ReplacesConstants f → sort_of (apply (symbol k) (t ⨾ ts)) ≡ Some s → image f k ≡ None
 applied-none f k t ts s constants has = go (image f k) refl
   where
     a : IsApplied (symbol k) (t ⨾ ts) s

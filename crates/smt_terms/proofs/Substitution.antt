@@ -26,10 +26,10 @@ use Rattle.smt_terms.proofs.Cuts.{name_among-append, image-cut, cut-sorts, cut-s
 
 -- ---- the names of a term
 
-gives-left : (s : Supply) (ms ns : List Name) → GivesNone s (ms ++ ns) → GivesNone s ms
+pub gives-left : (s : Supply) (ms ns : List Name) → GivesNone s (ms ++ ns) → GivesNone s ms
 gives-left s ms ns given n among = given n (name_among-append ms ns n ∙ left_true (name_among ms n) (name_among ns n) among)
 
-gives-right : (s : Supply) (ms ns : List Name) → GivesNone s (ms ++ ns) → GivesNone s ns
+pub gives-right : (s : Supply) (ms ns : List Name) → GivesNone s (ms ++ ns) → GivesNone s ns
 gives-right s ms ns given n among = given n (name_among-append ms ns n ∙ right_true (name_among ms n) (name_among ns n) among)
 
 pub variables-spared : (s : Supply) (xs : List Variable) → GivesNone s (map (λ x. x.name) xs) → VariablesSpared s xs

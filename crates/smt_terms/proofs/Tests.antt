@@ -46,6 +46,13 @@ alike_from false false f g = refl
 alike_from true false f g = sym (f refl)
 alike_from false true f g = g refl
 
+-- no test is passed and failed
+pub contrary : {A : Type 0} (b : Bool) → b ≡ true → b ≡ false → A
+contrary b h k = absurd (clash h k)
+  where
+    clash : b ≡ true → b ≡ false → ⊥
+    clash h k = absurd cc
+
 -- what a test says of either choice it says of the choice
 pub either_way : {A : Type 0} (test : A → Bool) (b : Bool) (x y : A) (r : Bool) → (b ≡ true → test x ≡ r) → (b ≡ false → test y ≡ r) → test (cond b x y) ≡ r
 either_way test true x y r f g = f refl

@@ -1,10 +1,11 @@
 -- What substitution does to values: the law speaks of the environment in which each replaced constant has the value of its
 -- image. SMT-LIB 2.6, section 5.3.
-use Rattle.std.specs.Prelude.{◌≡◌, true, List, [], ◌++◌, map, Option, Some, None}
+use Rattle.std.specs.Prelude.{◌≡◌, Bool, true, List, [], ◌++◌, map, Option, Some, None}
 use Rattle.smt_terms.specs.Sorts.{Name, Sort, Symbol}
 use Rattle.smt_terms.specs.Term.{Term, apply, quantified, Terms, none, ◌⨾◌, constant}
 use Rattle.smt_terms.specs.Free.{is_among, name_among, names_of, head_symbols, free}
 use Rattle.smt_terms.specs.Rank.{sort_of, sorts_of}
+use Rattle.smt_terms.specs.Shapes.{is_clear_below, is_clear}
 use Rattle.smt_terms.specs.Values.{Value}
 use Rattle.smt_terms.specs.Models.{Model}
 use Rattle.smt_terms.specs.Val.{Env, val, vals}
@@ -82,3 +83,21 @@ pub data LeftFree (f : Map) (fs : List Symbol) (g : Symbol) : Type 0 where
 
 abbrev pub SubstLeavesFree : Type 0
 SubstLeavesFree = (f : Map) (t : Term) (s : Supply) (r : Sort) → sort_of t ≡ Some r → ReplacesConstants f → (g : Symbol) → is_among (free (subst f t s).0) g ≡ true → LeftFree f (free t) g
+
+-- each image passes the test
+abbrev pub ImagesPass : (Term → Bool) → Map → Type 0
+ImagesPass test f = (g : Symbol) (u : Term) → image f g ≡ Some u → test u ≡ true
+
+-- where no quantifier of the term or of an image hides a symbol by binding its name, none of the result does
+abbrev pub SubstHidesNothing : Type 0
+SubstHidesNothing = (f : Map) (t : Term) (s : Supply) (r : Sort) → sort_of t ≡ Some r → ReplacesConstants f → GivesNoImage s f → GivesNone s (names_within t) → is_clear_below [] t ≡ true → ImagesPass (is_clear_below []) f → is_clear_below [] (subst f t s).0 ≡ true
+
+-- no two symbols that can be left free have one name
+abbrev pub LeftApart : Map → Term → Type 0
+LeftApart f t = (g h : Symbol) → LeftFree f (free t) g → LeftFree f (free t) h → g.name ≡ h.name → g ≡ h
+
+-- where the term and the images are clear and the symbols that can be left free have different names, the result is clear.
+-- Without that premise it needn't be: `(and p r)` with `(= q 0)` for r, where q is an Int that is named p too, has two free
+-- symbols of one name
+abbrev pub SubstKeepsClear : Type 0
+SubstKeepsClear = (f : Map) (t : Term) (s : Supply) (r : Sort) → sort_of t ≡ Some r → ReplacesConstants f → GivesNoImage s f → GivesNone s (names_within t) → is_clear t ≡ true → ImagesPass is_clear f → LeftApart f t → is_clear (subst f t s).0 ≡ true

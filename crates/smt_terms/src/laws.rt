@@ -5,7 +5,7 @@ ghost use Rattle.smt_terms.specs.Laws.{TellsEqual, RankIsRelation, SameIsReflexi
 ghost use Rattle.smt_terms.specs.FreshLaws.{NumbersNameApart, NextIsFree, NextIsLeast, NextIsLater, DrawnIsGone, GoneStaysGone};
 ghost use Rattle.smt_terms.specs.KeepsLaws.{HeadsKeep, QuantifiersKeep};
 ghost use Rattle.smt_terms.specs.NodeLaws.{HeadsHaveSorts, BindersHaveSorts};
-ghost use Rattle.smt_terms.specs.SubstLaws.{SubstKeepsMeaning, SubstGivesLater, SubstSparesNames, SubstLeavesFree};
+ghost use Rattle.smt_terms.specs.SubstLaws.{SubstKeepsMeaning, SubstGivesLater, SubstSparesNames, SubstLeavesFree, SubstHidesNothing, SubstKeepsClear};
 
 /// Each test of equality says yes exactly at equal arguments.
 pub fn tests_tell_equality()
@@ -75,11 +75,15 @@ pub fn fresh_names_are_new()
 {}
 
 /// Substitution gives a term of the same sort, with the value that the term has where each replaced constant has the value
-/// of its image; what is left of the supply gives no name that the supply didn't give, and none of the result. A symbol that is free afterwards was free and isn't
-/// replaced, or is free in the image of one that was.
+/// of its image; what is left of the supply gives no name that the supply didn't give, and none of the result. A symbol
+/// that is free afterwards was free and isn't replaced, or is free in the image of one that was. Where no quantifier of the
+/// term or of an image hides a symbol by binding its name, none of the result does; and the result is clear where the term
+/// and the images are, if the symbols that can be left free have different names.
 pub fn substitution_keeps_meaning()
     ensures meaning { SubstKeepsMeaning }
     ensures later { SubstGivesLater }
     ensures names { SubstSparesNames }
     ensures free { SubstLeavesFree }
+    ensures bound { SubstHidesNothing }
+    ensures clear { SubstKeepsClear }
 {}

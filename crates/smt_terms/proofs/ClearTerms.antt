@@ -1,6 +1,7 @@
 -- Where the symbols of a term are seen: clear names below more or fewer quantified variables.
 use Rattle.std.proofs.Common.{◌≡◌, ◌≢◌, ◌∙◌, sym, ap, refl, Bool, true, false, not, cond, ◌&&◌, ◌||◌, ◌⊎◌, inl, inr, List, [], ◌∷◌, ◌++◌, map, filter, append_assoc}
 use Rattle.std.specs.Prelude.{⊤, reverse}
+use Rattle.std.proofs.lemmas.Bool.{false_from_ne_true}
 use Rattle.std.proofs.lemmas.List.{reverse-append}
 use Rattle.smt_terms.specs.Equal.{name_eq, symbol_eq}
 use Rattle.smt_terms.specs.Free.{is_among, with_more, head_symbols, free, free_of, names_of}
@@ -9,10 +10,8 @@ use Rattle.smt_terms.specs.Shapes.{is_seen, is_head_seen, is_clear_below, are_cl
 use Rattle.smt_terms.specs.Sorts.{Name, Symbol, Variable}
 use Rattle.smt_terms.specs.Term.{Head, op, symbol, const_array, Term, apply, quantified, Terms, none, ◌⨾◌, constant_of}
 use Rattle.smt_terms.proofs.Among.{is_among-append, is_among-with_more, is_among-without, is_among-filter}
-use Rattle.smt_terms.proofs.Equal.{Decides-symbol_eq}
-use Rattle.smt_terms.proofs.Tests.{and_true, both_true, both_false, or_false, either_true, left_true, right_true, not_true}
-use Rattle.script_read.proofs.NameFacts.{name_same, name_itself, symbol_itself}
-use Rattle.script_read.proofs.SortFacts.{refuted, contrary}
+use Rattle.smt_terms.proofs.Equal.{name_same, name_itself, symbol_itself, Decides-symbol_eq}
+use Rattle.smt_terms.proofs.Tests.{and_true, both_true, both_false, or_false, either_true, left_true, right_true, not_true, contrary}
 
 -- ---- one variable in front
 
@@ -55,7 +54,7 @@ unbound [] g h = refl
 unbound (x ∷ xs) g h =
     let parts = both_false (name_eq x.name g.name) (binds_name xs g.name) h in
     or_false (symbol_eq (constant_of x) g) (is_among (map constant_of xs) g)
-    (refuted (symbol_eq (constant_of x) g) (λ e. absurd (contrary {A = ⊥} (name_eq x.name g.name) (ap (λ (k : Symbol). name_eq x.name k.name) (sym ((Decides-symbol_eq (constant_of x) g).0 e)) ∙ name_itself x.name) parts.0)))
+    (false_from_ne_true (symbol_eq (constant_of x) g) (λ e. absurd (contrary {A = ⊥} (name_eq x.name g.name) (ap (λ (k : Symbol). name_eq x.name k.name) (sym ((Decides-symbol_eq (constant_of x) g).0 e)) ∙ name_itself x.name) parts.0)))
     (unbound xs g parts.1)
 
 -- ---- below other variables
@@ -185,7 +184,7 @@ Once (f ∷ fs) = (is_among fs f ≡ false) × Once fs
 once_joined : (fs gs : List Symbol) → Once fs → Once gs → ((g : Symbol) → is_among fs g ≡ true → is_among gs g ≡ true → ⊥) → Once (fs ++ gs)
 once_joined [] gs a b apart = b
 once_joined (f ∷ fs) gs a b apart = (
-  is_among-append fs gs f ∙ or_false (is_among fs f) (is_among gs f) a.0 (refuted (is_among gs f) (λ e. apart f (left_true (symbol_eq f f) (is_among fs f) (symbol_itself f)) e)),
+  is_among-append fs gs f ∙ or_false (is_among fs f) (is_among gs f) a.0 (false_from_ne_true (is_among gs f) (λ e. apart f (left_true (symbol_eq f f) (is_among fs f) (symbol_itself f)) e)),
   once_joined fs gs a.1 b (λ g h k. apart g (right_true (symbol_eq f g) (is_among fs g) h) k),
 )
 
@@ -225,7 +224,7 @@ unnamed_by [] f outside apart = refl
 unnamed_by (g ∷ fs) f outside apart =
     let parts = both_false (symbol_eq g f) (is_among fs f) outside in
     or_false (name_eq f.name g.name) (has_name f.name (names_of fs))
-    (refuted (name_eq f.name g.name) (λ e. absurd (contrary {A = ⊥} (symbol_eq g f) ((Decides-symbol_eq g f).1 (sym (apart g (left_true (symbol_eq g g) (is_among fs g) (symbol_itself g)) (name_same f.name g.name e)))) parts.0)))
+    (false_from_ne_true (name_eq f.name g.name) (λ e. absurd (contrary {A = ⊥} (symbol_eq g f) ((Decides-symbol_eq g f).1 (sym (apart g (left_true (symbol_eq g g) (is_among fs g) (symbol_itself g)) (name_same f.name g.name e)))) parts.0)))
     (unnamed_by fs f parts.1 (λ h among. apart h (right_true (symbol_eq g h) (is_among fs h) among)))
 
 distinct_names : (fs : List Symbol) → Once fs → Apart fs → are_distinct (names_of fs) ≡ true

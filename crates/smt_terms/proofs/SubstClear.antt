@@ -4,27 +4,25 @@ use Rattle.std.specs.Prelude.{⊤, reverse}
 use Rattle.smt_terms.specs.declared.op.Op.TheVariants.{Whole, Neg}
 use Rattle.smt_terms.specs.Equal.{name_eq, symbol_eq, term_eq}
 use Rattle.smt_terms.specs.Free.{is_among, name_among, names_of, with_more, without, head_symbols, free, free_of}
-use Rattle.smt_terms.specs.Fresh.{Supply, next_name, after_draw, fresh_for}
+use Rattle.smt_terms.specs.Fresh.{Supply, after_draw, fresh_for}
 use Rattle.smt_terms.specs.Made.{minus, made}
 use Rattle.smt_terms.specs.Rank.{has_name, are_distinct, are_bindable, sort_of, sorts_of}
 use Rattle.smt_terms.specs.Shapes.{is_seen, is_head_seen, is_clear_below, are_clear_below}
 use Rattle.smt_terms.specs.Sorts.{Name, Sort, bool, Symbol, Variable}
 use Rattle.smt_terms.specs.Subst.{Map, image, cut_to, names_in, Renamed, bind, renaming, Chosen, Choices, map_eq, chosen_for, keep, kept_or, quantify, image_or_itself, subst_from, substs_from, subst}
-use Rattle.smt_terms.specs.SubstLaws.{names_within, names_within_each, GivesNone, GivesNoImage, Later, ReplacesConstants}
+use Rattle.smt_terms.specs.SubstLaws.{names_within, names_within_each, GivesNone, GivesNoImage, Later, ReplacesConstants, LeftFree, SubstHidesNothing, SubstKeepsClear}
 use Rattle.smt_terms.specs.Term.{Quantifier, Head, op, symbol, const_array, Term, apply, quantified, Terms, none, ◌⨾◌, constant_of, variable}
 use Rattle.smt_terms.proofs.Among.{is_among-with_more, is_among-without}
-use Rattle.smt_terms.proofs.Cuts.{name_among-append, cut-image, image-cut, cut-spared, names-apart, keys-free, map-same}
-use Rattle.smt_terms.proofs.Equal.{Decides-name_eq, Decides-symbol_eq, Decides-term_eq}
+use Rattle.smt_terms.proofs.ClearTerms.{binds_name, reverse_front, unbound, clear_wider, seen_past, constants-reverse, free_seen, free_distinct}
+use Rattle.smt_terms.proofs.Cuts.{image-cut, cut-spared, names-apart, keys-free, map-same}
+use Rattle.smt_terms.proofs.Equal.{Decides-name_eq, name_itself, names_differ, symbol_itself, Decides-symbol_eq, Decides-term_eq}
 use Rattle.smt_terms.proofs.Fresh.{never-next, never-after, never-drawn}
-use Rattle.smt_terms.proofs.Ranked.{rank-takes}
-use Rattle.smt_terms.proofs.Renaming.{VariablesSpared, renaming-later, renaming-spared, spared-later, after-later, images-later, front-spared, only_name}
-use Rattle.smt_terms.proofs.Runs.{NoneNamed, ImagesApart, KeysFree, SymbolsSpared, among-name}
+use Rattle.smt_terms.proofs.Renaming.{VariablesSpared, renaming-later, renaming-spared, spared-later, after-later, images-later, front-spared}
+use Rattle.smt_terms.proofs.Runs.{ImagesApart, KeysFree, SymbolsSpared, fresh-unnamed, front-apart, front-keys, among-name}
 use Rattle.smt_terms.proofs.Sorted.{applied, sorted, quantified_sort}
-use Rattle.smt_terms.proofs.Tests.{and_true, both_true, both_false, or_false, left_true, right_true, not_true}
-use Rattle.script_read.proofs.ClearTerms.{binds_name, constants-reverse, unbound, clear_wider, free_seen, seen_past, reverse_front}
-use Rattle.script_read.proofs.Expanding.{free_named}
-use Rattle.script_read.proofs.NameFacts.{name_itself, names_differ, symbol_itself}
-use Rattle.script_read.proofs.SortFacts.{contrary}
+use Rattle.smt_terms.proofs.Substitution.{gives-left, gives-right, variables-spared, symbols-spared}
+use Rattle.smt_terms.proofs.SubstFree.{applied-none, cut-constants, renaming-constants, subst-leaves_free}
+use Rattle.smt_terms.proofs.Tests.{and_true, both_true, both_false, or_false, left_true, right_true, not_true, contrary}
 
 -- ---- what takes a symbol's place is clear where it comes to stand
 
@@ -72,29 +70,6 @@ own_names fs (x ∷ xs) zs distinct seen =
 
 -- ---- one variable more
 
-fresh_unnamed : (c : List Name) (s : Supply) (xs : List Variable) → VariablesSpared s xs → NoneNamed c xs (next_name s)
-fresh_unnamed c s [] spared = tt
-fresh_unnamed c s (x ∷ xs) spared = (λ kept. never-next s x.name spared.0, fresh_unnamed c s xs spared.1)
-
-front_apart : (c : List Name) (x y : Variable) (xs : List Variable) (f : Map) → NoneNamed c xs y.name → ImagesApart c (x ∷ xs) f → ImagesApart c xs ((constant_of x, variable y) ∷ f)
-front_apart c x y xs f unnamed apart g u found n among = go (symbol_eq (constant_of x) g) found
-  where
-    go : (b : Bool) → cond b (Some (variable y)) (image f g) ≡ Some u → NoneNamed c xs n
-    go true e =
-        let same : variable y ≡ u = cc in
-        carry (NoneNamed c xs) (only_name y n (ap (λ t. name_among (names_of (free t)) n) same ∙ among)) unnamed
-    go false e = (apart g u e n among).1
-
-front_keys : (c : List Name) (x : Variable) (u : Term) (xs : List Variable) (f : Map) → name_among c x.name ≡ true → KeysFree c f xs → KeysFree c ((constant_of x, u) ∷ f) xs
-front_keys c x u [] f captured keys = tt
-front_keys c x u (y ∷ xs) f captured keys = (λ kept. go (symbol_eq (constant_of x) (constant_of y)) refl kept, front_keys c x u xs f captured keys.1)
-  where
-    go : (b : Bool) → symbol_eq (constant_of x) (constant_of y) ≡ b → name_among c y.name ≡ false → cond b (Some u) (image f (constant_of y)) ≡ None
-    go true here kept =
-        let same : x.name ≡ y.name = ap (λ (h : Symbol). h.name) ((Decides-symbol_eq (constant_of x) (constant_of y)).0 here) in
-        contrary (name_among c y.name) (ap (name_among c) (sym same) ∙ captured) kept
-    go false other kept = keys.0 kept
-
 -- a variable of another name in front
 seen_behind : (y : Variable) (ws : List Variable) (g : Symbol) → y.name ≢ g.name → is_seen ws g ≡ true → is_seen (y ∷ ws) g ≡ true
 seen_behind y ws g apart seen = go (name_eq y.name g.name) (names_differ y.name g.name apart)
@@ -127,8 +102,8 @@ around_fresh : (c : List Name) (fs : List Symbol) (x : Variable) (xs : List Vari
 around_fresh c fs x xs f s ws captured a = record {
   places = λ g among outside. go g among outside (symbol_eq (constant_of x) g) refl;
   own = a.own.1;
-  apart = front_apart c x (fresh_for x s) xs f (fresh_unnamed c s xs a.variables.1) a.apart;
-  keys = front_keys c x (variable (fresh_for x s)) xs f captured a.keys.1;
+  apart = front-apart c x (fresh_for x s) xs f (fresh-unnamed c s xs a.variables.1) a.apart;
+  keys = front-keys c x (variable (fresh_for x s)) xs f captured a.keys.1;
   variables = spared-later s (after_draw s) xs (after-later s) a.variables.1;
   images = front-spared (after_draw s) x (fresh_for x s) f (never-drawn s) (images-later s (after_draw s) f (after-later s) a.images);
   symbols = λ g among. never-after s g.name (a.symbols g among);
@@ -218,19 +193,6 @@ record AllEnd (f : Map) (fs : List Symbol) (s : Choices) (r : Terms × Choices) 
   kept : KeptClear r.1.chosen
   later : Later s.names r.1.names
 
-gives_left : (s : Supply) (ms ns : List Name) → GivesNone s (ms ++ ns) → GivesNone s ms
-gives_left s ms ns given n among = given n (name_among-append ms ns n ∙ left_true (name_among ms n) (name_among ns n) among)
-
-gives_right : (s : Supply) (ms ns : List Name) → GivesNone s (ms ++ ns) → GivesNone s ns
-gives_right s ms ns given n among = given n (name_among-append ms ns n ∙ right_true (name_among ms n) (name_among ns n) among)
-
-variables_spared : (s : Supply) (xs : List Variable) → GivesNone s (map (λ x. x.name) xs) → VariablesSpared s xs
-variables_spared s [] given = tt
-variables_spared s (x ∷ xs) given = (
-  given x.name (left_true (name_eq x.name x.name) (name_among (map (λ y. y.name) xs) x.name) (name_itself x.name)),
-  variables_spared s xs (λ n among. given n (right_true (name_eq x.name n) (name_among (map (λ y. y.name) xs) n) among)),
-)
-
 placed_left : (f : Map) (ws : List Variable) (fs gs : List Symbol) → Placed f ws (with_more fs gs) → Placed f ws fs
 placed_left f ws fs gs places g among = places g (is_among-with_more fs gs g ∙ left_true (is_among fs g) (is_among gs g) among)
 
@@ -251,36 +213,10 @@ constant_clear : (f : Map) (ws : List Variable) (g : Symbol) (o : Option Term) �
 constant_clear f ws g (Some u) h = h
 constant_clear f ws g None h = and_true (is_seen ws g) true h refl
 
--- a symbol with operands isn't replaced
-seen_call : (f : Map) (ws : List Variable) (g : Symbol) (s : Sort) (ss : List Sort) → ReplacesConstants f → g.args ≡ s ∷ ss → (o : Option Term) → image f g ≡ o → placed o ws g ≡ true → is_seen ws g ≡ true
-seen_call f ws g s ss constants args None found h = h
-seen_call f ws g s ss constants args (Some u) found h = absurd (clash (sym (constants g u found) ∙ args))
-  where
-    clash : [] ≡ s ∷ ss → ⊥
-    clash e = absurd cc
-
 -- ---- quantified terms
 
 cut_placed : (f : Map) (ws : List Variable) (fs : List Symbol) → Placed f ws fs → Placed (cut_to fs f) ws fs
 cut_placed f ws fs places g among = ap (λ o. placed o ws g) (image-cut fs f g ∙ ap (λ b. cond b (image f g) None) among) ∙ places g among
-
-cut_constants : (fs : List Symbol) (f : Map) → ReplacesConstants f → ReplacesConstants (cut_to fs f)
-cut_constants fs f constants g u found = constants g u (cut-image fs f g u found).1
-
-bind_constants : (b : Bool) (x : Variable) (f : Map) (s : Supply) (below : Map → Supply → Renamed) → ((g : Map) (t : Supply) → ReplacesConstants g → ReplacesConstants (below g t).map) → ReplacesConstants f → ReplacesConstants (bind b x f s below).map
-bind_constants true x f s below more constants = more ((constant_of x, variable (fresh_for x s)) ∷ f) (after_draw s) front
-  where
-    front : ReplacesConstants ((constant_of x, variable (fresh_for x s)) ∷ f)
-    front g u found = go (symbol_eq (constant_of x) g) refl found
-      where
-        go : (b : Bool) → symbol_eq (constant_of x) g ≡ b → cond b (Some (variable (fresh_for x s))) (image f g) ≡ Some u → g.args ≡ []
-        go true e k = ap (λ (h : Symbol). h.args) (sym ((Decides-symbol_eq (constant_of x) g).0 e))
-        go false e k = constants g u k
-bind_constants false x f s below more constants = more f s constants
-
-renaming_constants : (c : List Name) (xs : List Variable) (f : Map) (s : Supply) → ReplacesConstants f → ReplacesConstants (renaming c xs f s).map
-renaming_constants c [] f s constants = constants
-renaming_constants c (x ∷ xs) f s constants = bind_constants (name_among c x.name) x f s (λ g t. renaming c xs g t) (λ g t k. renaming_constants c xs g t k) constants
 
 distinct_of : (xs : List Variable) → are_bindable xs ≡ true → are_distinct (map (λ x. x.name) xs) ≡ true
 distinct_of [] h = absurd cc
@@ -307,8 +243,8 @@ kept_end f q xs body s start bindable clear below None found =
     let later : Later s.names t.names = renaming-later c xs cut s.names in
     let out : End (renaming c xs cut s.names).map (free body) t (subst_from (renaming c xs cut s.names).map body t) = below (renaming c xs cut s.names).map t (record {
       images = renaming-spared c xs cut s.names images;
-      names = λ n among. later n (gives_right s.names (map (λ x. x.name) xs) (names_within body) start.names n among);
-      constants = renaming_constants c xs cut s.names (cut_constants (without xs (free body)) f start.constants);
+      names = λ n among. later n (gives-right s.names (map (λ x. x.name) xs) (names_within body) start.names n among);
+      constants = renaming-constants c xs cut s.names (cut-constants (without xs (free body)) f start.constants);
       kept = start.kept;
     }) in
     let at_cut : (ws : List Variable) → Placed cut ws (without xs (free body)) → is_clear_below ws (quantified q (renaming c xs cut s.names).variables (subst_from (renaming c xs cut s.names).map body t).0) ≡ true = λ ws places.
@@ -317,9 +253,9 @@ kept_end f q xs body s start bindable clear below None found =
       own = own_names (free body) xs [] (distinct_of xs bindable) (λ g among. free_seen body (reverse xs ++ []) g clear among);
       apart = names-apart xs cut;
       keys = keys-free c xs (free body) f;
-      variables = variables_spared s.names xs (gives_left s.names (map (λ x. x.name) xs) (names_within body) start.names);
+      variables = variables-spared s.names xs (gives-left s.names (map (λ x. x.name) xs) (names_within body) start.names);
       images = images;
-      symbols = λ g among. gives_right s.names (map (λ x. x.name) xs) (names_within body) start.names g.name (free_named body g among);
+      symbols = symbols-spared s.names body (gives-right s.names (map (λ x. x.name) xs) (names_within body) start.names);
     })) in
     record {
       clear = λ ws places. at_cut ws (cut_placed f ws (without xs (free body)) places);
@@ -330,7 +266,7 @@ kept_end f q xs body s start bindable clear below None found =
 -- ---- all terms
 
 operands_start : (f : Map) (h : Head) (ts : Terms) (s : Choices) → Start f (names_within (apply h ts)) s → Start f (names_within_each ts) s
-operands_start f h ts s start = record { images = start.images; names = gives_right s.names (names_of (head_symbols h)) (names_within_each ts) start.names; constants = start.constants; kept = start.kept }
+operands_start f h ts s start = record { images = start.images; names = gives-right s.names (names_of (head_symbols h)) (names_within_each ts) start.names; constants = start.constants; kept = start.kept }
 
 mutual
   subst_end : (t : Term) (r : Sort) (f : Map) (s : Choices) → Start f (names_within t) s → sort_of t ≡ Some r → is_clear_below [] t ≡ true → End f (free t) s (subst_from f t s)
@@ -341,12 +277,10 @@ mutual
   }
   subst_end (apply (symbol g) (t ⨾ ts)) r f s start has clear =
       let parts = applied (symbol g) (t ⨾ ts) r has in
-      let first = sorted t ts parts.sorts parts.operands in
-      let args : g.args ≡ first.sort ∷ first.sorts = sym (rank-takes (symbol g) parts.sorts r parts.rank).0 ∙ first.all in
       let out : AllEnd f (free_of (t ⨾ ts)) s (substs_from f (t ⨾ ts) s) = substs_end (t ⨾ ts) parts.sorts f s (operands_start f (symbol g) (t ⨾ ts) s start) parts.operands (both_true (is_seen [] g) (are_clear_below [] (t ⨾ ts)) clear).1 in
       record {
         clear = λ ws places. and_true (is_seen ws g) (are_clear_below ws (substs_from f (t ⨾ ts) s).0)
-            (seen_call f ws g first.sort first.sorts start.constants args (image f g) refl (places g (is_among-with_more (g ∷ []) (free_of (t ⨾ ts)) g ∙ left_true (symbol_eq g g || false) (is_among (free_of (t ⨾ ts)) g) (left_true (symbol_eq g g) false (symbol_itself g)))))
+            (ap (λ o. placed o ws g) (sym (applied-none f g t ts r start.constants has)) ∙ places g (is_among-with_more (g ∷ []) (free_of (t ⨾ ts)) g ∙ left_true (symbol_eq g g || false) (is_among (free_of (t ⨾ ts)) g) (left_true (symbol_eq g g) false (symbol_itself g))))
             (out.clear ws (placed_right f ws (g ∷ []) (free_of (t ⨾ ts)) places));
         kept = out.kept;
         later = out.later;
@@ -368,10 +302,10 @@ mutual
   substs_end (t ⨾ ts) ss f s start has clear =
       let parts = sorted t ts ss has in
       let clears = both_true (is_clear_below [] t) (are_clear_below [] ts) clear in
-      let first : End f (free t) s (subst_from f t s) = subst_end t parts.sort f s (record { images = start.images; names = gives_left s.names (names_within t) (names_within_each ts) start.names; constants = start.constants; kept = start.kept }) parts.first clears.0 in
+      let first : End f (free t) s (subst_from f t s) = subst_end t parts.sort f s (record { images = start.images; names = gives-left s.names (names_within t) (names_within_each ts) start.names; constants = start.constants; kept = start.kept }) parts.first clears.0 in
       let rest : AllEnd f (free_of ts) (subst_from f t s).1 (substs_from f ts (subst_from f t s).1) = substs_end ts parts.sorts f (subst_from f t s).1 (record {
         images = λ g u found n among. first.later n (start.images g u found n among);
-        names = λ n among. first.later n (gives_right s.names (names_within t) (names_within_each ts) start.names n among);
+        names = λ n among. first.later n (gives-right s.names (names_within t) (names_within_each ts) start.names n among);
         constants = start.constants;
         kept = first.kept;
       }) parts.others clears.1 in
@@ -382,12 +316,20 @@ mutual
         later = λ n never. rest.later n (first.later n never);
       }
 
--- where the term and the images are clear, so is what substitution makes of them
-pub subst_clear : (f : Map) (t : Term) (s : Supply) (r : Sort) → sort_of t ≡ Some r → is_clear_below [] t ≡ true → ReplacesConstants f → GivesNoImage s f → GivesNone s (names_within t) → ((g : Symbol) (u : Term) → image f g ≡ Some u → is_clear_below [] u ≡ true) → is_clear_below [] (subst f t s).0 ≡ true
+-- ---- the law
+
+pub subst-hides_nothing : SubstHidesNothing
 unfolding KeptClear
-subst_clear f t s r has clear constants images names fine =
+subst-hides_nothing f t s r has constants images names clear fine =
     (subst_end t r f (record { names = s; chosen = [] }) (record { images = images; names = names; constants = constants; kept = tt }) has clear).clear [] (λ g among. at_place g (image f g) refl)
   where
     at_place : (g : Symbol) (o : Option Term) → image f g ≡ o → placed o [] g ≡ true
     at_place g None found = refl
     at_place g (Some u) found = fine g u found
+
+pub subst-keeps_clear : SubstKeepsClear
+subst-keeps_clear f t s r has constants images names clear fine apart =
+    let left : (g : Symbol) → is_among (free (subst f t s).0) g ≡ true → LeftFree f (free t) g = subst-leaves_free f t s r has constants in
+    and_true (is_clear_below [] (subst f t s).0) (are_distinct (names_of (free (subst f t s).0)))
+    (subst-hides_nothing f t s r has constants images names (both_true (is_clear_below [] t) (are_distinct (names_of (free t))) clear).0 (λ g u found. (both_true (is_clear_below [] u) (are_distinct (names_of (free u))) (fine g u found)).0))
+    (free_distinct (free (subst f t s).0) (subst f t s).0 (λ g h a b same. apart g h (left g a) (left h b) same) (λ g among. among))
