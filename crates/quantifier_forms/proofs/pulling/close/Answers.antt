@@ -5,8 +5,8 @@ use Rattle.smt_terms.specs.Term.{quantified}
 use Rattle.term_table.specs.Formulas.{tree}
 use Rattle.term_walk.proofs.Visits.{grows-self, table-grows}
 use Rattle.quantifier_forms.specs.Pulling.{Front, front_at, fronts_at, behind_fronts}
-use Rattle.quantifier_forms.specs.Working.{AreVariables}
-use Rattle.quantifier_forms.proofs.Expansions.{variables-stay}
+use Rattle.quantifier_forms.specs.Variables.{AreVariables}
+use Rattle.quantifier_forms.proofs.Variables.{variables-stay}
 use Rattle.quantifier_forms.proofs.Pulled.{front-at, is-front-at}
 use Rattle.quantifier_forms.proofs.Turned.{behind-more, behind-none}
 use Rattle.quantifier_forms.proofs.pulling.close.Goals as goal
