@@ -5,6 +5,5 @@ pub mod Expansions
 pub mod Noted
 pub mod PlainSubst
 pub mod Puts
-pub mod Renamed
 pub mod SelfNodes
 pub mod SelfSteps

@@ -1,6 +1,5 @@
 pub mod Bodies
 pub mod Exchanged
-pub mod Firsts
 pub mod Listings
 pub mod Memos
 pub mod Orders
@@ -11,5 +10,4 @@ pub mod Stands
 pub mod Sweeps
 pub mod TurnNodes
 pub mod Turned
-pub mod Turning
 pub mod Variables

@@ -6,5 +6,4 @@ pub mod Pulling
 pub mod Reaching
 pub mod Rebuilding
 pub mod Tasks
-pub mod Turning
 pub mod Variables
