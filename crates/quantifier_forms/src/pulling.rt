@@ -116,6 +116,7 @@ pub(crate) fn close(
     ensures formula { IfOk result (IsFormula table.new) }
     ensures term { IfOk result (λ k. tree table.new k ≡ behind_fronts (fronts_at table.old prefix.now) (tree table.old matrix)) }
     ensures grows { GrowsTo table.old table.new }
+    ensures symbols { table.new.symbols ≡ table.old.symbols }
 {
     let mut form = matrix;
     let mut place = prefix.len();

@@ -74,6 +74,7 @@ pub fn quantify(
     ensures formula { IfOk result (IsFormula table.new) }
     ensures term { (xs : List Variable) → AreVariables table.old variables.now xs → IfOk result (λ k. tree table.new k ≡ quantified (quantifier_seen universal) xs (tree table.old body)) }
     ensures grows { GrowsTo table.old table.new }
+    ensures symbols { table.new.symbols ≡ table.old.symbols }
 {
     let mut kids = Vec::from_slice(alloc, variables)?;
     kids.push(body)?;

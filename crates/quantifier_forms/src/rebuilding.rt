@@ -21,6 +21,7 @@ pub fn rebuilt(table: &mut Table, id: NodeId, kids: &[NodeId]) -> Result<NodeId,
     ensures term { IfOk result (λ k. tree table.new k ≡ with_operands (tree table.old id) (trees_at table.old kids.now)) }
     ensures like { IfOk result (λ k. IsLike (tree table.old id) (tree table.new k)) }
     ensures grows { GrowsTo table.old table.new }
+    ensures symbols { table.new.symbols ≡ table.old.symbols }
 {
     let op = table.op(id);
     let id = table.intern(op, kids)?;

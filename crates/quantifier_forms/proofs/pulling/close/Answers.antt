@@ -1,4 +1,4 @@
-use Rattle.std.proofs.Common.{◌≡◌, ◌-◌, ◌<◌, suc, zero, List, length, get_or, drop, ap, sym, ◌∙◌, subst, arith}
+use Rattle.std.proofs.Common.{◌≡◌, ◌-◌, ◌<◌, suc, zero, List, length, get_or, drop, refl, ap, sym, ◌∙◌, subst, arith}
 use Rattle.std.proofs.lemmas.List.{length-map}
 use Rattle.smt_terms.specs.declared.ids.NodeId.{NodeId}
 use Rattle.smt_terms.specs.Term.{quantified}
@@ -19,6 +19,7 @@ loop-place-init c =
       formula = c.requires.matrix;
       term = behind-none (fronts_at c.args.table.now c.args.prefix.now) (length c.args.prefix.now) (tree c.args.table.now c.args.matrix) (omega (arith, n));
       grows = record { trees = grows-self _; symbols = grows-self _; sorts = grows-self _ };
+      symbols = refl;
     }
 
 pub quantify-requires-clause-variables : goal.quantify-requires-clause-variables
@@ -57,6 +58,7 @@ loop-place-preserved c =
           ∙ ap (λ (g : Front). quantified g.quantifier g.variables (behind_fronts (drop (suc i) fs) matrix)) (sym here)
           ∙ sym (behind-more fs i f matrix (omega (arith, n, inside)));
       grows = table-grows t c.loop-place.table c.quantify.new.table c.loop-place.invariant.grows c.in_ok-form.ensures.grows;
+      symbols = c.in_ok-form.ensures.symbols ∙ c.loop-place.invariant.symbols;
     }
 
 pub returns-clause-term : goal.returns-clause-term
