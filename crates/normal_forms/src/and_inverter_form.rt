@@ -34,6 +34,8 @@ fn differ(table: &mut Table, ids: &[NodeId]) -> Result<NodeId, AllocError>
     ensures formula { IfOk result (IsFormula table.new) }
     ensures term { IfOk result (λ k. tree table.new k ≡ opposite (plain.same_sides (trees_at table.old ids.now))) }
     ensures grows { GrowsTo table.old table.new }
+    ensures symbols { table.new.symbols ≡ table.old.symbols }
+    ensures sorts { table.new.sorts ≡ table.old.sorts }
 {
     let same = same_sides(table, ids[0], ids[1])?;
     let id = opposite(table, same)?;
@@ -47,6 +49,8 @@ fn all_differ(table: &mut Table, ids: &[NodeId]) -> Result<NodeId, AllocError>
     ensures formula { IfOk result (IsFormula table.new) }
     ensures term { IfOk result (λ k. tree table.new k ≡ plain.aig_distinct (trees_at table.old ids.now)) }
     ensures grows { GrowsTo table.old table.new }
+    ensures symbols { table.new.symbols ≡ table.old.symbols }
+    ensures sorts { table.new.sorts ≡ table.old.sorts }
 {
     if ids.len() > 2 {
         let id = truth(table, false)?;
@@ -63,6 +67,8 @@ fn disjunction(alloc: Global, table: &mut Table, ids: &[NodeId]) -> Result<NodeI
     ensures formula { IfOk result (IsFormula table.new) }
     ensures term { IfOk result (λ k. tree table.new k ≡ opposite (all_of (map opposite (trees_at table.old ids.now)))) }
     ensures grows { GrowsTo table.old table.new }
+    ensures symbols { table.new.symbols ≡ table.old.symbols }
+    ensures sorts { table.new.sorts ≡ table.old.sorts }
 {
     let others = opposites(alloc, table, ids)?;
     let none = conjunction(table, &others)?;
@@ -82,6 +88,8 @@ fn inverted(
     ensures formula { IfOk result (IsFormula table.new) }
     ensures term { (t : Term) → IfOk result (λ k. tree table.new k ≡ plain.inverted (kind_seen connective) t (trees_at table.old ids.now)) }
     ensures grows { GrowsTo table.old table.new }
+    ensures symbols { table.new.symbols ≡ table.old.symbols }
+    ensures sorts { table.new.sorts ≡ table.old.sorts }
 {
     match connective {
         Connective::Not => {
@@ -170,6 +178,8 @@ fn connected_form(
     requires kids { HaveResults table.old (tree table.old id) kept.now }
     ensures form { IfOk result (IsInverted table.new (tree table.old id)) }
     ensures grows { GrowsTo table.old table.new }
+    ensures symbols { table.new.symbols ≡ table.old.symbols }
+    ensures sorts { table.new.sorts ≡ table.old.sorts }
 {
     let operands = operand_forms(alloc, table, id, connective, kept)?;
     let form = inverted(alloc, table, connective, &operands)?;
@@ -189,6 +199,8 @@ fn quantified_form(
     requires kids { HaveResults table.old (tree table.old id) kept.now }
     ensures form { IfOk result (IsInverted table.new (tree table.old id)) }
     ensures grows { GrowsTo table.old table.new }
+    ensures symbols { table.new.symbols ≡ table.old.symbols }
+    ensures sorts { table.new.sorts ≡ table.old.sorts }
 {
     let body = *kept.get(body_of(table, id)).unwrap();
     let universal = is_universal(table, id);
@@ -208,6 +220,8 @@ fn formula_form(
     requires kids { HaveResults table.old (tree table.old id) kept.now }
     ensures form { IfOk result (IsInverted table.new (tree table.old id)) }
     ensures grows { GrowsTo table.old table.new }
+    ensures symbols { table.new.symbols ≡ table.old.symbols }
+    ensures sorts { table.new.sorts ≡ table.old.sorts }
 {
     match shape_of(table, id) {
         Shape::Truth(_) => Ok(id),
@@ -235,6 +249,8 @@ fn form_of(
     requires kids { HaveResults table.old (tree table.old id) kept.now }
     ensures form { IfOk result (HasInverted table.new (tree table.old id)) }
     ensures grows { GrowsTo table.old table.new }
+    ensures symbols { table.new.symbols ≡ table.old.symbols }
+    ensures sorts { table.new.sorts ≡ table.old.sorts }
 {
     if is_formula(table, id) {
         let form = formula_form(alloc, table, id, kept)?;
@@ -287,6 +303,8 @@ pub fn aig<L: Ledger>(
     ensures term { IfOk result (λ k. tree table.new k ≡ plain.aig (tree table.old id)) }
     ensures shape { IfOk result (λ k. IsTrue (is_aig (tree table.new k))) }
     ensures grows { GrowsTo table.old table.new }
+    ensures symbols { table.new.symbols ≡ table.old.symbols }
+    ensures sorts { table.new.sorts ≡ table.old.sorts }
     ensures most { steps.new ≤ steps.old + places (all_subterms (tree table.old id ∷ [])) }
 {
     let mut kept = Kept::new(alloc);
@@ -309,6 +327,8 @@ pub fn aig_kept<L: Ledger>(
     ensures shape { IfOk result (λ k. IsTrue (is_aig (tree table.new k))) }
     ensures fits { Fits HasInverted table.new kept.new }
     ensures grows { GrowsTo table.old table.new }
+    ensures symbols { table.new.symbols ≡ table.old.symbols }
+    ensures sorts { table.new.sorts ≡ table.old.sorts }
     ensures most { steps.new ≤ steps.old + places (all_subterms (tree table.old id ∷ [])) }
 {
     let mut step = InvertStep { alloc };

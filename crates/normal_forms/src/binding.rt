@@ -72,6 +72,8 @@ pub fn bind(
     ensures formula { IfOk result (IsFormula table.new) }
     ensures term { IfOk result (λ k. tree table.new k ≡ quantified (quantifier_seen universal) (variables_of (tree table.old id)) (tree table.old body)) }
     ensures grows { GrowsTo table.old table.new }
+    ensures symbols { table.new.symbols ≡ table.old.symbols }
+    ensures sorts { table.new.sorts ≡ table.old.sorts }
 {
     let kids = rebound(alloc, table, id, body)?;
     if universal {

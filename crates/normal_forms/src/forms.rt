@@ -30,6 +30,8 @@ fn either_both(
     ensures formula { IfOk result (IsFormula table.new) }
     ensures term { IfOk result (λ k. tree table.new k ≡ either (both (tree table.old a) (tree table.old b)) (both (tree table.old c) (tree table.old d))) }
     ensures grows { GrowsTo table.old table.new }
+    ensures symbols { table.new.symbols ≡ table.old.symbols }
+    ensures sorts { table.new.sorts ≡ table.old.sorts }
 {
     let left = both(table, a, b)?;
     let right = both(table, c, d)?;
@@ -52,6 +54,8 @@ fn both_either(
     ensures formula { IfOk result (IsFormula table.new) }
     ensures term { IfOk result (λ k. tree table.new k ≡ both (either (tree table.old a) (tree table.old b)) (either (tree table.old c) (tree table.old d))) }
     ensures grows { GrowsTo table.old table.new }
+    ensures symbols { table.new.symbols ≡ table.old.symbols }
+    ensures sorts { table.new.sorts ≡ table.old.sorts }
 {
     let left = either(table, a, b)?;
     let right = either(table, c, d)?;
@@ -68,6 +72,8 @@ fn differ(table: &mut Table, ps: &[NodeId], ns: &[NodeId]) -> Result<NodeId, All
     ensures formula { IfOk result (IsFormula table.new) }
     ensures term { IfOk result (λ k. tree table.new k ≡ plain.differ (trees_at table.old ps.now) (trees_at table.old ns.now)) }
     ensures grows { GrowsTo table.old table.new }
+    ensures symbols { table.new.symbols ≡ table.old.symbols }
+    ensures sorts { table.new.sorts ≡ table.old.sorts }
 {
     let id = either_both(table, ps[0], ns[1], ns[0], ps[1])?;
     Ok(id)
@@ -82,6 +88,8 @@ fn agree(table: &mut Table, ps: &[NodeId], ns: &[NodeId]) -> Result<NodeId, Allo
     ensures formula { IfOk result (IsFormula table.new) }
     ensures term { IfOk result (λ k. tree table.new k ≡ plain.agree (trees_at table.old ps.now) (trees_at table.old ns.now)) }
     ensures grows { GrowsTo table.old table.new }
+    ensures symbols { table.new.symbols ≡ table.old.symbols }
+    ensures sorts { table.new.sorts ≡ table.old.sorts }
 {
     let id = both_either(table, ns[0], ps[1], ps[0], ns[1])?;
     Ok(id)
@@ -96,6 +104,8 @@ fn all_differ(table: &mut Table, ps: &[NodeId], ns: &[NodeId]) -> Result<NodeId,
     ensures formula { IfOk result (IsFormula table.new) }
     ensures term { IfOk result (λ k. tree table.new k ≡ plain.positive_distinct (trees_at table.old ps.now) (trees_at table.old ns.now)) }
     ensures grows { GrowsTo table.old table.new }
+    ensures symbols { table.new.symbols ≡ table.old.symbols }
+    ensures sorts { table.new.sorts ≡ table.old.sorts }
 {
     if ps.len() > 2 {
         let id = truth(table, false)?;
@@ -114,6 +124,8 @@ fn some_agree(table: &mut Table, ps: &[NodeId], ns: &[NodeId]) -> Result<NodeId,
     ensures formula { IfOk result (IsFormula table.new) }
     ensures term { IfOk result (λ k. tree table.new k ≡ plain.negative_distinct (trees_at table.old ps.now) (trees_at table.old ns.now)) }
     ensures grows { GrowsTo table.old table.new }
+    ensures symbols { table.new.symbols ≡ table.old.symbols }
+    ensures sorts { table.new.sorts ≡ table.old.sorts }
 {
     if ps.len() > 2 {
         let id = truth(table, true)?;
@@ -137,6 +149,8 @@ pub(crate) fn positive_form(
     ensures formula { IfOk result (IsFormula table.new) }
     ensures term { (t : Term) → IfOk result (λ k. tree table.new k ≡ plain.positive (kind_seen connective) t (trees_at table.old ps.now) (trees_at table.old ns.now)) }
     ensures grows { GrowsTo table.old table.new }
+    ensures symbols { table.new.symbols ≡ table.old.symbols }
+    ensures sorts { table.new.sorts ≡ table.old.sorts }
 {
     match connective {
         Connective::Not => Ok(ns[0]),
@@ -185,6 +199,8 @@ pub(crate) fn negative_form(
     ensures formula { IfOk result (IsFormula table.new) }
     ensures term { (t : Term) → IfOk result (λ k. tree table.new k ≡ plain.negative (kind_seen connective) t (trees_at table.old ps.now) (trees_at table.old ns.now)) }
     ensures grows { GrowsTo table.old table.new }
+    ensures symbols { table.new.symbols ≡ table.old.symbols }
+    ensures sorts { table.new.sorts ≡ table.old.sorts }
 {
     match connective {
         Connective::Not => Ok(ps[0]),

@@ -20,6 +20,8 @@ pub fn truth(table: &mut Table, value: bool) -> Result<NodeId, AllocError>
     ensures formula { IfOk result (IsFormula table.new) }
     ensures term { IfOk result (λ k. tree table.new k ≡ truth_term value) }
     ensures grows { GrowsTo table.old table.new }
+    ensures symbols { table.new.symbols ≡ table.old.symbols }
+    ensures sorts { table.new.sorts ≡ table.old.sorts }
 {
     let id = table.intern_of_sort(Op::Truth(value), &[], BOOL)?;
     Ok(id)
@@ -32,6 +34,8 @@ pub fn negation(table: &mut Table, id: NodeId) -> Result<NodeId, AllocError>
     ensures formula { IfOk result (IsFormula table.new) }
     ensures term { IfOk result (λ k. tree table.new k ≡ negated (tree table.old id)) }
     ensures grows { GrowsTo table.old table.new }
+    ensures symbols { table.new.symbols ≡ table.old.symbols }
+    ensures sorts { table.new.sorts ≡ table.old.sorts }
 {
     let id = table.intern_of_sort(Op::Not, &[id], BOOL)?;
     Ok(id)
@@ -45,6 +49,8 @@ pub fn conjunction(table: &mut Table, kids: &[NodeId]) -> Result<NodeId, AllocEr
     ensures formula { IfOk result (IsFormula table.new) }
     ensures term { IfOk result (λ k. tree table.new k ≡ all_of (trees_at table.old kids.now)) }
     ensures grows { GrowsTo table.old table.new }
+    ensures symbols { table.new.symbols ≡ table.old.symbols }
+    ensures sorts { table.new.sorts ≡ table.old.sorts }
 {
     let id = table.intern_of_sort(Op::And, kids, BOOL)?;
     Ok(id)
@@ -58,6 +64,8 @@ pub fn disjunction(table: &mut Table, kids: &[NodeId]) -> Result<NodeId, AllocEr
     ensures formula { IfOk result (IsFormula table.new) }
     ensures term { IfOk result (λ k. tree table.new k ≡ any_of (trees_at table.old kids.now)) }
     ensures grows { GrowsTo table.old table.new }
+    ensures symbols { table.new.symbols ≡ table.old.symbols }
+    ensures sorts { table.new.sorts ≡ table.old.sorts }
 {
     let id = table.intern_of_sort(Op::Or, kids, BOOL)?;
     Ok(id)
@@ -70,6 +78,8 @@ pub fn both(table: &mut Table, a: NodeId, b: NodeId) -> Result<NodeId, AllocErro
     ensures formula { IfOk result (IsFormula table.new) }
     ensures term { IfOk result (λ k. tree table.new k ≡ both (tree table.old a) (tree table.old b)) }
     ensures grows { GrowsTo table.old table.new }
+    ensures symbols { table.new.symbols ≡ table.old.symbols }
+    ensures sorts { table.new.sorts ≡ table.old.sorts }
 {
     let id = conjunction(table, &[a, b])?;
     Ok(id)
@@ -82,6 +92,8 @@ pub fn either(table: &mut Table, a: NodeId, b: NodeId) -> Result<NodeId, AllocEr
     ensures formula { IfOk result (IsFormula table.new) }
     ensures term { IfOk result (λ k. tree table.new k ≡ either (tree table.old a) (tree table.old b)) }
     ensures grows { GrowsTo table.old table.new }
+    ensures symbols { table.new.symbols ≡ table.old.symbols }
+    ensures sorts { table.new.sorts ≡ table.old.sorts }
 {
     let id = disjunction(table, &[a, b])?;
     Ok(id)

@@ -101,6 +101,8 @@ fn connected_positive(
     ensures formula { IfOk result (IsFormula table.new) }
     ensures term { IfOk result (λ k. tree table.new k ≡ plain.positive (kind_seen connective) (tree table.old id) (trees_at table.old ps.now) (trees_at table.old ns.now)) }
     ensures grows { GrowsTo table.old table.new }
+    ensures symbols { table.new.symbols ≡ table.old.symbols }
+    ensures sorts { table.new.sorts ≡ table.old.sorts }
 {
     if joins(table, id, connective, ps) {
         return Ok(id);
@@ -123,6 +125,8 @@ fn connected_forms(
     requires kids { HaveResults table.old (tree table.old id) kept.now }
     ensures forms { IfOk result (AreForms table.new (tree table.old id)) }
     ensures grows { GrowsTo table.old table.new }
+    ensures symbols { table.new.symbols ≡ table.old.symbols }
+    ensures sorts { table.new.sorts ≡ table.old.sorts }
 {
     let (positives, negatives) = operand_forms(alloc, table, id, connective, kept)?;
     let positive = connected_positive(table, id, connective, &positives, &negatives)?;
@@ -143,6 +147,8 @@ fn quantified_forms(
     requires kids { HaveResults table.old (tree table.old id) kept.now }
     ensures forms { IfOk result (AreForms table.new (tree table.old id)) }
     ensures grows { GrowsTo table.old table.new }
+    ensures symbols { table.new.symbols ≡ table.old.symbols }
+    ensures sorts { table.new.sorts ≡ table.old.sorts }
 {
     let forms = *kept.get(body_of(table, id)).unwrap();
     let universal = is_universal(table, id);
@@ -163,6 +169,8 @@ fn formula_forms(
     requires kids { HaveResults table.old (tree table.old id) kept.now }
     ensures forms { IfOk result (AreForms table.new (tree table.old id)) }
     ensures grows { GrowsTo table.old table.new }
+    ensures symbols { table.new.symbols ≡ table.old.symbols }
+    ensures sorts { table.new.sorts ≡ table.old.sorts }
 {
     match shape_of(table, id) {
         Shape::Truth(value) => {
@@ -202,6 +210,8 @@ fn forms_of(
     requires kids { HaveResults table.old (tree table.old id) kept.now }
     ensures forms { IfOk result (HasForms table.new (tree table.old id)) }
     ensures grows { GrowsTo table.old table.new }
+    ensures symbols { table.new.symbols ≡ table.old.symbols }
+    ensures sorts { table.new.sorts ≡ table.old.sorts }
 {
     if is_formula(table, id) {
         let forms = formula_forms(alloc, table, id, kept)?;
@@ -257,6 +267,8 @@ pub fn nnf<L: Ledger>(
     ensures term { IfOk result (λ k. tree table.new k ≡ plain.nnf (tree table.old id)) }
     ensures shape { IfOk result (λ k. IsTrue (is_nnf (tree table.new k))) }
     ensures grows { GrowsTo table.old table.new }
+    ensures symbols { table.new.symbols ≡ table.old.symbols }
+    ensures sorts { table.new.sorts ≡ table.old.sorts }
     ensures most { steps.new ≤ steps.old + places (all_subterms (tree table.old id ∷ [])) }
 {
     let mut kept = Kept::new(alloc);
@@ -279,6 +291,8 @@ pub fn nnf_kept<L: Ledger>(
     ensures shape { IfOk result (λ k. IsTrue (is_nnf (tree table.new k))) }
     ensures fits { Fits HasForms table.new kept.new }
     ensures grows { GrowsTo table.old table.new }
+    ensures symbols { table.new.symbols ≡ table.old.symbols }
+    ensures sorts { table.new.sorts ≡ table.old.sorts }
     ensures most { steps.new ≤ steps.old + places (all_subterms (tree table.old id ∷ [])) }
 {
     let mut step = FormStep { alloc };

@@ -32,6 +32,8 @@ pub(crate) fn opposite(table: &mut Table, id: NodeId) -> Result<NodeId, AllocErr
     ensures formula { IfOk result (IsFormula table.new) }
     ensures term { IfOk result (λ k. tree table.new k ≡ opposite (tree table.old id)) }
     ensures grows { GrowsTo table.old table.new }
+    ensures symbols { table.new.symbols ≡ table.old.symbols }
+    ensures sorts { table.new.sorts ≡ table.old.sorts }
 {
     match under_not(table, id) {
         Some(kid) => Ok(kid),
@@ -49,6 +51,8 @@ pub(crate) fn not_both(table: &mut Table, a: NodeId, b: NodeId) -> Result<NodeId
     ensures formula { IfOk result (IsFormula table.new) }
     ensures term { IfOk result (λ k. tree table.new k ≡ opposite (both (tree table.old a) (tree table.old b))) }
     ensures grows { GrowsTo table.old table.new }
+    ensures symbols { table.new.symbols ≡ table.old.symbols }
+    ensures sorts { table.new.sorts ≡ table.old.sorts }
 {
     let all = both(table, a, b)?;
     let id = opposite(table, all)?;
@@ -62,6 +66,8 @@ pub(crate) fn implication(table: &mut Table, a: NodeId, b: NodeId) -> Result<Nod
     ensures formula { IfOk result (IsFormula table.new) }
     ensures term { IfOk result (λ k. tree table.new k ≡ opposite (both (tree table.old a) (opposite (tree table.old b)))) }
     ensures grows { GrowsTo table.old table.new }
+    ensures symbols { table.new.symbols ≡ table.old.symbols }
+    ensures sorts { table.new.sorts ≡ table.old.sorts }
 {
     let other = opposite(table, b)?;
     let id = not_both(table, a, other)?;
@@ -75,6 +81,8 @@ fn converse(table: &mut Table, a: NodeId, b: NodeId) -> Result<NodeId, AllocErro
     ensures formula { IfOk result (IsFormula table.new) }
     ensures term { IfOk result (λ k. tree table.new k ≡ opposite (both (opposite (tree table.old a)) (tree table.old b))) }
     ensures grows { GrowsTo table.old table.new }
+    ensures symbols { table.new.symbols ≡ table.old.symbols }
+    ensures sorts { table.new.sorts ≡ table.old.sorts }
 {
     let other = opposite(table, a)?;
     let id = not_both(table, other, b)?;
@@ -88,6 +96,8 @@ pub(crate) fn same_sides(table: &mut Table, a: NodeId, b: NodeId) -> Result<Node
     ensures formula { IfOk result (IsFormula table.new) }
     ensures term { IfOk result (λ k. tree table.new k ≡ both (opposite (both (tree table.old a) (opposite (tree table.old b)))) (opposite (both (opposite (tree table.old a)) (tree table.old b)))) }
     ensures grows { GrowsTo table.old table.new }
+    ensures symbols { table.new.symbols ≡ table.old.symbols }
+    ensures sorts { table.new.sorts ≡ table.old.sorts }
 {
     let left = implication(table, a, b)?;
     let right = converse(table, a, b)?;
@@ -108,6 +118,8 @@ pub(crate) fn choice(
     ensures formula { IfOk result (IsFormula table.new) }
     ensures term { IfOk result (λ k. tree table.new k ≡ both (opposite (both (tree table.old c) (opposite (tree table.old a)))) (opposite (both (opposite (tree table.old c)) (opposite (tree table.old b))))) }
     ensures grows { GrowsTo table.old table.new }
+    ensures symbols { table.new.symbols ≡ table.old.symbols }
+    ensures sorts { table.new.sorts ≡ table.old.sorts }
 {
     let left = implication(table, c, a)?;
     let other = opposite(table, b)?;
@@ -127,6 +139,8 @@ pub(crate) fn opposites(
     ensures terms { IfOk result (λ ks. trees_at table.new ks.items ≡ map opposite (trees_at table.old ids.now)) }
     ensures number { IfOk result (λ ks. length ks.items ≡ length ids.now) }
     ensures grows { GrowsTo table.old table.new }
+    ensures symbols { table.new.symbols ≡ table.old.symbols }
+    ensures sorts { table.new.sorts ≡ table.old.sorts }
 {
     let mut opposites = Vec::with_capacity(alloc, ids.len())?;
     for id in ids {

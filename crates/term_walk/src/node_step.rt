@@ -36,6 +36,8 @@ pub trait NodeStep {
         requires kids { HaveResults table.old (tree table.old id) kept.now }
         ensures ok { IfOk result (λ r. related (meaning self.old) table.new (tree table.old id) r) }
         ensures grows { GrowsTo table.old table.new }
+        ensures symbols { table.new.symbols ≡ table.old.symbols }
+        ensures sorts { table.new.sorts ≡ table.old.sorts }
         ensures meaning { meaning self.new ≡ meaning self.old }
         ensures cost { steps.new ≡ steps.old + 1 };
 

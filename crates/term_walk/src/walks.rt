@@ -34,6 +34,8 @@ fn give_result<S: NodeStep, L: Ledger>(
     ensures ok { OnOk result (IsSome (result_at kept.new id.0)) }
     ensures fits { Fits (S.related (S.meaning step.old)) table.new kept.new }
     ensures grows { GrowsTo table.old table.new }
+    ensures symbols { table.new.symbols ≡ table.old.symbols }
+    ensures sorts { table.new.sorts ≡ table.old.sorts }
     ensures meaning { S.meaning step.new ≡ S.meaning step.old }
     ensures stay { Stay kept.old kept.new }
     ensures others { (k : NodeId) → k.0 ≢ id.0 → result_at kept.new k.0 ≡ result_at kept.old k.0 }
@@ -64,6 +66,8 @@ fn finish<S: NodeStep, L: Ledger>(
     ensures ok { OnOk result (is_closed_at kept.new id.0 ≡ true) }
     ensures fits { Fits (S.related (S.meaning step.old)) table.new kept.new }
     ensures grows { GrowsTo table.old table.new }
+    ensures symbols { table.new.symbols ≡ table.old.symbols }
+    ensures sorts { table.new.sorts ≡ table.old.sorts }
     ensures meaning { S.meaning step.new ≡ S.meaning step.old }
     ensures stay { Stay kept.old kept.new }
     ensures others { (k : NodeId) → k.0 ≢ id.0 → result_at kept.new k.0 ≡ result_at kept.old k.0 }
@@ -125,6 +129,8 @@ fn turn<S: NodeStep, L: Ledger>(
     ensures nearer { (us ts : List Term) (n : ℕ) → frame.id.0 < n → has_term us (tree_in ts frame.id) ≡ true → tree_in ts frame.id ≡ tree table.old frame.id → OnOk result (open_costs us ts kept.new n + (frame.next + looked_up stack.old) + 1 ≡ open_costs us ts kept.old n + looked_up stack.new) }
     ensures fits { Fits (S.related (S.meaning step.old)) table.new kept.new }
     ensures grows { GrowsTo table.old table.new }
+    ensures symbols { table.new.symbols ≡ table.old.symbols }
+    ensures sorts { table.new.sorts ≡ table.old.sorts }
     ensures meaning { S.meaning step.new ≡ S.meaning step.old }
     ensures stay { Stay kept.old kept.new }
     ensures others { (k : NodeId) → k.0 ≢ frame.id.0 → result_at kept.new k.0 ≡ result_at kept.old k.0 }
@@ -158,6 +164,8 @@ fn visit<S: NodeStep, L: Ledger>(
     ensures ok { OnOk result (is_closed_at kept.new root.0 ≡ true) }
     ensures fits { Fits (S.related (S.meaning step.old)) table.new kept.new }
     ensures grows { GrowsTo table.old table.new }
+    ensures symbols { table.new.symbols ≡ table.old.symbols }
+    ensures sorts { table.new.sorts ≡ table.old.sorts }
     ensures meaning { S.meaning step.new ≡ S.meaning step.old }
     ensures stay { Stay kept.old kept.new }
     ensures closed { StayClosed kept.old kept.new }
@@ -202,6 +210,8 @@ pub fn walk_all<S: NodeStep, L: Ledger>(
     ensures stay { Stay kept.old kept.new }
     ensures gained { GainsBelow table.old (trees_at table.old roots.now) kept.old kept.new }
     ensures grows { GrowsTo table.old table.new }
+    ensures symbols { table.new.symbols ≡ table.old.symbols }
+    ensures sorts { table.new.sorts ≡ table.old.sorts }
     ensures meaning { S.meaning step.new ≡ S.meaning step.old }
     ensures most { steps.new ≤ steps.old + places (all_subterms (trees_at table.old roots.now)) }
     ensures least { results kept.new + steps.old ≤ results kept.old + steps.new }
@@ -230,6 +240,8 @@ pub fn walk<S: NodeStep, L: Ledger>(
     ensures stay { Stay kept.old kept.new }
     ensures gained { GainsBelow table.old (tree table.old root ∷ []) kept.old kept.new }
     ensures grows { GrowsTo table.old table.new }
+    ensures symbols { table.new.symbols ≡ table.old.symbols }
+    ensures sorts { table.new.sorts ≡ table.old.sorts }
     ensures meaning { S.meaning step.new ≡ S.meaning step.old }
     ensures most { steps.new ≤ steps.old + places (all_subterms (tree table.old root ∷ [])) }
     ensures least { results kept.new + steps.old ≤ results kept.old + steps.new }

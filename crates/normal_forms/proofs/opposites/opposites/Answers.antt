@@ -26,6 +26,8 @@ loop-id-preserved c =
     } in
     record {
       grows = table-grows t c.loop-id.table c.opposite.new.table inv.grows c.opposite.ensures.grows;
+      symbols = c.opposite.ensures.symbols ∙ inv.symbols;
+      sorts = c.opposite.ensures.sorts ∙ inv.sorts;
       number = ap length c.in_ok-push.ensures.items ∙ length-append c.loop-id.opposites.items (r ∷ []) ∙ ap (λ n. n + 1) inv.number;
       each = opposites-push t c.loop-id.table c.opposite.new.table c.args.ids.now c.loop-id.opposites.items c.push.new.self.items c.loop-id.id-index none_yet r c.opposite.ensures.grows inv.number c.loop-id-test.true inv.each found c.in_ok-push.ensures.items;
     }

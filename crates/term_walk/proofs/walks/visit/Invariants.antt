@@ -12,6 +12,8 @@ invariant-loop-frame g l = record {
   fits : Fits (g.S.NodeStep.related (g.S.NodeStep.meaning l.step)) l.table l.kept;
   meaning : g.S.NodeStep.meaning l.step ≡ g.S.NodeStep.meaning l.fn.step;
   grows : GrowsTo l.fn.table l.table;
+  symbols : l.table.symbols ≡ l.fn.table.symbols;
+  sorts : l.table.sorts ≡ l.fn.table.sorts;
   stay : Stay l.fn.kept l.kept;
   closed : StayClosed l.fn.kept l.kept;
   gained : GainsUnder l.fn.table l.fn.root l.fn.kept l.kept;

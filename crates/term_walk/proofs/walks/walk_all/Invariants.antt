@@ -12,6 +12,8 @@ invariant-loop-root g l = record {
   fits : Fits (g.S.NodeStep.related (g.S.NodeStep.meaning l.step)) l.table l.kept;
   meaning : g.S.NodeStep.meaning l.step ≡ g.S.NodeStep.meaning l.fn.step;
   grows : GrowsTo l.fn.table l.table;
+  symbols : l.table.symbols ≡ l.fn.table.symbols;
+  sorts : l.table.sorts ≡ l.fn.table.sorts;
   stay : Stay l.fn.kept l.kept;
   gained : GainsBelow l.fn.table (trees_at l.fn.table l.roots) l.fn.kept l.kept;
   closed : (i : ℕ) (d : NodeId) → i < l.root-index → is_closed_at l.kept (get_or l.roots i d).0 ≡ true;
