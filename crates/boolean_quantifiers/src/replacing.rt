@@ -108,6 +108,7 @@ fn put_quantified<I: Images>(
     requires ready { AreReady table.old (I.images images.now) memo.now version id }
     ensures put { IfOk result (IsPut table.new (I.images images.now) id) }
     ensures grows { GrowsTo table.old table.new }
+    ensures symbols { table.new.symbols ≡ table.old.symbols }
 {
     let _ = table.len();
     if binds(table, images, id) {
@@ -134,6 +135,7 @@ fn put_applied<I: Images>(
     requires ready { AreReady table.old (I.images images.now) memo.now version id }
     ensures put { IfOk result (IsPut table.new (I.images images.now) id) }
     ensures grows { GrowsTo table.old table.new }
+    ensures symbols { table.new.symbols ≡ table.old.symbols }
 {
     let _ = table.len();
     if let Some(image) = images.image(id) {
@@ -157,6 +159,7 @@ fn put_node<I: Images>(
     requires ready { AreReady table.old (I.images images.now) memo.now version id }
     ensures put { IfOk result (IsPut table.new (I.images images.now) id) }
     ensures grows { GrowsTo table.old table.new }
+    ensures symbols { table.new.symbols ≡ table.old.symbols }
 {
     if is_binder(table, id) {
         let result = put_quantified(alloc, table, images, memo, version, id)?;
@@ -183,6 +186,7 @@ fn settle<I: Images>(
     ensures extends { OnOk result (Extends memo.old memo.new version) }
     ensures done { OnOk result (is_some (result_in memo.new version id) ≡ true) }
     ensures grows { GrowsTo table.old table.new }
+    ensures symbols { table.new.symbols ≡ table.old.symbols }
 {
     let result = put_node(alloc, table, images, memo, version, id)?;
     memo.set(version, id, result)?;
@@ -206,6 +210,7 @@ pub(crate) fn replace<I: Images>(
     ensures put { OnOk result (ArePut table.new (I.images images.now) memo.new version) }
     ensures extends { OnOk result (Extends memo.old memo.new version) }
     ensures grows { GrowsTo table.old table.new }
+    ensures symbols { table.new.symbols ≡ table.old.symbols }
 {
     let order = unknown(alloc, table, images, memo, version, root)?;
     for id in &order {

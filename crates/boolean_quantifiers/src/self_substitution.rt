@@ -11,7 +11,7 @@ ghost use Rattle.smt_terms.specs.SubstLaws.{GivesNone, names_within};
 ghost use Rattle.smt_terms.specs.Term.{constant_of};
 ghost use Rattle.term_table.specs.Formulas.{tree, variable_of, IsNode};
 ghost use Rattle.term_walk.specs.Walking.{GrowsTo};
-ghost use Rattle.term_subst.specs.Substituting.{IsLater};
+ghost use Rattle.term_subst.specs.Substituting.{IsLater, NeverGivesGained};
 ghost use Rattle.normal_forms.specs.Quantifiers as plain;
 ghost use Rattle.normal_forms.specs.Nodes.{IsFormula};
 ghost use Rattle.normal_forms.specs.Shape.{is_quantified, quantifier_seen};
@@ -52,6 +52,7 @@ fn substituted(
     ensures term { IfOk result (λ k. tree table.new k ≡ (subst ((constant_of (variable_of (tree table.old variable)), tree table.old image) ∷ []) (tree table.old body) fresh.old).0) }
     ensures left { OnOk result (fresh.new ≡ (subst ((constant_of (variable_of (tree table.old variable)), tree table.old image) ∷ []) (tree table.old body) fresh.old).1) }
     ensures later { IsLater fresh.old fresh.new }
+    ensures drawn { NeverGivesGained fresh.new table.old.symbols table.new.symbols }
     ensures work { OnOk result (IsWork table.new work.new) }
     ensures grows { GrowsTo table.old table.new }
 {
@@ -83,6 +84,7 @@ fn substitute_bool(
     ensures term { (x : Variable) → variable_of (tree table.old variable) ≡ x → IfOk result (λ k. (tree table.new k, fresh.new) ≡ plain.substitute_bool x.sort (quantifier_seen universal) x (tree table.old body, fresh.old)) }
     ensures names { IfOk result (λ k. GivesNone fresh.new (names_within (tree table.new k))) }
     ensures later { IsLater fresh.old fresh.new }
+    ensures drawn { NeverGivesGained fresh.new table.old.symbols table.new.symbols }
     ensures work { OnOk result (IsWork table.new work.new) }
     ensures grows { GrowsTo table.old table.new }
 {
@@ -112,6 +114,7 @@ fn substitute_each(
     ensures term { (xs : List Variable) → AreVariables table.old variables.now xs → IfOk result (λ k. (tree table.new k, fresh.new) ≡ plain.substitute_each (quantifier_seen universal) xs (tree table.old body, fresh.old)) }
     ensures names { IfOk result (λ k. GivesNone fresh.new (names_within (tree table.new k))) }
     ensures later { IsLater fresh.old fresh.new }
+    ensures drawn { NeverGivesGained fresh.new table.old.symbols table.new.symbols }
     ensures work { OnOk result (IsWork table.new work.new) }
     ensures grows { GrowsTo table.old table.new }
 {
@@ -143,6 +146,7 @@ fn solve_quantified(
     ensures term { IfOk result (λ k. (tree table.new k, fresh.new) ≡ solved_over (tree table.old id) (tree table.old body) fresh.old) }
     ensures names { IfOk result (λ k. GivesNone fresh.new (names_within (tree table.new k))) }
     ensures later { IsLater fresh.old fresh.new }
+    ensures drawn { NeverGivesGained fresh.new table.old.symbols table.new.symbols }
     ensures work { OnOk result (IsWork table.new work.new) }
     ensures grows { GrowsTo table.old table.new }
 {
@@ -172,6 +176,7 @@ fn solve_applied(
     ensures stands { (left : Supply) → AllMayStand table.old left results.now → GivesNone left (names_within (tree table.old id)) → IfOk result (MayStand table.new left id) }
     ensures told { (es : List plain.Solved) → AreTold table.old es results.now → IfOk result (IsTold table.old table.new es id) }
     ensures grows { GrowsTo table.old table.new }
+    ensures symbols { table.new.symbols ≡ table.old.symbols }
 {
     let kids = results.known_all(alloc, 0, table.kids(id))?;
     let result = rebuilt(table, id, &kids)?;
@@ -195,6 +200,7 @@ fn solve(
     ensures stands { IfOk result (MayStand table.new fresh.new id) }
     ensures solved { (s : plain.Solving) → s.names ≡ fresh.old → AreTold table.old s.solved results.now → IfOk result (IsSolved table.old table.new s fresh.new id) }
     ensures later { IsLater fresh.old fresh.new }
+    ensures drawn { NeverGivesGained fresh.new table.old.symbols table.new.symbols }
     ensures work { OnOk result (IsWork table.new work.new) }
     ensures grows { GrowsTo table.old table.new }
 {
@@ -228,6 +234,7 @@ fn settle(
     ensures done { OnOk result (is_some (result_in results.new 0 id) ≡ true) }
     ensures stay { OnOk result ((k : NodeId) → is_some (result_in results.old 0 k) ≡ true → is_some (result_in results.new 0 k) ≡ true) }
     ensures later { IsLater fresh.old fresh.new }
+    ensures drawn { NeverGivesGained fresh.new table.old.symbols table.new.symbols }
     ensures work { OnOk result (IsWork table.new work.new) }
     ensures grows { GrowsTo table.old table.new }
 {
@@ -252,6 +259,7 @@ pub fn self_subst(
     ensures left { OnOk result (fresh.new ≡ (plain.selfsub (tree table.old id) fresh.old).1) }
     ensures shape { IfOk result (λ k. IsTrue (no_bool_quantifier (tree table.new k))) }
     ensures later { IsLater fresh.old fresh.new }
+    ensures drawn { NeverGivesGained fresh.new table.old.symbols table.new.symbols }
     ensures grows { GrowsTo table.old table.new }
 {
     let order = list_all(alloc, table, id)?;

@@ -44,6 +44,7 @@ fn expanded(
     ensures term { IfOk result (λ k. tree table.new k ≡ plain.expanded (quantifier_seen universal) (variable_of (tree table.old variable)) (tree table.old body)) }
     ensures work { OnOk result (IsWork table.new work.new) }
     ensures grows { GrowsTo table.old table.new }
+    ensures symbols { table.new.symbols ≡ table.old.symbols }
 {
     let yes = at_truth(alloc, table, work, true, variable, body)?;
     let no = at_truth(alloc, table, work, false, variable, body)?;
@@ -70,6 +71,7 @@ fn expand_bool(
     ensures term { (x : Variable) → variable_of (tree table.old variable) ≡ x → IfOk result (λ k. tree table.new k ≡ plain.expand_bool x.sort (quantifier_seen universal) x (tree table.old body)) }
     ensures work { OnOk result (IsWork table.new work.new) }
     ensures grows { GrowsTo table.old table.new }
+    ensures symbols { table.new.symbols ≡ table.old.symbols }
 {
     if is_formula(table, variable) {
         let form = expanded(alloc, table, work, universal, variable, body)?;
@@ -94,6 +96,7 @@ fn expand_each(
     ensures term { (xs : List Variable) → AreVariables table.old variables.now xs → IfOk result (λ k. tree table.new k ≡ plain.expand_each (quantifier_seen universal) xs (tree table.old body)) }
     ensures work { OnOk result (IsWork table.new work.new) }
     ensures grows { GrowsTo table.old table.new }
+    ensures symbols { table.new.symbols ≡ table.old.symbols }
 {
     let mut form = body;
     let mut place = variables.len();
@@ -119,6 +122,7 @@ fn expand_quantified(
     ensures expanded { IfOk result (IsExpanded table.new id) }
     ensures work { OnOk result (IsWork table.new work.new) }
     ensures grows { GrowsTo table.old table.new }
+    ensures symbols { table.new.symbols ≡ table.old.symbols }
 {
     let _ = table.len();
     let variables = variables_below(alloc, table, id)?;
@@ -145,6 +149,7 @@ fn expand_applied(
     requires ready { AreOperandsExpanded table.old results.now id }
     ensures expanded { IfOk result (IsExpanded table.new id) }
     ensures grows { GrowsTo table.old table.new }
+    ensures symbols { table.new.symbols ≡ table.old.symbols }
 {
     let kids = results.known_all(alloc, 0, table.kids(id))?;
     let result = rebuilt(table, id, &kids)?;
@@ -164,6 +169,7 @@ fn expand(
     ensures expanded { IfOk result (IsExpanded table.new id) }
     ensures work { OnOk result (IsWork table.new work.new) }
     ensures grows { GrowsTo table.old table.new }
+    ensures symbols { table.new.symbols ≡ table.old.symbols }
 {
     if is_binder(table, id) {
         let result = expand_quantified(alloc, table, work, results, id)?;
@@ -190,6 +196,7 @@ fn settle(
     ensures stay { OnOk result ((k : NodeId) → is_some (result_in results.old 0 k) ≡ true → is_some (result_in results.new 0 k) ≡ true) }
     ensures work { OnOk result (IsWork table.new work.new) }
     ensures grows { GrowsTo table.old table.new }
+    ensures symbols { table.new.symbols ≡ table.old.symbols }
 {
     let result = expand(alloc, table, work, results, id)?;
     results.set(0, id, result)?;
@@ -205,6 +212,7 @@ pub fn shannon(alloc: Global, table: &mut Table, id: NodeId) -> Result<NodeId, A
     ensures term { IfOk result (λ k. tree table.new k ≡ plain.shannon (tree table.old id)) }
     ensures shape { IfOk result (λ k. IsTrue (no_bool_quantifier (tree table.new k))) }
     ensures grows { GrowsTo table.old table.new }
+    ensures symbols { table.new.symbols ≡ table.old.symbols }
 {
     let order = list_all(alloc, table, id)?;
     let truths = quantified_truths(alloc, table, &order)?;

@@ -74,6 +74,7 @@ pub(crate) fn at_truth(
     ensures term { IfOk result (λ k. tree table.new k ≡ plain.at_truth value (variable_of (tree table.old variable)) (tree table.old body)) }
     ensures work { OnOk result (IsWork table.new work.new) }
     ensures grows { GrowsTo table.old table.new }
+    ensures symbols { table.new.symbols ≡ table.old.symbols }
 {
     let image = truth(table, value)?;
     let result = work.put(alloc, table, Case { variable, image }, body)?;

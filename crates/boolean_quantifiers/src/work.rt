@@ -112,6 +112,7 @@ impl Work {
         ensures result { IfOk result (IsPut table.new (single case) root) }
         ensures work { OnOk result (IsWork table.new self.new) }
         ensures grows { GrowsTo table.old table.new }
+        ensures symbols { table.new.symbols ≡ table.old.symbols }
     {
         self.occurrences.note_all(table, root)?;
         let version = self.version(table, case)?;

@@ -5,6 +5,7 @@ use Rattle.smt_terms.specs.Shapes.{no_bool_quantifier}
 use Rattle.smt_terms.specs.SubstLaws.{GivesNone, names_within}
 use Rattle.term_table.specs.Formulas.{tree, trees_at, IsNode}
 use Rattle.term_walk.proofs.Visits.{grows-self, table-grows}
+use Rattle.term_subst.proofs.Gaining.{none-gained, gained-both}
 use Rattle.normal_forms.specs.Nodes.{IsFormula}
 use Rattle.normal_forms.specs.Quantifiers.{Solving, solved_for}
 use Rattle.normal_forms.proofs.SelfSubShape.{selfsub-no_bool}
@@ -21,6 +22,7 @@ pub loop-node-init : goal.loop-node-init
 loop-node-init c = record {
   grows = record { trees = grows-self _; symbols = grows-self _; sorts = grows-self _ };
   later = later-self c.args.fresh.now;
+  drawn = none-gained c.args.fresh.now c.args.table.now.symbols c.args.table.now.symbols refl;
   names = refl;
   stand = λ k r e. let none_there : None ≡ Some r = sym (ap (λ (m : Results). result_in m 0 k) c.new-results.ensures) ∙ e in absurd cc;
   told = λ k r e. let none_there : None ≡ Some r = sym (ap (λ (m : Results). result_in m 0 k) c.new-results.ensures) ∙ e in absurd cc;
@@ -59,6 +61,7 @@ loop-node-preserved c =
     record {
       grows = table-grows t c.loop-node.table c.settle.new.table c.loop-node.invariant.grows c.in_ok-settle.ensures.grows;
       later = later-on c.args.fresh.now c.loop-node.fresh c.settle.new.fresh c.loop-node.invariant.later c.settle.ensures.later;
+      drawn = gained-both c.loop-node.fresh c.settle.new.fresh c.args.table.now.symbols c.loop-node.table.symbols c.settle.new.table.symbols c.settle.ensures.later c.settle.ensures.grows.symbols c.loop-node.invariant.drawn c.settle.ensures.drawn;
       names = ap (λ (z : Solving). z.names) more ∙ c.in_ok-settle.ensures.left now c.loop-node.invariant.names c.loop-node.invariant.told;
       stand = c.in_ok-settle.ensures.stand;
       told = subst (λ (z : Solving). AreTold c.settle.new.table z.solved c.settle.new.results) (sym more)
@@ -101,3 +104,13 @@ returns-clause-left c =
 
 pub returns-clause-shape : goal.returns-clause-shape
 returns-clause-shape c = ap no_bool_quantifier (returns-clause-term c) ∙ selfsub-no_bool (tree c.args.table.now c.args.id) c.args.fresh.now
+
+pub returns-in_err-order-clause-drawn : goal.returns-in_err-order-clause-drawn
+returns-in_err-order-clause-drawn c = none-gained c.args.fresh.now c.args.table.now.symbols c.args.table.now.symbols refl
+
+pub returns-in_err-truths-clause-drawn : goal.returns-in_err-truths-clause-drawn
+returns-in_err-truths-clause-drawn c = none-gained c.args.fresh.now c.args.table.now.symbols c.args.table.now.symbols refl
+
+pub returns-in_err-settle-clause-drawn : goal.returns-in_err-settle-clause-drawn
+returns-in_err-settle-clause-drawn c =
+    gained-both c.loop-node.fresh c.settle.new.fresh c.args.table.now.symbols c.loop-node.table.symbols c.settle.new.table.symbols c.settle.ensures.later c.settle.ensures.grows.symbols c.loop-node.invariant.drawn c.settle.ensures.drawn

@@ -2,6 +2,7 @@ use Rattle.std.proofs.Common.{ap, sym, ◌∙◌, subst}
 use Rattle.smt_terms.specs.declared.ids.NodeId.{NodeId}
 use Rattle.smt_terms.specs.SubstLaws.{GivesNone, names_within}
 use Rattle.term_table.specs.Formulas.{tree}
+use Rattle.term_subst.proofs.Gaining.{none-gained}
 use Rattle.normal_forms.specs.Nodes.{IsFormula}
 use Rattle.quantifier_forms.specs.Memos.{known_in}
 use Rattle.boolean_quantifiers.specs.Solving.{solved_over}
@@ -41,3 +42,9 @@ returns-clause-solved c s names are = applied-solved c.args.table.now c.solve_ap
 
 pub returns-clause-work : goal.returns-clause-work
 returns-clause-work c = work-stays c.args.table.now c.solve_applied.new.table c.args.work.now c.in_ok-result-2.ensures.grows c.requires.work
+
+pub returns-in_err-result-2-clause-drawn : goal.returns-in_err-result-2-clause-drawn
+returns-in_err-result-2-clause-drawn c = none-gained c.args.fresh.now c.args.table.now.symbols c.solve_applied.new.table.symbols c.solve_applied.ensures.symbols
+
+pub returns-clause-drawn : goal.returns-clause-drawn
+returns-clause-drawn c = none-gained c.args.fresh.now c.args.table.now.symbols c.solve_applied.new.table.symbols c.solve_applied.ensures.symbols

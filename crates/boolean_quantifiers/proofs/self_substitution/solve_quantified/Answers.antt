@@ -1,9 +1,11 @@
-use Rattle.std.proofs.Common.{◌≡◌, ◌==◌, true, List, length, vec_len, ap, sym, ◌∙◌, subst, arith}
+use Rattle.std.proofs.Common.{◌≡◌, ◌==◌, true, List, length, vec_len, refl, ap, sym, ◌∙◌, subst, arith}
 use Rattle.smt_terms.specs.declared.ids.NodeId.{NodeId}
 use Rattle.smt_terms.specs.Fresh.{Supply}
 use Rattle.smt_terms.specs.SubstLaws.{GivesNone, names_within}
 use Rattle.smt_terms.specs.Term.{Term, quantified}
 use Rattle.term_table.specs.Formulas.{tree}
+use Rattle.term_subst.specs.Substituting.{NeverGivesGained}
+use Rattle.term_subst.proofs.Gaining.{none-gained}
 use Rattle.normal_forms.specs.Quantifiers.{not_bool, over_left, substitute_each}
 use Rattle.normal_forms.specs.Shape.{variables_of, quantifier_seen}
 use Rattle.quantifier_forms.specs.Variables.{AreVariables}
@@ -75,3 +77,12 @@ returns-clause-names c =
 
 pub returns-clause-work : goal.returns-clause-work
 returns-clause-work c = work-stays c.substitute_each.new.table c.quantify.new.table c.substitute_each.new.work c.in_ok-result.ensures.grows c.in_ok-form.ensures.work
+
+pub returns-in_err-variables-clause-drawn : goal.returns-in_err-variables-clause-drawn
+returns-in_err-variables-clause-drawn c = none-gained c.args.fresh.now c.args.table.now.symbols c.args.table.now.symbols refl
+
+pub returns-in_err-result-clause-drawn : goal.returns-in_err-result-clause-drawn
+returns-in_err-result-clause-drawn c = subst (NeverGivesGained c.substitute_each.new.fresh c.args.table.now.symbols) (sym c.quantify.ensures.symbols) c.substitute_each.ensures.drawn
+
+pub returns-clause-drawn : goal.returns-clause-drawn
+returns-clause-drawn c = subst (NeverGivesGained c.substitute_each.new.fresh c.args.table.now.symbols) (sym c.quantify.ensures.symbols) c.substitute_each.ensures.drawn

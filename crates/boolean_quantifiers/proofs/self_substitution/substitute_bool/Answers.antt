@@ -1,8 +1,10 @@
-use Rattle.std.proofs.Common.{◌≡◌, false, ap, sym, ◌∙◌}
+use Rattle.std.proofs.Common.{◌≡◌, false, List, refl, ap, sym, ◌∙◌, subst}
 use Rattle.smt_terms.specs.Rank.{sort_of}
 use Rattle.smt_terms.specs.Shapes.{is_bool}
-use Rattle.smt_terms.specs.Sorts.{bool, Variable}
+use Rattle.smt_terms.specs.Sorts.{bool, Symbol, Variable}
 use Rattle.term_table.specs.Formulas.{tree, variable_of}
+use Rattle.term_subst.specs.Substituting.{NeverGivesGained}
+use Rattle.term_subst.proofs.Gaining.{none-gained}
 use Rattle.normal_forms.specs.Shape.{quantifier_seen}
 use Rattle.quantifier_forms.proofs.Variables.{bool-named, truth-told}
 use Rattle.boolean_quantifiers.proofs.AtTruth.{truth-stays}
@@ -38,3 +40,15 @@ returns-clause-term c x e =
     let v = c.requires.variable in
     let sort : is_bool x.sort ≡ false = ap (λ (y : Variable). is_bool y.sort) (sym e ∙ ap variable_of v.is) ∙ sym (truth-told v.named c.is_formula.result (λ h. ap sort_of (sym v.is) ∙ c.is_formula.ensures.0 h) (λ h. c.is_formula.ensures.1 (ap sort_of v.is ∙ h))) ∙ c.if-is_formula.false in
     sym (other-solved x.sort (quantifier_seen c.args.universal) x (tree c.args.table.now c.args.body, c.args.fresh.now) sort)
+
+pub returns-in_err-witness-clause-drawn : goal.returns-in_err-witness-clause-drawn
+returns-in_err-witness-clause-drawn c = none-gained c.args.fresh.now c.args.table.now.symbols c.at_truth.new.table.symbols c.at_truth.ensures.symbols
+
+pub returns-in_err-form-clause-drawn : goal.returns-in_err-form-clause-drawn
+returns-in_err-form-clause-drawn c = subst (λ (fs : List Symbol). NeverGivesGained c.substituted.new.fresh fs c.substituted.new.table.symbols) c.at_truth.ensures.symbols c.substituted.ensures.drawn
+
+pub returns-then-is_formula-clause-drawn : goal.returns-then-is_formula-clause-drawn
+returns-then-is_formula-clause-drawn c = subst (λ (fs : List Symbol). NeverGivesGained c.substituted.new.fresh fs c.substituted.new.table.symbols) c.at_truth.ensures.symbols c.substituted.ensures.drawn
+
+pub returns-clause-drawn : goal.returns-clause-drawn
+returns-clause-drawn c = none-gained c.args.fresh.now c.args.table.now.symbols c.args.table.now.symbols refl

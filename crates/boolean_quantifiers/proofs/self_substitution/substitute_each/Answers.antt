@@ -2,6 +2,7 @@ use Rattle.std.proofs.Common.{◌≡◌, ◌-◌, ◌<◌, suc, [], length, get_
 use Rattle.smt_terms.specs.Sorts.{bool, Variable}
 use Rattle.term_table.specs.Formulas.{tree, variable_of}
 use Rattle.term_walk.proofs.Visits.{table-grows}
+use Rattle.term_subst.proofs.Gaining.{gained-both}
 use Rattle.normal_forms.specs.Quantifiers.{substitute_bool, substitute_each}
 use Rattle.normal_forms.specs.Shape.{quantifier_seen}
 use Rattle.quantifier_forms.proofs.Variables.{variables-number, variable-at, variables-stay}
@@ -37,6 +38,11 @@ loop-place-preserved c = record {
       ∙ sym (solve-more q xs i some_variable (tree c.args.table.now c.args.body, c.args.fresh.now) (omega (arith, n)));
   names = c.in_ok-form.ensures.names;
   later = later-on c.args.fresh.now c.loop-place.fresh c.substitute_bool.new.fresh c.loop-place.invariant.later c.substitute_bool.ensures.later;
+  drawn = gained-both c.loop-place.fresh c.substitute_bool.new.fresh c.args.table.now.symbols c.loop-place.table.symbols c.substitute_bool.new.table.symbols c.substitute_bool.ensures.later c.substitute_bool.ensures.grows.symbols c.loop-place.invariant.drawn c.substitute_bool.ensures.drawn;
   work = c.in_ok-form.ensures.work;
   grows = table-grows c.args.table.now c.loop-place.table c.substitute_bool.new.table c.loop-place.invariant.grows c.in_ok-form.ensures.grows;
 }
+
+pub returns-in_err-form-clause-drawn : goal.returns-in_err-form-clause-drawn
+returns-in_err-form-clause-drawn c =
+    gained-both c.loop-place.fresh c.substitute_bool.new.fresh c.args.table.now.symbols c.loop-place.table.symbols c.substitute_bool.new.table.symbols c.substitute_bool.ensures.later c.substitute_bool.ensures.grows.symbols c.loop-place.invariant.drawn c.substitute_bool.ensures.drawn

@@ -3,7 +3,7 @@ use Rattle.smt_terms.specs.Sorts.{Variable}
 use Rattle.smt_terms.specs.SubstLaws.{GivesNone, names_within}
 use Rattle.term_table.specs.Formulas.{tree}
 use Rattle.term_walk.specs.Walking.{GrowsTo}
-use Rattle.term_subst.specs.Substituting.{IsLater}
+use Rattle.term_subst.specs.Substituting.{IsLater, NeverGivesGained}
 use Rattle.normal_forms.specs.Nodes.{IsFormula}
 use Rattle.normal_forms.specs.Quantifiers.{substitute_each}
 use Rattle.normal_forms.specs.Shape.{quantifier_seen}
@@ -18,6 +18,7 @@ invariant-loop-place l = record {
   term : (xs : List Variable) → AreVariables l.fn.table l.variables xs → (tree l.table l.form, l.fresh) ≡ substitute_each (quantifier_seen l.universal) (drop l.place xs) (tree l.fn.table l.fn.body, l.fn.fresh);
   names : GivesNone l.fresh (names_within (tree l.table l.form));
   later : IsLater l.fn.fresh l.fresh;
+  drawn : NeverGivesGained l.fresh l.fn.table.symbols l.table.symbols;
   work : IsWork l.table l.work;
   grows : GrowsTo l.fn.table l.table;
 }

@@ -1,7 +1,8 @@
-use Rattle.std.proofs.Common.{◌∙◌, ap, sym}
+use Rattle.std.proofs.Common.{◌∙◌, refl, ap, sym}
 use Rattle.smt_terms.specs.Fresh.{Supply}
 use Rattle.smt_terms.specs.Term.{Term, variable}
 use Rattle.term_table.specs.Formulas.{variable_of}
+use Rattle.term_subst.proofs.Gaining.{none-gained}
 use Rattle.boolean_quantifiers.proofs.AtTruth.{variable-images}
 use Rattle.boolean_quantifiers.proofs.Cases.{work-stays}
 use Rattle.boolean_quantifiers.proofs.SelfNodes.{plain-put}
@@ -25,3 +26,15 @@ returns-then-branch-clause-left c =
 
 pub returns-clause-work : goal.returns-clause-work
 returns-clause-work c = work-stays c.args.table.now c.substitute.new.table c.is_plain.new.self c.in_ok-result-2.ensures.grows c.in_ok-is_plain.ensures.work
+
+pub returns-in_err-is_plain-clause-drawn : goal.returns-in_err-is_plain-clause-drawn
+returns-in_err-is_plain-clause-drawn c = none-gained c.args.fresh.now c.args.table.now.symbols c.args.table.now.symbols refl
+
+pub returns-in_err-set-clause-drawn : goal.returns-in_err-set-clause-drawn
+returns-in_err-set-clause-drawn c = none-gained c.args.fresh.now c.args.table.now.symbols c.args.table.now.symbols refl
+
+pub returns-in_err-result-clause-drawn : goal.returns-in_err-result-clause-drawn
+returns-in_err-result-clause-drawn c = none-gained c.args.fresh.now c.args.table.now.symbols c.put.new.table.symbols c.put.ensures.symbols
+
+pub returns-then-branch-clause-drawn : goal.returns-then-branch-clause-drawn
+returns-then-branch-clause-drawn c = none-gained c.args.fresh.now c.args.table.now.symbols c.put.new.table.symbols c.put.ensures.symbols

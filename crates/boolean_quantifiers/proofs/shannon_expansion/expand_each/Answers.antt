@@ -36,4 +36,5 @@ loop-place-preserved c = record {
       ∙ sym (each-more q xs i some_variable (tree c.args.table.now c.args.body) (omega (arith, n)));
   work = c.in_ok-form.ensures.work;
   grows = table-grows c.args.table.now c.loop-place.table c.expand_bool.new.table c.loop-place.invariant.grows c.in_ok-form.ensures.grows;
+  symbols = c.in_ok-form.ensures.symbols ∙ c.loop-place.invariant.symbols;
 }

@@ -16,6 +16,7 @@ invariant-loop-place l = record {
   term : (xs : List Variable) → AreVariables l.fn.table l.variables xs → tree l.table l.form ≡ expand_each (quantifier_seen l.universal) (drop l.place xs) (tree l.fn.table l.fn.body);
   work : IsWork l.table l.work;
   grows : GrowsTo l.fn.table l.table;
+  symbols : l.table.symbols ≡ l.fn.table.symbols;
 }
 
 abbrev pub decreases-loop-place : goal.decreases-loop-place

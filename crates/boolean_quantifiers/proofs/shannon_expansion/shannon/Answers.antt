@@ -1,4 +1,4 @@
-use Rattle.std.proofs.Common.{◌≡◌, false, List, None, Some, All, ap, sym, ◌∙◌, subst, arith}
+use Rattle.std.proofs.Common.{◌≡◌, false, List, None, Some, All, refl, ap, sym, ◌∙◌, subst, arith}
 use Rattle.smt_terms.specs.declared.ids.NodeId.{NodeId}
 use Rattle.smt_terms.specs.Rank.{sort_of}
 use Rattle.smt_terms.specs.Shapes.{no_bool_quantifier}
@@ -17,6 +17,7 @@ use Rattle.boolean_quantifiers.proofs.shannon_expansion.shannon.Goals as goal
 pub loop-node-init : goal.loop-node-init
 loop-node-init c = record {
   grows = record { trees = grows-self _; symbols = grows-self _; sorts = grows-self _ };
+  symbols = refl;
   expanded = λ k r e. let none_there : None ≡ Some r = sym (ap (λ (m : Results). result_in m 0 k) c.new-results.ensures) ∙ e in absurd cc;
   work = new-work c.args.table.now c.new-work.result c.new-work.ensures.notes (subst (All (IsNode c.args.table.now)) (sym c.new-work.ensures.candidates) c.in_ok-truths.ensures) c.new-work.ensures.cases c.new-work.ensures.memo;
   done = λ i d lt. absurd (omega arith);
@@ -31,6 +32,7 @@ settle-requires-clause-ready c =
 pub loop-node-preserved : goal.loop-node-preserved
 loop-node-preserved c = record {
   grows = table-grows c.args.table.now c.loop-node.table c.settle.new.table c.loop-node.invariant.grows c.in_ok-settle.ensures.grows;
+  symbols = c.in_ok-settle.ensures.symbols ∙ c.loop-node.invariant.symbols;
   expanded = c.in_ok-settle.ensures.expanded;
   work = c.in_ok-settle.ensures.work;
   done = done-more c.loop-node.results c.settle.new.results 0 c.deref-node-items.result.now c.loop-node.node-index (record { 0 = 0 }) c.in_ok-settle.ensures.stay c.loop-node-test.true c.in_ok-settle.ensures.done c.loop-node.invariant.done;
