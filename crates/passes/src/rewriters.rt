@@ -8,10 +8,11 @@ ghost use Rattle.term_subst.specs.Substituting.{IsLater};
 ghost use Rattle.term_table.specs.Formulas.{tree};
 ghost use Rattle.term_walk.specs.Walking.{GrowsTo};
 
+use boolean_quantifiers::{self_subst, shannon};
 use normal_forms::and_inverter_form::aig_kept;
 use normal_forms::negation_normal_form::nnf_kept;
 use normal_forms::node_forms::Forms;
-use quantifier_forms::{prenex, self_subst, shannon};
+use quantifier_forms::prenex;
 use smt_terms::NodeId;
 use std::alloc::{AllocError, Global};
 use std::sync::ledger::Ledger;

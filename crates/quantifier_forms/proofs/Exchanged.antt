@@ -26,7 +26,7 @@ use Rattle.quantifier_forms.specs.Exchanging.{IsExchange, IsExchanged, AreExchan
 use Rattle.quantifier_forms.specs.Memos.{Results, result_in, known_in, Sets}
 use Rattle.quantifier_forms.specs.Reaching.{is_joint, is_junction, IsBare, AreBare, AreReached}
 use Rattle.quantifier_forms.specs.Rebuilding.{with_operands, is_number, IsLike, AreLike}
-use Rattle.quantifier_forms.proofs.AtTruth.{formula-number}
+use Rattle.quantifier_forms.proofs.Rebuilt.{formula-number}
 use Rattle.quantifier_forms.proofs.Reached.{none-both, at-bare}
 use Rattle.quantifier_forms.proofs.Stands.{same-number, number-same}
 use Rattle.quantifier_forms.proofs.Sweeps.{tree-stays, node-stays, at-number, taken-at, known-map, known-nodes, known-like}

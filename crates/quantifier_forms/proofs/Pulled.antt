@@ -31,8 +31,8 @@ use Rattle.normal_forms.proofs.Inside.{in-right}
 use Rattle.quantifier_forms.specs.declared.pulling.Bound.{Bound}
 use Rattle.quantifier_forms.specs.Pulling.{all_fresh, fresh_body, AreFresh, Front, front_at, fronts_at, IsFront, AreFronts}
 use Rattle.quantifier_forms.specs.Reaching.{parts_of, IsBinder}
-use Rattle.quantifier_forms.specs.Working.{AreVariables}
-use Rattle.quantifier_forms.proofs.Expansions.{variables-stay, variables-number, variable-at}
+use Rattle.quantifier_forms.specs.Variables.{AreVariables}
+use Rattle.quantifier_forms.proofs.Variables.{variables-stay, variables-number, variable-at}
 use Rattle.quantifier_forms.proofs.Sweeps.{tree-stays}
 
 -- ---- the parts of a quantified term

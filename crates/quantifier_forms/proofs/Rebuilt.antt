@@ -5,10 +5,11 @@ use Rattle.smt_terms.specs.declared.ids.NodeId.{NodeId}
 use Rattle.smt_terms.specs.declared.ids.SymId.{SymId}
 use Rattle.smt_terms.specs.declared.ids.SortId.{SortId}
 use Rattle.smt_terms.specs.declared.op.Op.{Op}
-use Rattle.smt_terms.specs.declared.op.Op.TheVariants.{Neg}
-use Rattle.smt_terms.specs.Sorts.{Sort, Symbol}
+use Rattle.smt_terms.specs.declared.op.Op.TheVariants.{Neg, Whole}
+use Rattle.smt_terms.specs.Sorts.{Sort, bool, int, Symbol}
 use Rattle.smt_terms.specs.Term.{Head, op, symbol, const_array, Term, apply, quantified, Terms, none, ◌⨾◌, list, terms, over}
-use Rattle.smt_terms.specs.Rank.{rank, sort_over, with_sort, sort_of, sorts_of, is_minus, is_minus_of, is_regular, IsWellSorted}
+use Rattle.smt_terms.specs.Rank.{rank, shape, sort_over, with_sort, sort_of, sorts_of, is_minus, is_minus_of, is_regular, is_whole, IsWellSorted}
+use Rattle.smt_terms.proofs.Ranked.{rank-takes}
 use Rattle.smt_terms.proofs.Sorted.{IsApplied, applied}
 use Rattle.smt_terms.proofs.SortsOfTerms.{IsRegular, regular}
 use Rattle.smt_terms.proofs.Tests.{both_true, not_true}
@@ -183,3 +184,25 @@ rebuilt-term t (apply h ts) p ks fine plain seen numbers nodes like =
     let parts = both_true (is_some (sort_of (apply h ts))) (is_regular (apply h ts)) fine in
     let sort = some-sort (sort_of (apply h ts)) parts.0 in
     rebuilt-over t h ts p ks sort.0 sort.1 parts.1 seen numbers nodes like
+
+-- ---- a formula is no integer constant
+
+whole-sort : (p : Op) → is_whole p ≡ true → sort_of (apply (op p) none) ≡ Some bool → ⊥
+unfolding is_whole shape
+whole-sort (Whole n) e has =
+    let a = applied (op (Whole n)) none bool has in
+    let takes = rank-takes (op (Whole n)) a.sorts bool a.rank in
+    let same : bool ≡ int = takes.2 in
+    absurd cc
+whole-sort _ e has = absurd cc
+
+pub formula-number : (u : Term) → sort_of u ≡ Some bool → is_number u ≡ false
+formula-number (apply (op p) none) has = by (is_whole p) refl
+  where
+    by : (b : Bool) → is_whole p ≡ b → b ≡ false
+    by false e = refl
+    by true e = absurd (whole-sort p e has)
+formula-number (apply (op p) (t ⨾ ts)) has = refl
+formula-number (apply (symbol f) ts) has = refl
+formula-number (apply (const_array s) ts) has = refl
+formula-number (quantified q xs body) has = refl

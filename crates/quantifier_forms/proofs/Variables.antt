@@ -1,7 +1,7 @@
 -- Variables as nodes, and quantifiers over them.
 use Rattle.std.proofs.Common.{◌≡◌, ℕ, suc, ◌+◌, ◌<◌, Bool, true, false, not, cond, List, [], ◌∷◌, ◌++◌, length, map, get_or, take, Some, refl, ap, sym, ◌∙◌, subst, arith}
 use Rattle.std.proofs.lemmas.List.{map-append, length-map, get_or-map, take_more, append-nil}
-use Rattle.std.proofs.lemmas.List.Elements.{All-append, All-cons, filter-append}
+use Rattle.std.proofs.lemmas.List.Elements.{All-append, All-cons, All-head, All-tail, filter-append}
 use Rattle.smt_terms.specs.declared.ids.NodeId.{NodeId}
 use Rattle.smt_terms.specs.declared.op.Op.TheVariants.{Forall, Exists}
 use Rattle.smt_terms.specs.Sorts.{Sort, bool, int, bit_vector, array, free_sort, Variable}
@@ -12,10 +12,12 @@ use Rattle.smt_terms.specs.Shapes.{is_bool}
 use Rattle.smt_terms.proofs.Sorted.{applied, sort_of-quantified}
 use Rattle.smt_terms.proofs.Ranked.{rank-takes}
 use Rattle.term_table.specs.Formulas.{Formulas, tree, tree_in, trees_at, binders, body, IsNode, AreNodes, Makes}
+use Rattle.term_walk.specs.Walking.{GrowsTo}
 use Rattle.normal_forms.specs.Nodes.{IsFormula}
 use Rattle.normal_forms.specs.Quantifiers.{not_bool}
 use Rattle.normal_forms.proofs.Bound.{makes-forall, makes-exists, bound-term}
-use Rattle.quantifier_forms.specs.Working.{AreVariables}
+use Rattle.quantifier_forms.specs.Variables.{AreVariables}
+use Rattle.quantifier_forms.proofs.Sweeps.{tree-stays, node-stays}
 
 -- ---- the node of a quantifier
 
@@ -154,3 +156,27 @@ none-named t ks (x ∷ xs) are e =
 pub some-named : (t : Formulas) (ks : List NodeId) (xs : List Variable) → AreVariables t ks xs → (length ks ≡ 0 → ⊥) → xs ≡ [] → ⊥
 some-named t ks [] are some e = some (sym (length-map ks (tree_in t.trees)) ∙ ap length are.terms)
 some-named t ks (x ∷ xs) are some e = absurd cc
+
+-- ---- variables under another table
+
+pub variables-stay : (old new : Formulas) (ks : List NodeId) (xs : List Variable) → GrowsTo old new → AreVariables old ks xs → AreVariables new ks xs
+variables-stay old new ks xs grows are = record {
+  nodes = λ i d lt. node-stays old new (get_or ks i d) grows (are.nodes i d lt);
+  terms = same ks are.nodes ∙ are.terms;
+}
+  where
+    same : (js : List NodeId) → AreNodes old js → trees_at new js ≡ trees_at old js
+    same [] nodes = refl
+    same (j ∷ js) nodes =
+        let first = tree-stays old new j grows (All-head (IsNode old) j js nodes) in
+        let rest = same js (All-tail (IsNode old) j js nodes) in
+        λ i. first i ∷ rest i
+
+module _ (t : Formulas) (ks : List NodeId) (xs : List Variable) (are : AreVariables t ks xs) where
+  pub variables-number : length ks ≡ length xs
+  variables-number = sym (length-map ks (tree_in t.trees)) ∙ ap length are.terms ∙ length-map xs variable
+
+  pub variable-at : (i : ℕ) (d : NodeId) (x : Variable) → i < length ks → tree t (get_or ks i d) ≡ variable (get_or xs i x)
+  variable-at i d x lt =
+      let n = variables-number in
+      sym (get_or-map (tree_in t.trees) ks i d (variable x) lt) ∙ ap (λ us. get_or us i (variable x)) are.terms ∙ get_or-map variable xs i x (variable x) (omega (arith, n))

@@ -1,15 +1,9 @@
 pub mod Exchanging
-pub mod Expanding
 pub mod Listing
 pub mod Memos
-pub mod Occurrences
 pub mod Orders
 pub mod Pulling
 pub mod Reaching
 pub mod Rebuilding
-pub mod Renaming
-pub mod Replacing
-pub mod Solving
 pub mod Tasks
-pub mod Turning
-pub mod Working
+pub mod Variables

@@ -13,7 +13,7 @@ use Rattle.term_subst.specs.Substituting.{IsMap}
 use Rattle.normal_forms.specs.Prenex.{Quantified, quantifiers, prenex_turns}
 use Rattle.normal_forms.specs.Shape.{quantifier_seen}
 use Rattle.quantifier_forms.specs.declared.pulling.Bound.{Bound}
-use Rattle.quantifier_forms.specs.Working.{AreVariables}
+use Rattle.quantifier_forms.specs.Variables.{AreVariables}
 
 -- a fresh name for each of these variables, in order
 abbrev pub all_fresh : List Variable → Supply → Renamed

@@ -48,6 +48,7 @@ fn exchanged(
     ensures exchanged { IfOk result (IsExchanged table.new exchange id) }
     ensures bare { OnOk result (AreBare table.new bare.new.keys) }
     ensures grows { GrowsTo table.old table.new }
+    ensures symbols { table.new.symbols ≡ table.old.symbols }
 {
     let _ = table.len();
     let meant = id.0 == exchange.from.0;
@@ -85,6 +86,7 @@ fn settle(
     ensures others { OnOk result ((k : NodeId) → (k.0 ≡ id.0 → ⊥) → result_in memo.new 0 k ≡ result_in memo.old 0 k) }
     ensures bare { OnOk result (AreBare table.new bare.new.keys) }
     ensures grows { GrowsTo table.old table.new }
+    ensures symbols { table.new.symbols ≡ table.old.symbols }
 {
     let result = exchanged(alloc, table, bare, memo, exchange, id)?;
     let stays = result.0 == id.0;
@@ -111,6 +113,7 @@ pub(crate) fn exchange_all(
     ensures exchanged { IfOk result (IsExchanged table.new exchange root) }
     ensures bare { OnOk result (AreBare table.new bare.new.keys) }
     ensures grows { GrowsTo table.old table.new }
+    ensures symbols { table.new.symbols ≡ table.old.symbols }
 {
     let mut memo = Memo::new(alloc);
     for id in order {

@@ -1,24 +1,16 @@
-//! Formulas without quantifiers below connectives, and without quantified truth values: prenex form, Shannon's expansion
-//! and self-substitution, over the nodes of a table.
+//! Prenex form, formulas whose quantifiers stand in front, over the nodes of a table. And what passes over quantifiers share:
+//! the subterms of a node in order, results that are kept, nodes over other operands, and quantifiers over some variables.
 
 #![tactic(auto)]
 
 mod exchanging;
-mod listing;
-mod memo;
-mod occurrences;
+pub mod listing;
+pub mod memo;
 pub mod prenex_form;
 mod pulling;
-mod quantifying;
+pub mod quantifying;
 mod reaching;
-mod rebuilding;
-mod replacing;
-pub mod self_substitution;
-pub mod shannon_expansion;
+pub mod rebuilding;
 mod tasks;
-mod truths;
-mod work;
 
 pub use prenex_form::prenex;
-pub use self_substitution::self_subst;
-pub use shannon_expansion::shannon;

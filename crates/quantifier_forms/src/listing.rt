@@ -1,4 +1,4 @@
-// The subterms of a node in the order in which their results are made.
+//! The subterms of a node in the order in which their results are made.
 
 ghost use Rattle.std.specs.Prelude.{◌≡◌, ℕ, suc, ◌<◌, ◌≤◌, ◌+◌, ◌++◌, ◌∷◌, [], List, All, Bool, true, false, not, IfOk, OnOk, length, map};
 ghost use Rattle.smt_terms.specs.declared.ids.NodeId.{NodeId};
@@ -17,15 +17,17 @@ use smt_terms::NodeId;
 use std::alloc::{AllocError, Global};
 use term_table::Table;
 
-// Which nodes a listing skips, with all that stands below them alone, and at which it looks at the operands.
-pub(crate) trait Choice {
+/// Which nodes a listing skips, with all that stands below them alone, and at which it looks at the operands.
+pub trait Choice {
     ghost skips: { Self → NodeId → Bool };
 
     ghost opens: { Self → Formulas → NodeId → Bool };
 
+    /// Whether a node is skipped.
     fn skips(&self, id: NodeId) -> bool
         ensures { result ≡ skips self.now id };
 
+    /// Whether the operands of a node are looked at.
     fn opens(&self, table: &Table, id: NodeId) -> bool
         requires { IsNode table.now id }
         ensures { result ≡ opens self.now table.now id };
@@ -110,8 +112,8 @@ fn turn<C: Choice>(
     }
 }
 
-// The subterms of a node that aren't skipped, each once and behind its operands, these from left to right.
-pub(crate) fn list<C: Choice>(
+/// The subterms of a node that aren't skipped, each once and behind its operands, these from left to right.
+pub fn list<C: Choice>(
     alloc: Global,
     table: &Table,
     choice: &C,
@@ -149,12 +151,8 @@ impl Choice for Everything {
     }
 }
 
-// The subterms of a node, each once and behind its operands, these from left to right.
-pub(crate) fn list_all(
-    alloc: Global,
-    table: &Table,
-    root: NodeId,
-) -> Result<Vec<NodeId>, AllocError>
+/// The subterms of a node, each once and behind its operands, these from left to right.
+pub fn list_all(alloc: Global, table: &Table, root: NodeId) -> Result<Vec<NodeId>, AllocError>
     requires { IsNode table.now root }
     ensures order { IfOk result (λ ks. IsOrdered table.now (λ _. false) root ks.items) }
     ensures terms { IfOk result (λ ks. trees_at table.now ks.items ≡ listed (λ _. false) (λ _. true) (tree table.now root) []) }

@@ -1,4 +1,4 @@
-// Results that are kept.
+//! Results that are kept.
 
 ghost use Rattle.std.specs.Prelude.{◌≡◌, [], OnOk, IfOk, map};
 ghost use Rattle.quantifier_forms.specs.Memos.{result_in, known_in, Sets};
@@ -15,9 +15,9 @@ pub(crate) struct Site {
     pub(crate) node: NodeId,
 }
 
-// Results of nodes, by versions.
+/// Results of nodes, by versions.
 #[derive(Drop)]
-pub(crate) struct Memo {
+pub struct Memo {
     results: IndexMap<Site, NodeId>,
 }
 
@@ -32,7 +32,8 @@ impl Model for Memo {
 }
 
 impl Memo {
-    pub(crate) fn new(alloc: Global) -> Memo
+    /// No results.
+    pub fn new(alloc: Global) -> Memo
         ensures { result ≡ [] }
     {
         Memo {
@@ -40,33 +41,30 @@ impl Memo {
         }
     }
 
-    pub(crate) fn get(&self, version: usize, node: NodeId) -> Option<NodeId>
+    /// The result of a node in a version, or None where it has none.
+    pub fn get(&self, version: usize, node: NodeId) -> Option<NodeId>
         ensures { result ≡ result_in self.now version node }
     {
         self.results.get(&Site { version, node }).copied()
     }
 
-    // The result of a node, or else the node itself.
-    pub(crate) fn known(&self, version: usize, node: NodeId) -> NodeId
+    /// The result of a node in a version, or else the node itself.
+    pub fn known(&self, version: usize, node: NodeId) -> NodeId
         ensures { result ≡ known_in self.now version node }
     {
         self.get(version, node).unwrap_or(node)
     }
 
-    pub(crate) fn set(
-        &mut self,
-        version: usize,
-        node: NodeId,
-        value: NodeId,
-    ) -> Result<(), AllocError>
+    /// Keeps the result of a node in a version.
+    pub fn set(&mut self, version: usize, node: NodeId, value: NodeId) -> Result<(), AllocError>
         ensures { OnOk result (Sets self.old self.new version node value) }
     {
         self.results.insert(Site { version, node }, value)?;
         Ok(())
     }
 
-    // The results of these nodes.
-    pub(crate) fn known_all(
+    /// The results of these nodes in a version, each or else the node itself.
+    pub fn known_all(
         &self,
         alloc: Global,
         version: usize,

@@ -7,7 +7,7 @@ ghost use Rattle.smt_terms.specs.Shapes.{is_prenex};
 ghost use Rattle.smt_terms.specs.SubstLaws.{GivesNone, names_within};
 ghost use Rattle.term_table.specs.Formulas.{tree};
 ghost use Rattle.term_walk.specs.Walking.{GrowsTo};
-ghost use Rattle.term_subst.specs.Substituting.{IsLater};
+ghost use Rattle.term_subst.specs.Substituting.{IsLater, NeverGivesGained};
 ghost use Rattle.normal_forms.specs.Nnf as form;
 ghost use Rattle.normal_forms.specs.Prenex as plain;
 ghost use Rattle.normal_forms.specs.Nodes.{IsFormula};
@@ -40,6 +40,7 @@ fn normal<L: Ledger>(
     ensures formula { IfOk result (IsFormula table.new) }
     ensures term { IfOk result (λ k. tree table.new k ≡ form.nnf (tree table.old id)) }
     ensures grows { GrowsTo table.old table.new }
+    ensures symbols { table.new.symbols ≡ table.old.symbols }
 {
     let mut steps = Steps::<L>::new(blank);
     let normal = nnf(alloc, table, id, &mut steps)?;
@@ -61,6 +62,7 @@ fn pull_all(
     ensures prefix { OnOk result (AreFronts table.new prefix.new.items) }
     ensures term { IfOk result (λ k. all_turns (tree table.old root) fresh.old ≡ (behind_fronts (fronts_at table.new prefix.new.items) (tree table.new k), fresh.new)) }
     ensures later { IsLater fresh.old fresh.new }
+    ensures drawn { NeverGivesGained fresh.new table.old.symbols table.new.symbols }
     ensures grows { GrowsTo table.old table.new }
 {
     let mut bare = IndexSet::new(alloc);
@@ -97,6 +99,7 @@ pub fn prenex(
     ensures left { OnOk result (fresh.new ≡ (plain.prenex (tree table.old id) fresh.old).1) }
     ensures shape { IfOk result (λ k. IsTrue (is_prenex (tree table.new k))) }
     ensures later { IsLater fresh.old fresh.new }
+    ensures drawn { NeverGivesGained fresh.new table.old.symbols table.new.symbols }
     ensures grows { GrowsTo table.old table.new }
 {
     let formula = normal::<Brand>(alloc, table, id, Blank::new(1))?;

@@ -12,7 +12,7 @@ ghost use Rattle.term_subst.specs.Substituting.{IsMap, IsLater};
 ghost use Rattle.normal_forms.specs.Nodes.{IsFormula};
 ghost use Rattle.quantifier_forms.specs.Pulling.{AreFresh, AreFronts, behind_fronts, fresh_body, all_fresh, fronts_at};
 ghost use Rattle.quantifier_forms.specs.Reaching.{parts_of, IsBinder};
-ghost use Rattle.quantifier_forms.specs.Working.{AreVariables};
+ghost use Rattle.quantifier_forms.specs.Variables.{AreVariables};
 
 use crate::quantifying::{quantify, symbol_of, variables_below};
 use crate::rebuilding::body_below;
@@ -116,6 +116,7 @@ pub(crate) fn close(
     ensures formula { IfOk result (IsFormula table.new) }
     ensures term { IfOk result (λ k. tree table.new k ≡ behind_fronts (fronts_at table.old prefix.now) (tree table.old matrix)) }
     ensures grows { GrowsTo table.old table.new }
+    ensures symbols { table.new.symbols ≡ table.old.symbols }
 {
     let mut form = matrix;
     let mut place = prefix.len();

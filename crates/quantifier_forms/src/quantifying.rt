@@ -1,4 +1,4 @@
-// Quantifiers over some variables.
+//! Quantifiers over some variables.
 
 ghost use Rattle.std.specs.Prelude.{◌≡◌, true, List, map, IfOk};
 ghost use Rattle.smt_terms.specs.Sorts.{Variable};
@@ -9,7 +9,7 @@ ghost use Rattle.term_walk.specs.Walking.{GrowsTo};
 ghost use Rattle.normal_forms.specs.Nodes.{IsFormula};
 ghost use Rattle.normal_forms.specs.Shape.{quantifier_seen, is_quantified, variables_of};
 ghost use Rattle.normal_forms.specs.Quantifiers.{not_bool};
-ghost use Rattle.quantifier_forms.specs.Working.{AreVariables};
+ghost use Rattle.quantifier_forms.specs.Variables.{AreVariables};
 
 use normal_forms::shapes::is_formula;
 use smt_terms::{NodeId, SymId};
@@ -17,9 +17,9 @@ use smt_values::Op;
 use std::alloc::{AllocError, Global};
 use term_table::Table;
 
-// The symbol of a variable's node.
+/// The symbol of a variable's node.
 #[tactic(auto, unfolding(term_table::specs::Formulas::kind))]
-pub(crate) fn symbol_of(table: &Table, id: NodeId) -> SymId
+pub fn symbol_of(table: &Table, id: NodeId) -> SymId
     requires node { IsNode table.now id }
     requires variable { tree table.now id ≡ variable (variable_of (tree table.now id)) }
     ensures symbol { symbol_at table.now result ≡ constant_of (variable_of (tree table.now id)) }
@@ -31,12 +31,8 @@ pub(crate) fn symbol_of(table: &Table, id: NodeId) -> SymId
     }
 }
 
-// The variables of a quantified node.
-pub(crate) fn variables_below(
-    alloc: Global,
-    table: &Table,
-    id: NodeId,
-) -> Result<Vec<NodeId>, AllocError>
+/// The variables of a quantified node.
+pub fn variables_below(alloc: Global, table: &Table, id: NodeId) -> Result<Vec<NodeId>, AllocError>
     requires node { IsNode table.now id }
     requires quantified { is_quantified (tree table.now id) ≡ true }
     ensures { IfOk result (λ ks. AreVariables table.now ks.items (variables_of (tree table.now id))) }
@@ -46,8 +42,8 @@ pub(crate) fn variables_below(
     Ok(variables)
 }
 
-// Those of these variables that aren't Bool.
-pub(crate) fn without_truths(
+/// Those of these variables that aren't Bool.
+pub fn without_truths(
     alloc: Global,
     table: &Table,
     variables: &[NodeId],
@@ -64,9 +60,9 @@ pub(crate) fn without_truths(
     Ok(left)
 }
 
-// A quantifier over these variables, of which there is one, and over this body.
+/// A quantifier over these variables, of which there is one, and over this body.
 #[tactic(auto, unfolding(term_table::specs::Formulas::kind))]
-pub(crate) fn quantify(
+pub fn quantify(
     alloc: Global,
     table: &mut Table,
     universal: bool,
@@ -78,6 +74,7 @@ pub(crate) fn quantify(
     ensures formula { IfOk result (IsFormula table.new) }
     ensures term { (xs : List Variable) → AreVariables table.old variables.now xs → IfOk result (λ k. tree table.new k ≡ quantified (quantifier_seen universal) xs (tree table.old body)) }
     ensures grows { GrowsTo table.old table.new }
+    ensures symbols { table.new.symbols ≡ table.old.symbols }
 {
     let mut kids = Vec::from_slice(alloc, variables)?;
     kids.push(body)?;

@@ -1,4 +1,4 @@
-// A node's operator over other operands.
+//! A node's operator over other operands.
 
 ghost use Rattle.std.specs.Prelude.{◌≡◌, ◌<◌, true, false, IfOk};
 ghost use Rattle.term_table.specs.Formulas.{tree, trees_at, operands, IsNode, AreNodes};
@@ -11,8 +11,8 @@ use smt_values::Op;
 use std::alloc::AllocError;
 use term_table::Table;
 
-// The node of this node's operator over operands that are like its own.
-pub(crate) fn rebuilt(table: &mut Table, id: NodeId, kids: &[NodeId]) -> Result<NodeId, AllocError>
+/// The node of this node's operator over operands that are like its own.
+pub fn rebuilt(table: &mut Table, id: NodeId, kids: &[NodeId]) -> Result<NodeId, AllocError>
     requires node { IsNode table.old id }
     requires applied { is_quantified (tree table.old id) ≡ false }
     requires kids { AreNodes table.old kids.now }
@@ -21,15 +21,16 @@ pub(crate) fn rebuilt(table: &mut Table, id: NodeId, kids: &[NodeId]) -> Result<
     ensures term { IfOk result (λ k. tree table.new k ≡ with_operands (tree table.old id) (trees_at table.old kids.now)) }
     ensures like { IfOk result (λ k. IsLike (tree table.old id) (tree table.new k)) }
     ensures grows { GrowsTo table.old table.new }
+    ensures symbols { table.new.symbols ≡ table.old.symbols }
 {
     let op = table.op(id);
     let id = table.intern(op, kids)?;
     Ok(id)
 }
 
-// Whether a node is quantified.
+/// Whether a node is quantified.
 #[tactic(auto, unfolding(term_table::specs::Formulas::kind))]
-pub(crate) fn is_binder(table: &Table, id: NodeId) -> bool
+pub fn is_binder(table: &Table, id: NodeId) -> bool
     requires { IsNode table.now id }
     ensures { result ≡ is_quantified (tree table.now id) }
 {
@@ -39,8 +40,8 @@ pub(crate) fn is_binder(table: &Table, id: NodeId) -> bool
     }
 }
 
-// The body of a quantified node, which is its last operand.
-pub(crate) fn body_below(table: &Table, id: NodeId) -> NodeId
+/// The body of a quantified node, which is its last operand.
+pub fn body_below(table: &Table, id: NodeId) -> NodeId
     requires node { IsNode table.now id }
     requires quantified { is_quantified (tree table.now id) ≡ true }
     ensures below { result.0 < id.0 }

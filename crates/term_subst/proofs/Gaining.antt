@@ -47,7 +47,7 @@ grows-added old new x (inr more) = record {
 
 -- ---- symbols that are gained
 
-none-gained : (s : Supply) (old new : List Symbol) → new ≡ old → NeverGivesGained s old new
+pub none-gained : (s : Supply) (old new : List Symbol) → new ≡ old → NeverGivesGained s old new
 none-gained s old new e i le lt = absurd (let count = ap length e in omega arith)
 
 drawn-gained : (s : Supply) (old new : List Symbol) (to : Sort) → Adds old new (fresh_constant to s) → NeverGivesGained (after_draw s) old new
@@ -58,7 +58,7 @@ drawn-gained s old new to (inr more) i le lt =
     let here : get_or new i no_symbol ≡ fresh_constant to s = (λ j. get_or (more.0 j) (last j) no_symbol) ∙ get_or-append_seam old (fresh_constant to s) [] no_symbol in
     subst (NeverGives (after_draw s)) (sym (ap (λ f. f.name) here)) (never-drawn s)
 
-gained-both : (s t : Supply) (xs ys zs : List Symbol) → IsLater s t → Grows ys zs → NeverGivesGained s xs ys → NeverGivesGained t ys zs → NeverGivesGained t xs zs
+pub gained-both : (s t : Supply) (xs ys zs : List Symbol) → IsLater s t → Grows ys zs → NeverGivesGained s xs ys → NeverGivesGained t ys zs → NeverGivesGained t xs zs
 gained-both s t xs ys zs later grows first second i le lt = by (nat_lt i (length ys)) refl
   where
     by : (b : Bool) → nat_lt i (length ys) ≡ b → NeverGives t (get_or zs i no_symbol).name

@@ -13,8 +13,9 @@ ghost use Rattle.term_table.specs.Formulas.{Formulas, tree, AreNodes, IsOpOf};
 ghost use Rattle.normal_forms.specs.Nodes.{IsFormula};
 
 use super::spared::is_spared;
+use boolean_quantifiers::{self_subst, shannon};
 use normal_forms::shapes::is_formula;
-use quantifier_forms::{prenex, self_subst, shannon};
+use quantifier_forms::prenex;
 use smt_terms::NodeId;
 use smt_values::{Op, SortId};
 use std::alloc::{AllocError, Global};

@@ -1,4 +1,4 @@
-use Rattle.std.proofs.Common.{◌≡◌, None, Some, ap, sym, ◌∙◌, subst, arith}
+use Rattle.std.proofs.Common.{◌≡◌, None, Some, refl, ap, sym, ◌∙◌, subst, arith}
 use Rattle.smt_terms.specs.declared.ids.NodeId.{NodeId}
 use Rattle.term_walk.proofs.Visits.{grows-self, table-grows}
 use Rattle.quantifier_forms.specs.Exchanging.{IsExchanged}
@@ -9,6 +9,7 @@ use Rattle.quantifier_forms.proofs.exchanging.exchange_all.Goals as goal
 pub loop-id-init : goal.loop-id-init
 loop-id-init c = record {
   grows = record { trees = grows-self _; symbols = grows-self _; sorts = grows-self _ };
+  symbols = refl;
   bare = c.requires.bare;
   exchanged = λ k r e. let none_there : None ≡ Some r = sym (ap (λ (m : Results). result_in m 0 k) c.new-memo.ensures) ∙ e in absurd cc;
   settled = λ i d lt. absurd (omega arith);
@@ -25,6 +26,7 @@ settle-requires-clause-ready c =
 pub loop-id-preserved : goal.loop-id-preserved
 loop-id-preserved c = record {
   grows = table-grows c.args.table.now c.loop-id.table c.settle.new.table c.loop-id.invariant.grows c.in_ok-settle.ensures.grows;
+  symbols = c.in_ok-settle.ensures.symbols ∙ c.loop-id.invariant.symbols;
   bare = c.in_ok-settle.ensures.bare;
   exchanged = c.in_ok-settle.ensures.exchanged;
   settled =

@@ -1,9 +1,10 @@
-use Rattle.std.proofs.Common.{List, rules, sym, ◌∙◌, ap, subst}
+use Rattle.std.proofs.Common.{List, rules, refl, sym, ◌∙◌, ap, subst}
 use Rattle.std.proofs.lemmas.List.Elements.{All-nil}
 use Rattle.smt_terms.specs.declared.ids.NodeId.{NodeId}
 use Rattle.term_table.specs.Formulas.{tree, trees_at}
 use Rattle.term_walk.proofs.Visits.{grows-self, table-grows}
-use Rattle.term_subst.proofs.Gaining.{later-same, later-both}
+use Rattle.term_subst.specs.Substituting.{NeverGivesGained}
+use Rattle.term_subst.proofs.Gaining.{later-same, later-both, none-gained, gained-both}
 use Rattle.quantifier_forms.specs.declared.pulling.Bound.{Bound}
 use Rattle.quantifier_forms.specs.Pulling.{IsFront, AreFronts, fronts_at}
 use Rattle.quantifier_forms.specs.Reaching.{first_quantified, AreReached}
@@ -24,6 +25,7 @@ loop-from-init c = record {
   prefix = subst (λ (bs : List Bound). AreFronts c.args.table.now bs) (sym c.requires.prefix) (All-nil (IsFront c.args.table.now));
   leads = leads-first (tree c.args.table.now c.args.root) c.args.fresh.now (fronts_at c.args.table.now c.args.prefix.now.items) (ap (fronts_at c.args.table.now) c.requires.prefix);
   later = later-same c.args.fresh.now;
+  drawn = none-gained c.args.fresh.now c.args.table.now.symbols c.args.table.now.symbols refl;
   grows = record { trees = grows-self _; symbols = grows-self _; sorts = grows-self _ };
 }
 
@@ -65,6 +67,9 @@ loop-from-preserved c =
           next-leads l.table t1 t2 l.matrix c.in-Some.from c.in_ok-to.to _ l.fresh c.pull.new.fresh is l.invariant.formula found e.gains.grows c.in_ok-matrix.ensures.grows e.formula e.term e.left c.in_ok-matrix.ensures.exchanged
           (tree c.args.table.now c.args.root) c.args.fresh.now l.prefix.items c.pull.new.prefix.items l.invariant.leads e.prefix e.front;
       later = later-both c.args.fresh.now l.fresh c.pull.new.fresh l.invariant.later e.gains.later;
+      drawn =
+          subst (NeverGivesGained c.pull.new.fresh c.args.table.now.symbols) (sym c.in_ok-matrix.ensures.symbols)
+          (gained-both l.fresh c.pull.new.fresh c.args.table.now.symbols l.table.symbols c.pull.new.table.symbols e.gains.later e.gains.grows.symbols l.invariant.drawn e.gains.drawn);
       grows = table-grows c.args.table.now t1 t2 (table-grows c.args.table.now l.table t1 l.invariant.grows e.gains.grows) c.in_ok-matrix.ensures.grows;
     }
 
@@ -95,3 +100,26 @@ returns-in_err-matrix-clause-grows c =
 pub returns-in_err-order-2-clause-grows : goal.returns-in_err-order-2-clause-grows
 returns-in_err-order-2-clause-grows c =
     table-grows c.args.table.now c.pull.new.table c.exchange_all.new.table (table-grows c.args.table.now c.loop-from.table c.pull.new.table c.loop-from.invariant.grows c.in_ok-to.ensures.gains.grows) c.in_ok-matrix.ensures.grows
+
+pub returns-in_err-order-clause-drawn : goal.returns-in_err-order-clause-drawn
+returns-in_err-order-clause-drawn c = none-gained c.args.fresh.now c.args.table.now.symbols c.args.table.now.symbols refl
+
+pub returns-in_err-to-clause-drawn : goal.returns-in_err-to-clause-drawn
+returns-in_err-to-clause-drawn c =
+    let l = c.loop-from in
+    let e = c.in_err-to.ensures in
+    gained-both l.fresh c.pull.new.fresh c.args.table.now.symbols l.table.symbols c.pull.new.table.symbols e.gains.later e.gains.grows.symbols l.invariant.drawn e.gains.drawn
+
+pub returns-in_err-matrix-clause-drawn : goal.returns-in_err-matrix-clause-drawn
+returns-in_err-matrix-clause-drawn c =
+    let l = c.loop-from in
+    let e = c.in_ok-to.ensures in
+    subst (NeverGivesGained c.pull.new.fresh c.args.table.now.symbols) (sym c.in_err-matrix.ensures.symbols)
+    (gained-both l.fresh c.pull.new.fresh c.args.table.now.symbols l.table.symbols c.pull.new.table.symbols e.gains.later e.gains.grows.symbols l.invariant.drawn e.gains.drawn)
+
+pub returns-in_err-order-2-clause-drawn : goal.returns-in_err-order-2-clause-drawn
+returns-in_err-order-2-clause-drawn c =
+    let l = c.loop-from in
+    let e = c.in_ok-to.ensures in
+    subst (NeverGivesGained c.pull.new.fresh c.args.table.now.symbols) (sym c.in_ok-matrix.ensures.symbols)
+    (gained-both l.fresh c.pull.new.fresh c.args.table.now.symbols l.table.symbols c.pull.new.table.symbols e.gains.later e.gains.grows.symbols l.invariant.drawn e.gains.drawn)

@@ -1,7 +1,7 @@
 use Rattle.smt_terms.specs.SubstLaws.{GivesNone, names_within}
 use Rattle.term_table.specs.Formulas.{tree}
 use Rattle.term_walk.specs.Walking.{GrowsTo}
-use Rattle.term_subst.specs.Substituting.{IsLater}
+use Rattle.term_subst.specs.Substituting.{IsLater, NeverGivesGained}
 use Rattle.normal_forms.specs.Nodes.{IsFormula}
 use Rattle.normal_forms.specs.Prenex.{quantifiers}
 use Rattle.quantifier_forms.specs.Pulling.{AreFronts, fronts_at}
@@ -18,6 +18,7 @@ invariant-loop-from l = record {
   prefix : AreFronts l.table l.prefix.items;
   leads : LeadsOn (tree l.fn.table l.fn.root) l.fn.fresh (fronts_at l.table l.prefix.items) (tree l.table l.matrix) l.fresh;
   later : IsLater l.fn.fresh l.fresh;
+  drawn : NeverGivesGained l.fresh l.fn.table.symbols l.table.symbols;
   grows : GrowsTo l.fn.table l.table;
 }
 

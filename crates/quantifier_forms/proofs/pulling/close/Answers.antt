@@ -1,12 +1,12 @@
-use Rattle.std.proofs.Common.{◌≡◌, ◌-◌, ◌<◌, suc, zero, List, length, get_or, drop, ap, sym, ◌∙◌, subst, arith}
+use Rattle.std.proofs.Common.{◌≡◌, ◌-◌, ◌<◌, suc, zero, List, length, get_or, drop, refl, ap, sym, ◌∙◌, subst, arith}
 use Rattle.std.proofs.lemmas.List.{length-map}
 use Rattle.smt_terms.specs.declared.ids.NodeId.{NodeId}
 use Rattle.smt_terms.specs.Term.{quantified}
 use Rattle.term_table.specs.Formulas.{tree}
 use Rattle.term_walk.proofs.Visits.{grows-self, table-grows}
 use Rattle.quantifier_forms.specs.Pulling.{Front, front_at, fronts_at, behind_fronts}
-use Rattle.quantifier_forms.specs.Working.{AreVariables}
-use Rattle.quantifier_forms.proofs.Expansions.{variables-stay}
+use Rattle.quantifier_forms.specs.Variables.{AreVariables}
+use Rattle.quantifier_forms.proofs.Variables.{variables-stay}
 use Rattle.quantifier_forms.proofs.Pulled.{front-at, is-front-at}
 use Rattle.quantifier_forms.proofs.Turned.{behind-more, behind-none}
 use Rattle.quantifier_forms.proofs.pulling.close.Goals as goal
@@ -19,6 +19,7 @@ loop-place-init c =
       formula = c.requires.matrix;
       term = behind-none (fronts_at c.args.table.now c.args.prefix.now) (length c.args.prefix.now) (tree c.args.table.now c.args.matrix) (omega (arith, n));
       grows = record { trees = grows-self _; symbols = grows-self _; sorts = grows-self _ };
+      symbols = refl;
     }
 
 pub quantify-requires-clause-variables : goal.quantify-requires-clause-variables
@@ -57,6 +58,7 @@ loop-place-preserved c =
           ∙ ap (λ (g : Front). quantified g.quantifier g.variables (behind_fronts (drop (suc i) fs) matrix)) (sym here)
           ∙ sym (behind-more fs i f matrix (omega (arith, n, inside)));
       grows = table-grows t c.loop-place.table c.quantify.new.table c.loop-place.invariant.grows c.in_ok-form.ensures.grows;
+      symbols = c.in_ok-form.ensures.symbols ∙ c.loop-place.invariant.symbols;
     }
 
 pub returns-clause-term : goal.returns-clause-term

@@ -11,6 +11,7 @@ invariant-loop-place l = record {
   formula : IsFormula l.table l.form;
   term : tree l.table l.form ≡ behind_fronts (drop l.place (fronts_at l.fn.table l.prefix)) (tree l.fn.table l.fn.matrix);
   grows : GrowsTo l.fn.table l.table;
+  symbols : l.table.symbols ≡ l.fn.table.symbols;
 }
 
 abbrev pub decreases-loop-place : goal.decreases-loop-place

@@ -2,7 +2,7 @@ use Rattle.std.proofs.Common.{[], get_or, arith}
 use Rattle.smt_terms.specs.declared.ids.NodeId.{NodeId}
 use Rattle.smt_terms.specs.Sorts.{bool, Variable}
 use Rattle.term_subst.proofs.Gaining.{gains-none, gains-both}
-use Rattle.quantifier_forms.proofs.Expansions.{variables-stay, variables-number, variable-at}
+use Rattle.quantifier_forms.proofs.Variables.{variables-stay, variables-number, variable-at}
 use Rattle.quantifier_forms.proofs.Pulled.{fresh-none, fresh-more, fresh-all, variable-read}
 use Rattle.quantifier_forms.proofs.pulling.draw_all.Goals as goal
 

@@ -1,7 +1,7 @@
 use Rattle.std.proofs.Common.{List}
 use Rattle.smt_terms.specs.Sorts.{Variable}
 use Rattle.term_subst.specs.State.{Gains}
-use Rattle.quantifier_forms.specs.Working.{AreVariables}
+use Rattle.quantifier_forms.specs.Variables.{AreVariables}
 use Rattle.quantifier_forms.proofs.Pulled.{FreshSome}
 use Rattle.quantifier_forms.proofs.pulling.draw_all.Given as goal
 

@@ -6,9 +6,9 @@ use Rattle.smt_terms.specs.Term.{Term}
 use Rattle.term_table.specs.Formulas.{tree, IsNode}
 use Rattle.term_subst.proofs.Gaining.{gains-none, gains-both}
 use Rattle.normal_forms.specs.Shape.{variables_of}
-use Rattle.quantifier_forms.specs.Working.{AreVariables}
+use Rattle.quantifier_forms.specs.Variables.{AreVariables}
 use Rattle.quantifier_forms.proofs.Pulled.{body-spared, body-fresh, fronts-pushed, front-pushed, substituted-gains}
-use Rattle.quantifier_forms.proofs.Puts.{body-bool}
+use Rattle.quantifier_forms.proofs.Bodies.{body-bool}
 use Rattle.quantifier_forms.proofs.Sweeps.{tree-stays, node-stays}
 use Rattle.quantifier_forms.proofs.pulling.pull.Goals as goal
 

@@ -2,8 +2,8 @@ use Rattle.std.proofs.Common.{List, sym, subst}
 use Rattle.smt_terms.specs.declared.ids.NodeId.{NodeId}
 use Rattle.term_table.specs.Formulas.{tree}
 use Rattle.normal_forms.specs.Shape.{variables_of}
-use Rattle.quantifier_forms.specs.Working.{AreVariables}
-use Rattle.quantifier_forms.proofs.Puts.{bound-variables, kid-nodes}
+use Rattle.quantifier_forms.specs.Variables.{AreVariables}
+use Rattle.quantifier_forms.proofs.Bodies.{bound-variables, kid-nodes}
 use Rattle.quantifier_forms.proofs.quantifying.variables_below.Goals as goal
 
 pub returns : goal.returns

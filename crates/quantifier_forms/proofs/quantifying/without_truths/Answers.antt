@@ -1,7 +1,7 @@
 use Rattle.std.proofs.Common.{◌≡◌, ◌+◌, take, true, ap, ◌∙◌, subst, Vec, Global, sym}
 use Rattle.smt_terms.specs.declared.ids.NodeId.{NodeId}
 use Rattle.normal_forms.specs.Quantifiers.{not_bool}
-use Rattle.quantifier_forms.specs.Working.{AreVariables}
+use Rattle.quantifier_forms.specs.Variables.{AreVariables}
 use Rattle.quantifier_forms.proofs.Variables.{truth-skipped, other-kept}
 use Rattle.quantifier_forms.proofs.quantifying.without_truths.Goals as goal
 use Rattle.quantifier_forms.proofs.quantifying.without_truths.Goals.{then-not-is_formula+in_ok-push, else-not-is_formula}

@@ -1,7 +1,7 @@
 use Rattle.std.proofs.Common.{List, take}
 use Rattle.smt_terms.specs.Sorts.{Variable}
 use Rattle.normal_forms.specs.Quantifiers.{not_bool}
-use Rattle.quantifier_forms.specs.Working.{AreVariables}
+use Rattle.quantifier_forms.specs.Variables.{AreVariables}
 use Rattle.quantifier_forms.proofs.quantifying.without_truths.Given as goal
 
 abbrev pub invariant-loop-variable : goal.invariant-loop-variable

@@ -1,6 +1,6 @@
 use Rattle.std.proofs.Common.{get_or, sym, ◌∙◌, arith}
 use Rattle.smt_terms.specs.declared.ids.NodeId.{NodeId}
-use Rattle.quantifier_forms.proofs.Puts.{quantified-formula}
+use Rattle.quantifier_forms.proofs.Bodies.{quantified-formula}
 use Rattle.quantifier_forms.proofs.Reached.{first-none, first-at}
 use Rattle.quantifier_forms.proofs.reaching.first_binder.Goals as goal
 

@@ -1,0 +1,9 @@
+pub mod AtTruth
+pub mod Cases
+pub mod Distinct
+pub mod Expansions
+pub mod Noted
+pub mod PlainSubst
+pub mod Puts
+pub mod SelfNodes
+pub mod SelfSteps

@@ -1,0 +1,5 @@
+pub mod Expanding
+pub mod Occurrences
+pub mod Replacing
+pub mod Solving
+pub mod Working

@@ -1,5 +1,0 @@
-use Rattle.quantifier_forms.proofs.Expansions.{sets-expanded}
-use Rattle.quantifier_forms.proofs.shannon_expansion.settle.Goals as goal
-
-pub returns-clause-expanded : goal.returns-clause-expanded
-returns-clause-expanded c = sets-expanded c.args.table.now c.expand.new.table c.args.results.now c.set.new.self c.args.id c.in_ok-result.result c.in_ok-result.ensures.grows c.requires.expanded c.in_ok-result.ensures.expanded c.in_ok-set.ensures

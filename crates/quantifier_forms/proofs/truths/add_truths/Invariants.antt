@@ -1,6 +1,0 @@
-use Rattle.std.proofs.Common.{All}
-use Rattle.term_table.specs.Formulas.{IsNode}
-use Rattle.quantifier_forms.proofs.truths.add_truths.Given as goal
-
-abbrev pub invariant-loop-kid : goal.invariant-loop-kid
-invariant-loop-kid l = All (IsNode l.fn.table) l.truths.keys
