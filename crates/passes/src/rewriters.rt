@@ -4,7 +4,7 @@
 ghost use Rattle.std.specs.Prelude.{◌≡◌, IfOk, OnOk};
 ghost use Rattle.smt_terms.specs.SubstLaws.{names_within, GivesNone};
 ghost use Rattle.normal_forms.specs.Nodes.{IsFormula};
-ghost use Rattle.term_subst.specs.Substituting.{IsLater};
+ghost use Rattle.term_subst.specs.Substituting.{IsLater, NeverGivesGained};
 ghost use Rattle.term_table.specs.Formulas.{tree};
 ghost use Rattle.term_walk.specs.Walking.{GrowsTo};
 
@@ -43,6 +43,7 @@ pub(crate) trait Rewriter {
         ensures term { IfOk result (λ k. tree table.new k ≡ (Self.form (tree table.old id) fresh.old).0) }
         ensures left { OnOk result (fresh.new ≡ (Self.form (tree table.old id) fresh.old).1) }
         ensures later { IsLater fresh.old fresh.new }
+        ensures drawn { NeverGivesGained fresh.new table.old.symbols table.new.symbols }
         ensures grows { GrowsTo table.old table.new }
         ensures fits { Self.fits self.new table.new };
 }

@@ -4,7 +4,7 @@
 ghost use Rattle.std.specs.Prelude.{◌≡◌, ◌<◌, true, length, slice_get, option_map, OnOk, IfOk};
 ghost use Rattle.std.specs.List.{list_all};
 ghost use Rattle.script_read.specs.CommandLists.{commands_of, AreCommandsOf};
-ghost use Rattle.term_subst.specs.Substituting.{IsLater};
+ghost use Rattle.term_subst.specs.Substituting.{IsLater, NeverGivesGained};
 ghost use Rattle.term_walk.specs.Walking.{GrowsTo};
 ghost use Rattle.passes.specs.Lists.{can_run};
 ghost use Rattle.passes.specs.Passed.{apply_pass, passed};
@@ -59,6 +59,7 @@ pub fn run_passes(
     ensures ready { IfOk result (λ s. IsReady (commands_of table.new s.commands) fresh.new) }
     ensures values { OnOk result (list_all keeps_values passes.now ≡ true) }
     ensures later { IsLater fresh.old fresh.new }
+    ensures drawn { NeverGivesGained fresh.new table.old.symbols table.new.symbols }
     ensures grows { GrowsTo table.old table.new }
 {
     passes_keep_commands();
@@ -84,6 +85,7 @@ fn run_pass(
     ensures commands { OnOk result (commands_of table.new script.new.commands ≡ (apply_pass pass (commands_of table.old script.old.commands) fresh.old).0) }
     ensures left { OnOk result (fresh.new ≡ (apply_pass pass (commands_of table.old script.old.commands) fresh.old).1) }
     ensures later { IsLater fresh.old fresh.new }
+    ensures drawn { NeverGivesGained fresh.new table.old.symbols table.new.symbols }
     ensures grows { GrowsTo table.old table.new }
 {
     match pass {
@@ -128,6 +130,7 @@ fn negate<L: Ledger>(
     ensures commands { OnOk result (commands_of table.new script.new.commands ≡ (in_form nnf_form (commands_of table.old script.old.commands) fresh.old).0) }
     ensures left { OnOk result (fresh.new ≡ (in_form nnf_form (commands_of table.old script.old.commands) fresh.old).1) }
     ensures later { IsLater fresh.old fresh.new }
+    ensures drawn { NeverGivesGained fresh.new table.old.symbols table.new.symbols }
     ensures grows { GrowsTo table.old table.new }
 {
     let mut negation = Negation {
@@ -156,6 +159,7 @@ fn invert<L: Ledger>(
     ensures commands { OnOk result (commands_of table.new script.new.commands ≡ (in_form aig_form (commands_of table.old script.old.commands) fresh.old).0) }
     ensures left { OnOk result (fresh.new ≡ (in_form aig_form (commands_of table.old script.old.commands) fresh.old).1) }
     ensures later { IsLater fresh.old fresh.new }
+    ensures drawn { NeverGivesGained fresh.new table.old.symbols table.new.symbols }
     ensures grows { GrowsTo table.old table.new }
 {
     let mut inversion = Inversion {
@@ -181,6 +185,7 @@ fn rewrite_each<R: Rewriter>(
     ensures commands { OnOk result (commands_of table.new script.new.commands ≡ (in_form R.form (commands_of table.old script.old.commands) fresh.old).0) }
     ensures left { OnOk result (fresh.new ≡ (in_form R.form (commands_of table.old script.old.commands) fresh.old).1) }
     ensures later { IsLater fresh.old fresh.new }
+    ensures drawn { NeverGivesGained fresh.new table.old.symbols table.new.symbols }
     ensures grows { GrowsTo table.old table.new }
 {
     for i in 0..script.commands.len() {

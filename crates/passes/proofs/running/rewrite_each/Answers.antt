@@ -1,6 +1,7 @@
 use Rattle.std.proofs.Common.{◌<◌, length, ◌∙◌, arith, refl}
 use Rattle.std.proofs.lemmas.List.{length-map, length-set}
 use Rattle.term_walk.proofs.Visits.{table-grows}
+use Rattle.term_subst.proofs.Gaining.{none-gained, gained-both}
 use Rattle.script_read.specs.CommandLists.{command_of, commands_of}
 use Rattle.script_read.proofs.Grown.{grown_self, later_self, later_on}
 use Rattle.script_read.specs.declared.scripts.Command.TheVariants.{Assert}
@@ -16,6 +17,7 @@ loop-i-init g c = record {
   under_way = start g.R.Rewriter.form (commands_of c.args.table.now c.args.script.now.commands) c.args.fresh.now;
   fits = c.requires.fits;
   later = later_self c.args.fresh.now;
+  drawn = none-gained c.args.fresh.now c.args.table.now.symbols c.args.table.now.symbols refl;
   grows = grown_self c.args.table.now;
 }
 
@@ -53,6 +55,7 @@ loop-i-preserved g c =
             under_way = replaced g.R.Rewriter.form (commands_of c.args.table.now c.args.script.now.commands) c.args.fresh.now l.table l.script.commands l.i l.fresh few l.invariant.numbers l.invariant.under_way w.in-Some.id w.in-Some.number w.in-Some.ensures w.rewrite.new.table w.in_ok-id.id w.rewrite.new.fresh e.grows e.term e.left;
             fits = e.fits;
             later = later_on c.args.fresh.now l.fresh w.rewrite.new.fresh l.invariant.later e.later;
+            drawn = gained-both l.fresh w.rewrite.new.fresh c.args.table.now.symbols l.table.symbols w.rewrite.new.table.symbols e.later e.grows.symbols l.invariant.drawn e.drawn;
             grows = table-grows c.args.table.now l.table w.rewrite.new.table l.invariant.grows e.grows;
           })
       | in_default w ↦
@@ -62,6 +65,13 @@ loop-i-preserved g c =
             under_way = other_stays g.R.Rewriter.form (commands_of c.args.table.now c.args.script.now.commands) c.args.fresh.now l.table l.script.commands l.i l.fresh few l.invariant.numbers l.invariant.under_way w.in_default.ensures;
             fits = l.invariant.fits;
             later = l.invariant.later;
+            drawn = l.invariant.drawn;
             grows = l.invariant.grows;
           })
     ]
+
+pub returns-in_err-id-clause-drawn : goal.returns-in_err-id-clause-drawn
+returns-in_err-id-clause-drawn g c =
+    let l = c.loop-i in
+    let e = c.in_err-id.ensures in
+    gained-both l.fresh c.rewrite.new.fresh c.args.table.now.symbols l.table.symbols c.rewrite.new.table.symbols e.later e.grows.symbols l.invariant.drawn e.drawn

@@ -1,5 +1,6 @@
-use Rattle.std.proofs.Common.{arith}
+use Rattle.std.proofs.Common.{refl, arith}
 use Rattle.term_walk.proofs.Visits.{table-grows}
+use Rattle.term_subst.proofs.Gaining.{none-gained, gained-both}
 use Rattle.script_read.specs.CommandLists.{commands_of}
 use Rattle.script_read.proofs.Grown.{grown_self, later_self, later_on}
 use Rattle.passes.proofs.PassAfterPass.{passed_none, passed_one, passed_all}
@@ -11,6 +12,7 @@ loop-i-init c = record {
   numbers = c.requires.numbers;
   passed = passed_none c.args.passes.now (commands_of c.args.table.now c.args.script.commands) c.args.fresh.now c.requires.ready;
   later = later_self c.args.fresh.now;
+  drawn = none-gained c.args.fresh.now c.args.table.now.symbols c.args.table.now.symbols refl;
   grows = grown_self c.args.table.now;
 }
 
@@ -27,6 +29,7 @@ loop-i-preserved c =
           passed_one c.args.passes.now (commands_of c.args.table.now c.args.script.commands) c.args.fresh.now c.passes_keep_commands.ensures.pass c.len-i-end.ensures.run l.i c.pass.result
           (commands_of l.table l.script.commands) (commands_of c.run_pass.new.table c.run_pass.new.script.commands) l.fresh c.run_pass.new.fresh c.pass.ensures l.invariant.passed e.commands e.left;
       later = later_on c.args.fresh.now l.fresh c.run_pass.new.fresh l.invariant.later e.later;
+      drawn = gained-both l.fresh c.run_pass.new.fresh c.args.table.now.symbols l.table.symbols c.run_pass.new.table.symbols e.later e.grows.symbols l.invariant.drawn e.drawn;
       grows = table-grows c.args.table.now l.table c.run_pass.new.table l.invariant.grows e.grows;
     }
 
@@ -42,3 +45,9 @@ returns-clause-left c =
 
 pub returns-clause-values : goal.returns-clause-values
 returns-clause-values c = all_keep c.args.passes.now c.len-i-end.ensures.run
+
+pub returns-in_err-run_pass-clause-drawn : goal.returns-in_err-run_pass-clause-drawn
+returns-in_err-run_pass-clause-drawn c =
+    let l = c.loop-i in
+    let e = c.in_err-run_pass.ensures in
+    gained-both l.fresh c.run_pass.new.fresh c.args.table.now.symbols l.table.symbols c.run_pass.new.table.symbols e.later e.grows.symbols l.invariant.drawn e.drawn

@@ -1,5 +1,5 @@
 use Rattle.term_walk.specs.Walking.{GrowsTo}
-use Rattle.term_subst.specs.Substituting.{IsLater}
+use Rattle.term_subst.specs.Substituting.{IsLater, NeverGivesGained}
 use Rattle.script_read.specs.CommandLists.{commands_of, AreCommandsOf}
 use Rattle.passes.proofs.PassAfterPass.{IsPassed}
 use Rattle.passes.proofs.running.run_passes.Given as goal
@@ -9,5 +9,6 @@ invariant-loop-i l = record {
   numbers : AreCommandsOf l.table l.script.commands;
   passed : IsPassed l.passes (commands_of l.fn.table l.fn.script.commands) l.fn.fresh l.i (commands_of l.table l.script.commands) l.fresh;
   later : IsLater l.fn.fresh l.fresh;
+  drawn : NeverGivesGained l.fresh l.fn.table.symbols l.table.symbols;
   grows : GrowsTo l.fn.table l.table;
 }
