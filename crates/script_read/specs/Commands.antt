@@ -1,7 +1,7 @@
 -- Commands, and the state of a script at its checks: SMT-LIB 2.6, sections 4.1.4 (levels), 4.2.1 and 4.2.2 (declarations,
 -- assertions and checks), and `:global-declarations` of section 4.1.7. What an assertion holds is left open: a term, or a
 -- form with what is bound where it stands.
-use Rattle.std.specs.Prelude.{ℕ, zero, suc, Bool, true, false, List, [], ◌∷◌, ◌++◌, map, drop, replicate, count_by, Option, Some, None}
+use Rattle.std.specs.Prelude.{ℕ, zero, suc, Bool, true, false, List, [], ◌∷◌, ◌++◌, map, flat_map, drop, replicate, count_by, Option, Some, None}
 use Rattle.smt_terms.specs.Sorts.{Name, Symbol}
 
 pub data Command (A : Type 0) : Type 0 where
@@ -186,3 +186,21 @@ is_check _ = false
 -- how many checks there are
 abbrev pub checks : {A : Type 0} → List (Command A) → ℕ
 checks cs = count_by is_check cs
+
+-- ---- all that is asserted and assumed, live at a point or not
+
+abbrev pub asserted_by : {A : Type 0} → Command A → List A
+asserted_by (assert i a) = a ∷ []
+asserted_by _ = []
+
+-- the literals of a `check-sat-assuming`
+abbrev pub assumed_by : {A : Type 0} → Command A → List A
+assumed_by (check_assuming ls) = ls
+assumed_by _ = []
+
+-- of all commands, in order
+abbrev pub all_asserted : {A : Type 0} → List (Command A) → List A
+all_asserted cs = flat_map asserted_by cs
+
+abbrev pub all_assumed : {A : Type 0} → List (Command A) → List A
+all_assumed cs = flat_map assumed_by cs

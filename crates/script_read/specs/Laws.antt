@@ -15,7 +15,7 @@ use Rattle.smt_terms.specs.Term.{Term}
 use Rattle.smt_terms.specs.Val.{Env, no_variables, val}
 use Rattle.smt_terms.specs.Written.{Written, build}
 use Rattle.smt_terms.specs.Shapes.{is_clear}
-use Rattle.script_read.specs.Commands.{Command, declare, assert, check_assuming, with_asserted, kinds, live, literals, signature}
+use Rattle.script_read.specs.Commands.{Command, declare, assert, check_assuming, with_asserted, kinds, live, literals, signature, all_asserted, all_assumed}
 use Rattle.script_read.specs.Heads.{term_algebra}
 use Rattle.script_read.specs.Mean.{Denoted, value_algebra, mean, meaning}
 use Rattle.script_read.specs.Printable.{printable}
@@ -95,6 +95,17 @@ pub record SameMeaning (b : List ℕ) (cs : List (Command Term)) (m : Model) (k 
 
 abbrev pub ReadingKeepsMeaning : Type 0
 ReadingKeepsMeaning = (b : List ℕ) (r : List (Command Term) × Supply) → script b ≡ Ok r → (m : Model) (k : ℕ) → SameMeaning b r.0 m k
+
+-- all terms that are asserted, and all literals of the checks, live at a point or not, have in a model the values and the
+-- sorts that the text's forms mean, one by one, and are well-sorted truth values
+pub record SameMeaningEverywhere (b : List ℕ) (cs : List (Command Term)) (m : Model) : Type 0 where
+  pub asserted : map (form_denoted m) (all_asserted (forms_script b)) ≡ map (denoted m no_variables) (all_asserted cs)
+  pub assumed : map (form_denoted m) (all_assumed (forms_script b)) ≡ map (denoted m no_variables) (all_assumed cs)
+  pub truth_values : IsTrue (list_all (has_sort bool) (all_asserted cs ++ all_assumed cs))
+  pub well_sorted : IsTrue (list_all is_well_sorted (all_asserted cs ++ all_assumed cs))
+
+abbrev pub EachTermKeepsMeaning : Type 0
+EachTermKeepsMeaning = (b : List ℕ) (r : List (Command Term) × Supply) → script b ≡ Ok r → (m : Model) → SameMeaningEverywhere b r.0 m
 
 -- the terms of every point have clear names
 abbrev pub ReadTermsAreClear : Type 0

@@ -1,6 +1,6 @@
 //! The laws of reading, each the contract of a function that does nothing.
 
-ghost use Rattle.script_read.specs.Laws.{PrintedSymbolsAreRead, WrittenTokensAreRead, ReadingNames, SameCommands, PointsAgree, ReadingAnswers, WrittenMeaning, ReadingKeepsMeaning, ReadTermsAreClear, NamesLeftAreNew, ReadScriptsArePrintable};
+ghost use Rattle.script_read.specs.Laws.{PrintedSymbolsAreRead, WrittenTokensAreRead, ReadingNames, SameCommands, PointsAgree, ReadingAnswers, WrittenMeaning, ReadingKeepsMeaning, EachTermKeepsMeaning, ReadTermsAreClear, NamesLeftAreNew, ReadScriptsArePrintable};
 
 /// A symbol, as it is printed, is read as that one symbol; and the tokens of a text's forms, written one after the other
 /// with a space behind each, are read as the same tokens.
@@ -34,9 +34,11 @@ pub fn written_operators_keep_meaning()
 
 /// Reading keeps meaning: at every point of an accepted text and in every model, each live assertion's term and each
 /// literal has the value and the sort that its form means, where nothing is put in the place of anything else; and each is
-/// a well-sorted truth value.
+/// a well-sorted truth value. Everywhere, the same is true of all terms that the text asserts, live at a point or not, and
+/// of all literals of its checks.
 pub fn reading_keeps_meaning()
-    ensures { ReadingKeepsMeaning }
+    ensures points { ReadingKeepsMeaning }
+    ensures everywhere { EachTermKeepsMeaning }
 {}
 
 /// The terms that reading gives have clear names: each symbol, where it occurs, is the innermost quantified variable of its

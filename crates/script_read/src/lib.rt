@@ -33,7 +33,7 @@ pub use faults::{Refusal, ScriptFault};
 pub use laws::{
     names_left_are_new, read_terms_are_clear, reading_answers, reading_binds_names,
     reading_gives_a_printable_script, reading_keeps_meaning, terms_and_forms_agree,
-    written_operators_keep_meaning,
+    written_operators_keep_meaning, written_tokens_are_read,
 };
 pub use reader::read_script;
 pub use scripts::{Command, Commands, Script, checks};

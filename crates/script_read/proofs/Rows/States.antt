@@ -8,7 +8,7 @@ use Rattle.script_read.specs.Outlines.{supported}
 use Rattle.smt_terms.specs.declared.op.Op.TheVariants.{Equal, Lt, BvUlt, Not}
 use Rattle.smt_terms.specs.Sorts.{Symbol, bool, int, bit_vector, free_sort}
 use Rattle.smt_terms.specs.Term.{constant}
-use Rattle.script_read.specs.Commands.{checked, assumed, ended, Signature, kinds, live, literals, signature, checks}
+use Rattle.script_read.specs.Commands.{checked, assumed, ended, Signature, kinds, live, literals, signature, checks, all_asserted, all_assumed}
 use Rattle.script_read.specs.Scenes.{forms_script}
 use Rattle.script_read.proofs.Rows.Given.{read_as, texts_of, symbol_named, constant_named, whole, bits, over_one, over_two, call}
 
@@ -228,3 +228,32 @@ locally_at_3 = refl
 locally_live_at_3 : live (read_as local_in_turn) 3 ≡ []
 unfolding is_command_word is_syntax_word supported is_theory_name is_theory_sort is_reserved_for_declaring is_reserved_for_let is_reserved_for_sorts operator_named written_rank build rank op_eq
 locally_live_at_3 = refl
+
+-- ---- all that is asserted and assumed, of which no assertion is live at a check or at the end
+
+abbrev dropped : List ℕ
+dropped = codes "(declare-fun p () Bool)\n(push 1)\n(assert p)\n(pop 1)\n(check-sat-assuming ((not p) p))\n(check-sat-assuming (p))\n(assert (not p))\n(reset-assertions)\n"
+
+dropped_at_1 : live (read_as dropped) 1 ≡ []
+unfolding is_command_word is_syntax_word supported is_theory_name is_theory_sort is_reserved_for_declaring is_reserved_for_let is_reserved_for_sorts operator_named written_rank build rank op_eq
+dropped_at_1 = refl
+
+dropped_at_end : live (read_as dropped) 3 ≡ []
+unfolding is_command_word is_syntax_word supported is_theory_name is_theory_sort is_reserved_for_declaring is_reserved_for_let is_reserved_for_sorts operator_named written_rank build rank op_eq
+dropped_at_end = refl
+
+dropped_asserted : all_asserted (read_as dropped) ≡ constant p ∷ over_one Not (constant p) ∷ []
+unfolding is_command_word is_syntax_word supported is_theory_name is_theory_sort is_reserved_for_declaring is_reserved_for_let is_reserved_for_sorts operator_named written_rank build rank op_eq
+dropped_asserted = refl
+
+dropped_forms_asserted : texts_of (all_asserted (forms_script dropped)) ≡ codes "p" ∷ codes "(not p)" ∷ []
+unfolding is_command_word is_syntax_word supported is_theory_name is_theory_sort is_reserved_for_declaring is_reserved_for_let is_reserved_for_sorts operator_named written_rank build rank op_eq
+dropped_forms_asserted = refl
+
+dropped_assumed : all_assumed (read_as dropped) ≡ over_one Not (constant p) ∷ constant p ∷ constant p ∷ []
+unfolding is_command_word is_syntax_word supported is_theory_name is_theory_sort is_reserved_for_declaring is_reserved_for_let is_reserved_for_sorts operator_named written_rank build rank op_eq
+dropped_assumed = refl
+
+dropped_forms_assumed : texts_of (all_assumed (forms_script dropped)) ≡ codes "(not p)" ∷ codes "p" ∷ codes "p" ∷ []
+unfolding is_command_word is_syntax_word supported is_theory_name is_theory_sort is_reserved_for_declaring is_reserved_for_let is_reserved_for_sorts operator_named written_rank build rank op_eq
+dropped_forms_assumed = refl

@@ -1,4 +1,4 @@
-use Rattle.std.proofs.Common.{◌≡◌, ℕ, ◌+◌, ◌<◌, List, [], length, ap, sym, ◌∙◌, arith}
+use Rattle.std.proofs.Common.{ℕ, ◌+◌, ◌<◌, List, [], length, ap, sym, ◌∙◌, arith}
 use Rattle.smt_lex.specs.Lex.{Token}
 use Rattle.smt_lex.specs.Forest.{rest_at}
 use Rattle.script_read.proofs.TextNames.{names_left, names_next, names_at_start}

@@ -5,7 +5,7 @@ pub returns : goal.returns
 returns c = keeps_promise (record {
   answers = c.reading_answers.ensures;
   points = c.terms_and_forms_agree.ensures.points;
-  meaning = c.reading_keeps_meaning.ensures;
+  meaning = c.reading_keeps_meaning.ensures.points;
   printable = c.reading_gives_a_printable_script.ensures;
   names = c.names_left_are_new.ensures;
   kept = c.passes_keep_commands.ensures.list;
