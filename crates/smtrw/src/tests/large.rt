@@ -202,13 +202,7 @@ const SHARED: &str = "(declare-fun p () Bool)
 (assert (let ((.def_0 (or p a))) (let ((.def_1 (or p b))) (let ((.def_2 (and .def_0 .def_1))) (let ((.def_3 (or .def_2 a))) ";
 
 /// Brings a script into negation normal form, as a dag, and tells whether what is written begins and ends so.
-fn sends(
-    rt: &impl Abort,
-    alloc: Global,
-    script: &str,
-    begin: &str,
-    end: &str,
-) -> Result<(), Fail> {
+fn sends(rt: &impl Abort, alloc: Global, script: &str, begin: &str, end: &str) -> Result<(), Fail> {
     let mut inputs = input_of(alloc, script.as_bytes(), 65_536)?;
     let mut out = MemSink::new(alloc, 65_536, ROOM)?;
     let mut err = MemSink::new(alloc, 65_536, ROOM)?;
