@@ -1,18 +1,22 @@
 -- The names of a text, token by token.
-use Rattle.std.proofs.Common.{◌≡◌, ℕ, zero, suc, ◌+◌, ◌<◌, ◌≤◌, inl, inr, Bool, true, false, not, cond, List, [], ◌∷◌, ◌++◌, length, None, Some, if◌then◌else◌, refl, ap, sym, ◌∙◌, arith, ◌&&◌, ◌==◌, true≢false}
+use Rattle.std.proofs.Common.{◌≡◌, ℕ, zero, suc, ◌+◌, ◌<◌, ◌≤◌, inl, inr, Bool, true, false, not, cond, List, [], ◌∷◌, ◌++◌, length, None, Some, if◌then◌else◌, refl, ap, sym, ◌∙◌, arith, ◌&&◌, ◌||◌, ◌==◌, true≢false, append-nil}
 use Rattle.std.proofs.lemmas.List.{drop_more, drop_all}
+use Rattle.std.proofs.lemmas.List.Elements.{filter-append}
 use Rattle.std.proofs.lemmas.Bool.Decides.{eqb_tells}
 use Rattle.smt_lex.specs.declared.items.Item.{Item}
 use Rattle.smt_lex.specs.declared.items.Item.TheVariants.{Left, Right, Numeral, Decimal, Hex, Bin, Text, Word, Quoted, Keyword}
 use Rattle.smt_lex.specs.Lex.{Token, symbol_by, symbol_of}
-use Rattle.smt_lex.specs.Names.{Name}
+use Rattle.smt_lex.specs.Names.{Name, is_among}
 use Rattle.smt_lex.specs.Forms.{Forms, is_right, depth_after, before, rest}
 use Rattle.smt_lex.specs.Forest.{no_token, token_at, items, rest_at, closes, IsBalanced}
 use Rattle.smt_terms.specs.Free.{name_among}
-use Rattle.smt_terms.specs.Fresh.{Supply}
-use Rattle.term_subst.specs.Names.{with_name as with_name_held}
+use Rattle.smt_terms.specs.Equal.{name_eq}
+use Rattle.smt_terms.specs.Fresh.{Supply, numbered_name}
+use Rattle.smt_terms.proofs.Equal.{name_same}
+use Rattle.term_subst.specs.Names.{with_name as with_name_held, begins_as_drawn, AgreeOnNumbered}
 use Rattle.script_read.specs.Places.{SparesText, forms_from}
 use Rattle.script_read.specs.Script.{with_name, names_with_all}
+use Rattle.script_read.specs.DrawnNames.{drawn_among, KeepsWith}
 use Rattle.script_read.proofs.NameFacts.{among_alike, among_new, kept_by_forms}
 
 sure_left : (a b : Bool) → (a && b) ≡ true → a ≡ true
@@ -91,19 +95,44 @@ names_at_start ts ns matched = ap (names_around (names_with_all ns (rest ts).0))
 
 -- ---- the set that the code holds
 
-pub with_name_alike : (ns : List Name) (n : Name) → with_name_held ns n ≡ with_name ns (Some n)
-with_name_alike ns n = ap (λ b. cond b ns (ns ++ n ∷ [])) (sym (among_alike ns n))
+among_drawn : (ns : List Name) (n : Name) → begins_as_drawn n ≡ true → name_among (drawn_among ns) n ≡ name_among ns n
+among_drawn [] n drawn = refl
+among_drawn (m ∷ ns) n drawn = by (begins_as_drawn m) refl (among_drawn ns n drawn)
+  where
+    apart : (b : Bool) → name_eq m n ≡ b → begins_as_drawn m ≡ false → b ≡ false
+    apart true e not_drawn = absurd (true≢false (sym drawn ∙ ap begins_as_drawn (sym (name_same m n e)) ∙ not_drawn))
+    apart false e not_drawn = refl
 
--- a word that is there, reserved or not
-pub word_there : (ns : List Name) (n : Name) (reserved : Bool) → name_among ns n ≡ true → ns ≡ with_name ns (if reserved then None else Some n)
-word_there ns n true among = refl
-word_there ns n false among = ap (λ b. cond b ns (ns ++ n ∷ [])) (sym (among_alike ns n ∙ among))
+    by : (b : Bool) → begins_as_drawn m ≡ b → name_among (drawn_among ns) n ≡ name_among ns n
+        → name_among (cond b (m ∷ drawn_among ns) (drawn_among ns)) n ≡ (name_eq m n || name_among ns n)
+    by true e below = ap (λ b. name_eq m n || b) below
+    by false e below = below ∙ sym (ap (λ b. b || name_among ns n) (apart (name_eq m n) refl e))
 
-pub word_reserved : (ns : List Name) (n : Name) (reserved : Bool) → reserved ≡ true → ns ≡ with_name ns (if reserved then None else Some n)
-word_reserved ns n reserved is = rw is refl
+pub drawn_agree : (ns : List Name) → AgreeOnNumbered (drawn_among ns) ns
+drawn_agree ns i = among_drawn ns (numbered_name i) refl
 
-pub word_added : (ns : List Name) (n : Name) (reserved : Bool) → reserved ≡ false → with_name_held ns n ≡ with_name ns (if reserved then None else Some n)
-word_added ns n reserved is = rw is (with_name_alike ns n)
+drawn_with : (ns : List Name) (n : Name) (kept : Bool) → begins_as_drawn n ≡ kept → (there : Bool)
+    → cond there (drawn_among ns) (drawn_among ns ++ cond kept (n ∷ []) []) ≡ drawn_among (cond there ns (ns ++ n ∷ []))
+drawn_with ns n kept is true = refl
+drawn_with ns n kept is false = sym (filter-append begins_as_drawn ns (n ∷ []) ∙ ap (λ b. drawn_among ns ++ cond b (n ∷ []) []) is)
+
+pub name_kept : (old new : List Name) (n : Name) → begins_as_drawn n ≡ true → new ≡ with_name_held old n → KeepsWith old (Some n) new
+name_kept old new n drawn is ns held =
+    is ∙ ap (λ ks. with_name_held ks n) held
+    ∙ ap (λ b. cond b (drawn_among ns) (drawn_among ns ++ n ∷ [])) (among_drawn ns n drawn ∙ sym (among_alike ns n)) ∙ drawn_with ns n true drawn (is_among ns n)
+
+pub name_left : (old : List Name) (n : Name) → begins_as_drawn n ≡ false → KeepsWith old (Some n) old
+name_left old n not_drawn ns held = held ∙ by (is_among ns n) ∙ drawn_with ns n false not_drawn (is_among ns n)
+  where
+    by : (b : Bool) → drawn_among ns ≡ cond b (drawn_among ns) (drawn_among ns ++ [])
+    by true = refl
+    by false = sym (append-nil (drawn_among ns))
+
+pub word_kept : (old new : List Name) (n : Name) (reserved : Bool) → reserved ≡ false → KeepsWith old (Some n) new → KeepsWith old (if reserved then None else Some n) new
+word_kept old new n reserved is kept = rw is kept
+
+pub word_left : (old : List Name) (n : Name) (reserved : Bool) → reserved ≡ true → KeepsWith old (if reserved then None else Some n) old
+word_left old n reserved is = rw is (λ ns held. held)
 
 -- ---- each symbol of the text is among its names
 

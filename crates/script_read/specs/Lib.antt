@@ -12,6 +12,7 @@ pub mod Read
 pub mod Commands
 pub mod Outlines
 pub mod Script
+pub mod DrawnNames
 pub mod Mean
 pub mod Scenes
 pub mod Satisfied

@@ -13,7 +13,7 @@ use crate::faults::{Fault, ReadFault, Refusal, ScriptFault};
 use crate::places::begins;
 use crate::scripts::{Command, Commands, Script};
 use crate::session::{Session, read_command};
-use crate::text_names::names_in;
+use crate::text_names::fresh_beside;
 use smt_lex::{Forest, line_of};
 use std::alloc::{AllocError, Global};
 use term_subst::Fresh;
@@ -32,8 +32,8 @@ pub fn read_script(
     ensures commands { IfOk result (λ r. AreCommandsOf table.new r.0.commands) }
     ensures grows { GrowsTo table.old table.new }
 {
-    let names = names_in(alloc, forest)?;
-    let mut session = Session::new(alloc, Fresh::new(alloc, names));
+    let names = fresh_beside(alloc, forest)?;
+    let mut session = Session::new(alloc, names);
     make_room(table, forest);
     let commands = read_commands(alloc, table, forest, &mut session)?;
     Ok((Script { commands }, session.into_names()))

@@ -5,15 +5,32 @@ ghost use Rattle.smt_lex.specs.Lex.{symbol_of};
 ghost use Rattle.smt_lex.specs.Names.{is_reserved};
 ghost use Rattle.smt_lex.specs.Forest.{token_at};
 ghost use Rattle.script_read.specs.Places.{forms_from};
-ghost use Rattle.script_read.specs.Script.{with_name, names_with_all};
+ghost use Rattle.script_read.specs.Script.{names_with_all, fresh};
+ghost use Rattle.script_read.specs.DrawnNames.{drawn_among, KeepsWith};
 
 use smt_lex::{Forest, Item, is_reserved};
 use std::alloc::{AllocError, Global};
-use term_subst::NameSet;
+use term_subst::{Fresh, NameSet, NotedNames, begins_as_drawn};
 
-/// The symbols of a text, each once, in the order of their first places.
-pub fn names_in(alloc: Global, forest: &Forest) -> Result<NameSet, AllocError>
-    ensures { IfOk result (λ names. names ≡ names_with_all [] (forms_from forest.now.tokens 0)) }
+/// The names to draw beside a text, which are no symbols of it. Memory is taken for those symbols alone that begin as
+/// names that are drawn.
+pub fn fresh_beside(alloc: Global, forest: &Forest) -> Result<Fresh, AllocError>
+    ensures { IfOk result (λ names. names ≡ fresh (forms_from forest.now.tokens 0)) }
+{
+    let names = names_in(alloc, forest)?;
+    Ok(Fresh::beside(alloc, noted_in(forest), names))
+}
+
+// The symbols of a text, each once, in the order of their first places.
+fn noted_in(_forest: &Forest) -> NotedNames
+    ensures { result.names ≡ names_with_all [] (forms_from _forest.now.tokens 0) }
+{
+    NotedNames {}
+}
+
+// Those of them that begin as names that are drawn.
+fn names_in(alloc: Global, forest: &Forest) -> Result<NameSet, AllocError>
+    ensures { IfOk result (λ names. names ≡ drawn_among (names_with_all [] (forms_from forest.now.tokens 0))) }
 {
     let mut names = NameSet::new(alloc);
     for token in 0..forest.len() {
@@ -25,24 +42,31 @@ pub fn names_in(alloc: Global, forest: &Forest) -> Result<NameSet, AllocError>
 // Adds the symbol that token `i` is, without bars, if it is one.
 fn add_symbol(names: &mut NameSet, forest: &Forest, i: usize) -> Result<(), AllocError>
     requires { i < length forest.now.tokens }
-    ensures { OnOk result (names.new ≡ with_name names.old (symbol_of (token_at forest.now.tokens i))) }
+    ensures { OnOk result (KeepsWith names.old (symbol_of (token_at forest.now.tokens i)) names.new) }
 {
     match forest.item(i) {
         Item::Word => add_word(names, forest.text(i)),
-        Item::Quoted => names.add(forest.name(i)),
+        Item::Quoted => add_name(names, forest.name(i)),
         _ => Ok(()),
     }
 }
 
-// Adds a word, where it is no reserved one. A word that is there needs no test.
+// Adds a word, where it is no reserved one.
 fn add_word(names: &mut NameSet, word: &[u8]) -> Result<(), AllocError>
-    ensures { OnOk result (names.new ≡ with_name names.old (if is_reserved word.now then None else Some word.now)) }
+    ensures { OnOk result (KeepsWith names.old (if is_reserved word.now then None else Some word.now) names.new) }
 {
-    if names.has(word) {
-        return Ok(());
+    if begins_as_drawn(word) && !is_reserved(word) {
+        return names.add(word);
     }
-    if is_reserved(word) {
-        return Ok(());
+    Ok(())
+}
+
+// Adds a name, where it begins as those that are drawn.
+fn add_name(names: &mut NameSet, name: &[u8]) -> Result<(), AllocError>
+    ensures { OnOk result (KeepsWith names.old (Some name.now) names.new) }
+{
+    if begins_as_drawn(name) {
+        return names.add(name);
     }
-    names.add(word)
+    Ok(())
 }

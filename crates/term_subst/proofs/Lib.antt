@@ -11,6 +11,7 @@ pub mod NamesFound
 pub mod NamesHeld
 pub mod NodesFound
 pub mod NodesMade
+pub mod NotedSteps
 pub mod Numbered
 pub mod Paired
 pub mod Renamed

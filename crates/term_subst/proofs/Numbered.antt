@@ -1,15 +1,17 @@
 -- Names that are made of digits, and the search for one that isn't taken.
-use Rattle.std.proofs.Common.{◌≡◌, ℕ, zero, suc, ◌+◌, ◌-◌, ◌/◌, ◌%◌, ◌<◌, ◌==◌, nat_lt, Bool, true, false, not, ◌&&◌, List, [], ◌∷◌, ◌++◌, length, reverse, refl, ap, sym, ◌∙◌, arith}
-use Rattle.std.proofs.lemmas.Bool.{ltb-true, ne_eqb}
+use Rattle.std.proofs.Common.{◌≡◌, ℕ, zero, suc, ◌+◌, ◌/◌, ◌%◌, ◌<◌, ◌≤◌, ◌==◌, nat_lt, Bool, true, false, not, ◌&&◌, List, [], ◌∷◌, ◌++◌, length, reverse, refl, ap, sym, ◌∙◌, true≢false, arith}
+use Rattle.std.proofs.lemmas.Bool.{ltb-true, ltb-false, ne_eqb}
 use Rattle.std.proofs.lemmas.List.{reverse-reverse, reverse-append}
 use Rattle.std.proofs.Math.Nat.{mod-lt}
 use Rattle.smt_terms.specs.Sorts.{Name}
 use Rattle.smt_terms.specs.Free.{name_among}
-use Rattle.smt_terms.specs.Fresh.{numbered_name, free_number}
+use Rattle.smt_terms.specs.Fresh.{Supply, numbered_name, next_number}
 use Rattle.smt_terms.specs.Numeral.{digits_before, numeral}
+use Rattle.smt_terms.proofs.Fresh.{next-least, next_name-free}
 use Rattle.smt_terms.proofs.Tests.{and_true}
 use Rattle.smt_values.specs.SortIds.{is_plain}
 use Rattle.term_subst.specs.Counters.{value, digits_of, AreDigits, one_more}
+use Rattle.term_subst.specs.Names.{AgreeOnNumbered}
 use Rattle.term_subst.proofs.Digits.{low, digits-low, value-digits_of, one_more-digits}
 
 some-low : (r n : ℕ) → 0 < length (low (suc r) n)
@@ -32,18 +34,26 @@ named-some ds (suc n) some e =
 
 -- ---- the search
 
-pub number-taken : (taken : List Name) (room n : ℕ) → name_among taken (numbered_name n) ≡ true → free_number taken (suc room) n ≡ free_number taken room (suc n)
-number-taken taken room n h = ap (λ b. elim b as (λ _. ℕ) [ true ↦ free_number taken room (suc n) | false ↦ n ]) h
+-- a set that agrees with the names of the supply tells whether a number that the search has come to is the next one
+module _ (s : Supply) (ms : List Name) (n : ℕ) (agree : AgreeOnNumbered ms s.taken) (upto : n ≤ next_number s) where
+  pub number-found : s.number ≤ n → name_among ms (numbered_name n) ≡ false → n ≡ next_number s
+  number-found from free = by (nat_lt n (next_number s)) refl
+    where
+      by : (b : Bool) → nat_lt n (next_number s) ≡ b → n ≡ next_number s
+      by true e =
+          let taken : name_among s.taken (numbered_name n) ≡ true = next-least s n from (ltb-true n (next_number s) e) in
+          absurd (true≢false (sym taken ∙ sym (agree n) ∙ free))
+      by false e = let back : next_number s ≤ n = ltb-false n (next_number s) e in omega arith
 
-pub number-free : (taken : List Name) (room n : ℕ) → name_among taken (numbered_name n) ≡ false → free_number taken room n ≡ n
-number-free taken zero n h = refl
-number-free taken (suc room) n h = ap (λ b. elim b as (λ _. ℕ) [ true ↦ free_number taken room (suc n) | false ↦ n ]) h
-
-pub next-skips : (taken : List Name) (skipped n next : ℕ) → skipped < length taken → name_among taken (numbered_name n) ≡ true
-    → free_number taken (length taken - skipped) n ≡ next → free_number taken (length taken - (skipped + 1)) (suc n) ≡ next
-next-skips taken skipped n next h t e =
-    let room : length taken - skipped ≡ suc (length taken - (skipped + 1)) = omega arith in
-    sym (number-taken taken (length taken - (skipped + 1)) n t) ∙ ap (λ r. free_number taken r n) (sym room) ∙ e
+  pub number-skipped : name_among ms (numbered_name n) ≡ true → suc n ≤ next_number s
+  number-skipped taken = by (nat_lt n (next_number s)) refl
+    where
+      by : (b : Bool) → nat_lt n (next_number s) ≡ b → suc n ≤ next_number s
+      by true e = let less : n < next_number s = ltb-true n (next_number s) e in omega arith
+      by false e =
+          let back : next_number s ≤ n = ltb-false n (next_number s) e in
+          let at : n ≡ next_number s = omega arith in
+          absurd (true≢false (sym taken ∙ agree n ∙ ap (λ k. name_among s.taken (numbered_name k)) at ∙ next_name-free s))
 
 -- ---- digits one after the other
 

@@ -5,8 +5,9 @@ ghost use Rattle.smt_terms.specs.Fresh.{Supply, numbered_name, next_number, afte
 ghost use Rattle.smt_values.specs.SortIds.{IsSortId, sort_at};
 ghost use Rattle.term_table.specs.Formulas.{IsSymbol, symbol_at, Adds, GrowsByOne};
 ghost use Rattle.term_subst.specs.Counters.{digits_of, one_more};
+ghost use Rattle.term_subst.specs.Names.{AgreeOnNumbered, begins_as_drawn};
 
-use crate::NameSet;
+use crate::{NameSet, NotedNames};
 use smt_terms::SymId;
 use smt_values::SortId;
 use std::alloc::{AllocError, Global};
@@ -17,6 +18,8 @@ use term_table::Table;
 #[derive(Drop)]
 pub struct Fresh {
     alloc: Global,
+    // the names that are taken, and a set that has those of them which could be drawn
+    noted: NotedNames,
     taken: NameSet,
     // the next number, its lowest digit first
     digits: Vec<u8>,
@@ -24,16 +27,16 @@ pub struct Fresh {
 
 impl Model for Fresh {
     ghost use Rattle.smt_terms.specs.Fresh.{Supply};
-    ghost use Rattle.term_subst.specs.Names.{coded_supply};
+    ghost use Rattle.term_subst.specs.Names.{coded_supply, AgreeOnNumbered};
     ghost use Rattle.term_subst.specs.Counters.{value, AreDigits};
 
     ghost Value = { Supply };
 
     ghost coded = { coded_supply };
 
-    ghost view = { λ f. record { taken = f.taken; number = value f.digits.items } };
+    ghost view = { λ f. record { taken = f.noted.names; number = value f.digits.items } };
 
-    ghost invariant = { λ f. AreDigits f.digits.items };
+    ghost invariant = { λ f. AreDigits f.digits.items × AgreeOnNumbered f.taken f.noted.names };
 }
 
 impl Fresh {
@@ -41,9 +44,20 @@ impl Fresh {
     pub fn new(alloc: Global, names: NameSet) -> Fresh
         ensures { result ≡ record { taken = names; number = 0 } }
     {
+        let noted = NotedNames::of(&names);
+        Fresh::beside(alloc, noted, names)
+    }
+
+    /// The names that aren't noted, from `FV0` on. The set has those of the noted names which could be drawn, and takes the
+    /// only memory.
+    pub fn beside(alloc: Global, noted: NotedNames, taken: NameSet) -> Fresh
+        requires { AgreeOnNumbered taken noted.names }
+        ensures { result ≡ record { taken = noted.names; number = 0 } }
+    {
         Fresh {
             alloc,
-            taken: names,
+            noted,
+            taken,
             digits: Vec::new(alloc),
         }
     }
@@ -76,6 +90,7 @@ impl Fresh {
     {
         Ok(Fresh {
             alloc: self.alloc,
+            noted: self.noted.copy(),
             taken: self.taken.copy()?,
             digits: Vec::from_slice(self.alloc, &self.digits)?,
         })
@@ -85,15 +100,20 @@ impl Fresh {
         ensures { IfOk result (λ ds. ds.items ≡ digits_of (next_number self.now)) }
     {
         let mut digits = Vec::from_slice(self.alloc, &self.digits)?;
-        for skipped in 0..self.taken.len() {
-            let name = numbered(self.alloc, &digits)?;
-            if !self.taken.has(&name) {
-                return Ok(digits);
-            }
+        let mut name = numbered(self.alloc, &digits)?;
+        while self.taken.has(&name) {
             count(&mut digits)?;
+            name = numbered(self.alloc, &digits)?;
         }
         Ok(digits)
     }
+}
+
+/// Whether a name begins as each one does that is drawn.
+pub fn begins_as_drawn(name: &[u8]) -> bool
+    ensures { result ≡ begins_as_drawn name.now }
+{
+    name.starts_with(b"FV")
 }
 
 fn numbered(alloc: Global, digits: &[u8]) -> Result<Vec<u8>, AllocError>

@@ -12,13 +12,15 @@ mod machine;
 pub mod maps;
 pub mod names;
 mod nodes;
+pub mod noted;
 mod renaming;
 mod stack;
 pub mod substitution;
 mod survey;
 mod todo;
 
-pub use fresh::Fresh;
+pub use fresh::{Fresh, begins_as_drawn};
 pub use maps::{Definition, Group, SymMap, SymPairs};
 pub use names::NameSet;
+pub use noted::NotedNames;
 pub use substitution::{expand, substitute};

@@ -1,6 +1,6 @@
 //! Sets of names.
 
-ghost use Rattle.std.specs.Prelude.{◌≡◌, [], length, OnOk, OnErr, IfOk};
+ghost use Rattle.std.specs.Prelude.{◌≡◌, [], OnOk, OnErr, IfOk};
 ghost use Rattle.smt_terms.specs.Free.{name_among};
 ghost use Rattle.term_subst.specs.Names.{with_name};
 
@@ -54,13 +54,6 @@ impl NameSet {
         ensures { result ≡ name_among self.now name.now }
     {
         self.names.contains(name)
-    }
-
-    // The number of names.
-    pub(crate) fn len(&self) -> usize
-        ensures { result ≡ length self.now }
-    {
-        self.names.len()
     }
 
     // A second set of the same names.

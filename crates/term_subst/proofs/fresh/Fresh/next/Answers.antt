@@ -16,7 +16,7 @@ invariant_of-self c =
     let n = next_number c.args.self.now in
     let ds = c.in_ok-digits.digits.items in
     let digits : AreDigits ds = c.in_ok-digits.ensures ∙ digits_of-AreDigits n ∙ ap (λ l. digits_of (value l)) (sym c.in_ok-digits.ensures) in
-    (counted ds c.count.new.digits.items digits c.in_ok-count.ensures).1
+    ((counted ds c.count.new.digits.items digits c.in_ok-count.ensures).1, c.self.invariant.1)
 
 pub returns-clause-left : goal.returns-clause-left
 returns-clause-left c =
