@@ -1,5 +1,5 @@
 -- The names of a text, token by token.
-use Rattle.std.proofs.Common.{◌≡◌, ℕ, zero, suc, ◌+◌, ◌<◌, ◌≤◌, inl, inr, Bool, true, false, not, cond, List, [], ◌∷◌, ◌++◌, length, None, Some, if◌then◌else◌, refl, ap, sym, ◌∙◌, arith, ◌&&◌, ◌||◌, ◌==◌, true≢false, append-nil}
+use Rattle.std.proofs.Common.{◌≡◌, ℕ, zero, suc, ◌+◌, ◌<◌, ◌≤◌, inl, inr, Bool, true, false, not, cond, List, [], ◌∷◌, ◌++◌, length, None, Some, if◌then◌else◌, refl, ap, sym, ◌∙◌, arith, ◌&&◌, ◌||◌, ◌==◌, true≢false}
 use Rattle.std.proofs.lemmas.List.{drop_more, drop_all}
 use Rattle.std.proofs.lemmas.List.Elements.{filter-append}
 use Rattle.std.proofs.lemmas.Bool.Decides.{eqb_tells}
@@ -111,28 +111,18 @@ among_drawn (m ∷ ns) n drawn = by (begins_as_drawn m) refl (among_drawn ns n d
 pub drawn_agree : (ns : List Name) → AgreeOnNumbered (drawn_among ns) ns
 drawn_agree ns i = among_drawn ns (numbered_name i) refl
 
-drawn_with : (ns : List Name) (n : Name) (kept : Bool) → begins_as_drawn n ≡ kept → (there : Bool)
-    → cond there (drawn_among ns) (drawn_among ns ++ cond kept (n ∷ []) []) ≡ drawn_among (cond there ns (ns ++ n ∷ []))
-drawn_with ns n kept is true = refl
-drawn_with ns n kept is false = sym (filter-append begins_as_drawn ns (n ∷ []) ∙ ap (λ b. drawn_among ns ++ cond b (n ∷ []) []) is)
+drawn_with : (ns : List Name) (n : Name) → begins_as_drawn n ≡ true → (there : Bool)
+    → cond there (drawn_among ns) (drawn_among ns ++ n ∷ []) ≡ drawn_among (cond there ns (ns ++ n ∷ []))
+drawn_with ns n drawn true = refl
+drawn_with ns n drawn false = sym (filter-append begins_as_drawn ns (n ∷ []) ∙ ap (λ b. drawn_among ns ++ cond b (n ∷ []) []) drawn)
 
 pub name_kept : (old new : List Name) (n : Name) → begins_as_drawn n ≡ true → new ≡ with_name_held old n → KeepsWith old (Some n) new
 name_kept old new n drawn is ns held =
     is ∙ ap (λ ks. with_name_held ks n) held
-    ∙ ap (λ b. cond b (drawn_among ns) (drawn_among ns ++ n ∷ [])) (among_drawn ns n drawn ∙ sym (among_alike ns n)) ∙ drawn_with ns n true drawn (is_among ns n)
-
-pub name_left : (old : List Name) (n : Name) → begins_as_drawn n ≡ false → KeepsWith old (Some n) old
-name_left old n not_drawn ns held = held ∙ by (is_among ns n) ∙ drawn_with ns n false not_drawn (is_among ns n)
-  where
-    by : (b : Bool) → drawn_among ns ≡ cond b (drawn_among ns) (drawn_among ns ++ [])
-    by true = refl
-    by false = sym (append-nil (drawn_among ns))
+    ∙ ap (λ b. cond b (drawn_among ns) (drawn_among ns ++ n ∷ [])) (among_drawn ns n drawn ∙ sym (among_alike ns n)) ∙ drawn_with ns n drawn (is_among ns n)
 
 pub word_kept : (old new : List Name) (n : Name) (reserved : Bool) → reserved ≡ false → KeepsWith old (Some n) new → KeepsWith old (if reserved then None else Some n) new
 word_kept old new n reserved is kept = rw is kept
-
-pub word_left : (old : List Name) (n : Name) (reserved : Bool) → reserved ≡ true → KeepsWith old (if reserved then None else Some n) old
-word_left old n reserved is = rw is (λ ns held. held)
 
 -- ---- each symbol of the text is among its names
 

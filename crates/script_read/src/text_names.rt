@@ -39,7 +39,7 @@ fn names_in(alloc: Global, forest: &Forest) -> Result<NameSet, AllocError>
     Ok(names)
 }
 
-// Adds the symbol that token `i` is, without bars, if it is one.
+// Adds the symbol that token `i` is, without bars, if it is one and begins so.
 fn add_symbol(names: &mut NameSet, forest: &Forest, i: usize) -> Result<(), AllocError>
     requires { i < length forest.now.tokens }
     ensures { OnOk result (KeepsWith names.old (symbol_of (token_at forest.now.tokens i)) names.new) }
@@ -51,7 +51,7 @@ fn add_symbol(names: &mut NameSet, forest: &Forest, i: usize) -> Result<(), Allo
     }
 }
 
-// Adds a word, where it is no reserved one.
+// Adds a word, where it begins so and is no reserved one.
 fn add_word(names: &mut NameSet, word: &[u8]) -> Result<(), AllocError>
     ensures { OnOk result (KeepsWith names.old (if is_reserved word.now then None else Some word.now) names.new) }
 {
@@ -61,7 +61,7 @@ fn add_word(names: &mut NameSet, word: &[u8]) -> Result<(), AllocError>
     Ok(())
 }
 
-// Adds a name, where it begins as those that are drawn.
+// Adds a name, where it begins so.
 fn add_name(names: &mut NameSet, name: &[u8]) -> Result<(), AllocError>
     ensures { OnOk result (KeepsWith names.old (Some name.now) names.new) }
 {

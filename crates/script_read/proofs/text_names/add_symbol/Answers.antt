@@ -1,9 +1,9 @@
-use Rattle.std.proofs.Common.{None, Some, if◌then◌else◌, ap, sym, subst, ◌∙◌, Option}
+use Rattle.std.proofs.Common.{None, Some, if◌then◌else◌, ap, sym, ◌∙◌, Option}
 use Rattle.std.proofs.lemmas.Result.{on_ok_weaker}
 use Rattle.smt_lex.specs.Forest.{token_at}
 use Rattle.smt_lex.specs.Lex.{symbol_by}
 use Rattle.smt_lex.specs.Names.{Name, is_reserved}
-use Rattle.script_read.specs.DrawnNames.{KeepsWith, drawn_among}
+use Rattle.script_read.specs.DrawnNames.{drawn_among}
 use Rattle.script_read.specs.Script.{with_name}
 use Rattle.script_read.proofs.Placing.{symbol_quoted, no_symbol_of}
 use Rattle.script_read.proofs.text_names.add_symbol.Goals as goal

@@ -1,4 +1,4 @@
-use Rattle.std.proofs.Common.{ℕ, ◌+◌, ◌<◌, ◌≤◌, List, [], length, ap, sym, ◌∙◌, arith}
+use Rattle.std.proofs.Common.{ℕ, ◌<◌, ◌≤◌, List, [], length, ap, sym, ◌∙◌, arith}
 use Rattle.smt_lex.specs.Lex.{Token, symbol_of}
 use Rattle.smt_lex.specs.Forest.{token_at}
 use Rattle.script_read.specs.DrawnNames.{drawn_among}
