@@ -1,6 +1,6 @@
 //! Results that are kept.
 
-ghost use Rattle.std.specs.Prelude.{◌≡◌, [], OnOk, IfOk, map};
+ghost use Rattle.std.specs.Prelude.{◌≡◌, [], OnOk, OnErr, IfOk, map};
 ghost use Rattle.quantifier_forms.specs.Memos.{result_in, known_in, Sets};
 
 use indexmap::IndexMap;
@@ -55,9 +55,10 @@ impl Memo {
         self.get(version, node).unwrap_or(node)
     }
 
-    /// Keeps the result of a node in a version.
+    /// Keeps the result of a node in a version. Where it is refused, all is as before.
     pub fn set(&mut self, version: usize, node: NodeId, value: NodeId) -> Result<(), AllocError>
-        ensures { OnOk result (Sets self.old self.new version node value) }
+        ensures ok { OnOk result (Sets self.old self.new version node value) }
+        ensures err { OnErr result (self.new ≡ self.old) }
     {
         self.results.insert(Site { version, node }, value)?;
         Ok(())

@@ -12,10 +12,10 @@ returns-then-stays-clause-done c =
 
 pub returns-clause-exchanged : goal.returns-clause-exchanged
 returns-clause-exchanged c =
-    sets-exchanged c.args.table.now c.exchanged.new.table c.args.exchange c.args.memo.now c.set.new.self c.args.id c.in_ok-result.result c.in_ok-result.ensures.grows c.requires.exchange c.requires.exchanged c.in_ok-result.ensures.exchanged c.in_ok-set.ensures
+    sets-exchanged c.args.table.now c.exchanged.new.table c.args.exchange c.args.memo.now c.set.new.self c.args.id c.in_ok-result.result c.in_ok-result.ensures.grows c.requires.exchange c.requires.exchanged c.in_ok-result.ensures.exchanged c.in_ok-set.ensures.ok
 
 pub returns-clause-done : goal.returns-clause-done
-returns-clause-done c = set-known c.exchanged.new.table c.args.exchange c.args.memo.now c.set.new.self c.args.id c.in_ok-result.result c.in_ok-result.ensures.exchanged c.in_ok-set.ensures
+returns-clause-done c = set-known c.exchanged.new.table c.args.exchange c.args.memo.now c.set.new.self c.args.id c.in_ok-result.result c.in_ok-result.ensures.exchanged c.in_ok-set.ensures.ok
 
 pub returns-clause-others : goal.returns-clause-others
-returns-clause-others c k apart = c.in_ok-set.ensures.others 0 k (λ v same. apart same)
+returns-clause-others c k apart = c.in_ok-set.ensures.ok.others 0 k (λ v same. apart same)
