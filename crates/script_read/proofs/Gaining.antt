@@ -20,7 +20,7 @@ use Rattle.script_read.specs.Heads.{Callee as CalleeOf, array_of_sort, called, d
 use Rattle.script_read.specs.Read.{Context, read, read_all, read_bindings, with_local, quantified_over}
 use Rattle.script_read.specs.Known.{IsDefinition, IsSpared, AreSpared, no_definition, parameter_sorts, IsConstant}
 use Rattle.script_read.specs.Bound.{LocalNames, variable_for, variables_of, name_at}
-use Rattle.script_read.specs.Waiting.{World, Gains, ShowsCallee, Stands, Waits, AllWait, Later, list_of, bound_by, name_with_term, names_with_terms, reversed_names}
+use Rattle.script_read.specs.Waiting.{World, Gains, ShowsCallee, Stands, Waits, AllWait, Later, Stacks, list_of, below, name_with_term, names_with_terms, reversed_names}
 use Rattle.script_read.specs.Quantifiers.{quantifier_of}
 use Rattle.script_read.specs.Places.{forms_from, form_from}
 use Rattle.script_read.proofs.Grown.{tree_stays, trees_stay, symbol_within, symbol_stays, sort_within, sort_stays, never_later, same_map}
@@ -78,22 +78,26 @@ module _ (ts : List Token) (defines : Option Name) (v w : World) (gains : Gains 
   variables_still cs are = same_map (λ c. variable_for (symbol_at w.table c.symbol)) (λ c. variable_for (symbol_at v.table c.symbol)) cs
       (All-weaker (IsConstant v.table v.supply) _ (λ c is. ap variable_for (symbol_stays v.table w.table gains.table c.symbol is.symbol)) cs are)
 
-  waits_still : All (IsDefinition v.table v.supply) v.definitions → (f : Frame) (at : ℕ) (locals : LocalNames) (later outer : Later) → Waits ts defines v f at locals later outer → Waits ts defines w f at locals later outer
-  waits_still definitions (Operands f) at locals later outer waits = record {
+  waits_still : All (IsDefinition v.table v.supply) v.definitions → (f : Frame) (at : ℕ) (stacks : Stacks) (later outer : Later) → Waits ts defines v f at stacks later outer → Waits ts defines w f at stacks later outer
+  waits_still definitions (Operands f) at stacks later outer waits = record {
     context = waits.context;
-    stands = stands_still locals waits.context waits.stands;
+    stands = stands_still stacks.locals waits.context waits.stands;
+    callee = waits.callee;
+    callees = waits.callees;
+    innermost = waits.innermost;
+    within = waits.within;
     called = waits.called;
-    shows = callee_stays definitions f.callee waits.called waits.shows;
-    spared = nodes_spared f.kids.items waits.spared;
+    shows = callee_stays definitions waits.callee waits.called waits.shows;
+    spared = nodes_spared (drop f.first stacks.operands) waits.spared;
     place = waits.place;
     next = λ u s. waits.next u s
-        ∙ ap (λ us. ((read_all (forms_from ts at) waits.context >>= λ more. applied waits.called (token_at ts f.list).start (us ++ u ∷ more)) >>= outer) s) (sym (spared_trees f.kids.items waits.spared));
+        ∙ ap (λ us. ((read_all (forms_from ts at) waits.context >>= λ more. applied waits.called (token_at ts f.list).start (us ++ u ∷ more)) >>= outer) s) (sym (spared_trees (drop f.first stacks.operands) waits.spared));
   }
-  waits_still definitions (Binding f) at locals later outer waits = record {
+  waits_still definitions (Binding f) at stacks later outer waits = record {
     context = waits.context;
-    stands = stands_still locals waits.context waits.stands;
+    stands = stands_still stacks.locals waits.context waits.stands;
     bindings = waits.bindings;
-    terms = nodes_spared (map (λ p. p.1) f.names) waits.terms;
+    terms = nodes_spared (map (λ p. p.1) f.names.value) waits.terms;
     own = waits.own;
     new_name = waits.new_name;
     own_name = waits.own_name;
@@ -101,26 +105,26 @@ module _ (ts : List Token) (defines : Option Name) (v w : World) (gains : Gains 
     part_form = waits.part_form;
     body_form = waits.body_form;
     next = λ u s. waits.next u s
-        ∙ ap (λ ps. ((read_bindings (forms_from ts (after_at ts f.part)) (name_at ts (suc f.part) ∷ reversed_names f.names) waits.context >>= λ us.
-        read (form_from ts f.body) (with_local (lets_as waits.bindings (ps ++ (name_at ts (suc f.part), u) ∷ us)) waits.context)) >>= outer) s) (sym (names_still f.names waits.terms));
+        ∙ ap (λ ps. ((read_bindings (forms_from ts (after_at ts f.part)) (name_at ts (suc f.part) ∷ reversed_names f.names.value) waits.context >>= λ us.
+        read (form_from ts f.body) (with_local (lets_as waits.bindings (ps ++ (name_at ts (suc f.part), u) ∷ us)) waits.context)) >>= outer) s) (sym (names_still f.names.value waits.terms));
   }
-  waits_still definitions (Body f) at locals later outer waits = waits
-  waits_still definitions (Quantified f) at locals later outer waits = record {
+  waits_still definitions (Body f) at stacks later outer waits = waits
+  waits_still definitions (Quantified f) at stacks later outer waits = record {
     within = waits.within;
     known = All-weaker (IsConstant v.table v.supply) (IsConstant w.table w.supply) (constant_stays v.table w.table v.supply w.supply gains.table gains.supply) f.constants.items waits.known;
     bindable = ap are_bindable (variables_still f.constants.items waits.known) ∙ waits.bindable;
     next = λ u s. waits.next u s ∙ ap (λ xs. (quantified_over (token_at ts f.list).start (quantifier_of f.quantifier) xs u >>= outer) s) (sym (variables_still f.constants.items waits.known));
   }
-  waits_still definitions (Annotated f) at locals later outer waits = record {
+  waits_still definitions (Annotated f) at stacks later outer waits = record {
     context = waits.context;
-    stands = stands_still locals waits.context waits.stands;
+    stands = stands_still stacks.locals waits.context waits.stands;
     form = waits.form;
     place = waits.place;
     next = waits.next;
   }
 
   -- what all frames do
-  pub all_still : All (IsDefinition v.table v.supply) v.definitions → (fs : List Frame) (at : ℕ) (locals : LocalNames) (later : Later) → AllWait ts defines v fs at locals later → AllWait ts defines w fs at locals later
-  all_still definitions [] at locals later waiting = waiting
-  all_still definitions (f ∷ fs) at locals later waiting =
-      (waiting.0, waiting.1, waits_still definitions f at locals later waiting.0 waiting.2, all_still definitions fs (after_at ts (list_of f)) (drop (bound_by f) locals) waiting.0 waiting.3)
+  pub all_still : All (IsDefinition v.table v.supply) v.definitions → (fs : List Frame) (at : ℕ) (stacks : Stacks) (later : Later) → AllWait ts defines v fs at stacks later → AllWait ts defines w fs at stacks later
+  all_still definitions [] at stacks later waiting = waiting
+  all_still definitions (f ∷ fs) at stacks later waiting =
+      (waiting.0, waiting.1, waits_still definitions f at stacks later waiting.0 waiting.2, all_still definitions fs (after_at ts (list_of f)) (below f stacks) waiting.0 waiting.3)

@@ -1,5 +1,5 @@
 -- Local bindings are found by their places.
-use Rattle.std.proofs.Common.{◌≡◌, ℕ, zero, suc, ◌+◌, ◌<◌, Bool, true, false, cond, ◌||◌, List, [], ◌∷◌, ◌++◌, reverse, length, get_or, drop, Option, Some, None, is_some, IsSome, Result, Ok, Err, OnOk, OnErr, Vec, Global, if◌then◌else◌, refl, ap, sym, ◌∙◌, subst, arith, true≢false}
+use Rattle.std.proofs.Common.{◌≡◌, ℕ, zero, suc, ◌+◌, ◌<◌, Bool, true, false, cond, ◌||◌, List, [], ◌∷◌, ◌++◌, reverse, length, get_or, drop, Option, Some, None, is_some, IsSome, IfSome, Result, Ok, Err, OnOk, OnErr, Bor, if◌then◌else◌, refl, ap, sym, ◌∙◌, subst, arith, true≢false}
 use Rattle.std.proofs.lemmas.List.{reverse-append, reverse-reverse, length-reverse, get_or_append_left}
 use Rattle.std.proofs.lemmas.Slice.Eq.{bytes_eq-Decides}
 use Rattle.std.specs.Str.{bytes_eq}
@@ -50,10 +50,10 @@ pub record IsFound (bs : List Binding) (n : Name) (i : ℕ) (d : Binding) : Type
 
 pub found : (bs : List Binding) (n : Name) (i : ℕ) (d : Binding) → AreLinked bs → place_in bs n ≡ Some i → IsFound bs n i d
 found [] n i d links e = absurd (true≢false (sym (ap is_some e)))
-found (b ∷ bs) n i d links e = by (name_eq b.name.items n) refl e (found bs n i d links.2)
+found (b ∷ bs) n i d links e = by (name_eq b.name.now n) refl e (found bs n i d links.2)
   where
-    its_own : name_eq b.name.items n ≡ true → b.is_quantified ≡ (is_quantified_local b.local || quantified_among (names_bound bs) n)
-    its_own h = links.1 ∙ ap (λ m. is_quantified_local b.local || quantified_among (names_bound bs) m) (name_same b.name.items n h)
+    its_own : name_eq b.name.now n ≡ true → b.is_quantified ≡ (is_quantified_local b.local || quantified_among (names_bound bs) n)
+    its_own h = links.1 ∙ ap (λ m. is_quantified_local b.local || quantified_among (names_bound bs) m) (name_same b.name.now n h)
 
     here : (q r : Bool) → (if q then (true || r) else r) ≡ (q || r)
     here true r = refl
@@ -63,7 +63,7 @@ found (b ∷ bs) n i d links e = by (name_eq b.name.items n) refl e (found bs n 
     there true r = refl
     there false r = refl
 
-    by : (t : Bool) → name_eq b.name.items n ≡ t → or_later t (length bs) (place_in bs n) ≡ Some i → (place_in bs n ≡ Some i → IsFound bs n i d) → IsFound (b ∷ bs) n i d
+    by : (t : Bool) → name_eq b.name.now n ≡ t → or_later t (length bs) (place_in bs n) ≡ Some i → (place_in bs n ≡ Some i → IsFound bs n i d) → IsFound (b ∷ bs) n i d
     by true h e rest =
         let at : length bs ≡ i = ap number_in e in
         let its : get_or (reverse (b ∷ bs)) i d ≡ b = ap (λ k. get_or (reverse (b ∷ bs)) k d) (sym at) ∙ last bs b d in
@@ -87,13 +87,13 @@ found (b ∷ bs) n i d links e = by (name_eq b.name.items n) refl e (found bs n 
 
 pub absent : (bs : List Binding) (n : Name) → place_in bs n ≡ None → (innermost (names_bound bs) n ≡ None) × (quantified_among (names_bound bs) n ≡ false)
 absent [] n e = (refl, refl)
-absent (b ∷ bs) n e = by (name_eq b.name.items n) refl e (absent bs n)
+absent (b ∷ bs) n e = by (name_eq b.name.now n) refl e (absent bs n)
   where
     there : (q r : Bool) → r ≡ false → (if q then (false || r) else r) ≡ false
     there true r h = h
     there false r h = h
 
-    by : (t : Bool) → name_eq b.name.items n ≡ t → or_later t (length bs) (place_in bs n) ≡ None
+    by : (t : Bool) → name_eq b.name.now n ≡ t → or_later t (length bs) (place_in bs n) ≡ None
         → (place_in bs n ≡ None → (innermost (names_bound bs) n ≡ None) × (quantified_among (names_bound bs) n ≡ false))
         → (innermost (names_bound (b ∷ bs)) n ≡ None) × (quantified_among (names_bound (b ∷ bs)) n ≡ false)
     by true h e rest = absurd (true≢false (ap is_some e))
@@ -106,13 +106,13 @@ absent (b ∷ bs) n e = by (name_eq b.name.items n) refl e (absent bs n)
 
 -- ---- binding and leaving
 
-pub entered : (bs : List Binding) (es news : List (Vec ℕ Global × ℕ)) (fs gs : List SymId) (b : Binding) (q : Name) → b.name.items ≡ q
-    → IsLinked bs es fs → b.outer ≡ at_name es q → b.is_quantified ≡ (is_quantified_local b.local || quantified_among (names_bound bs) q)
-    → ((n : Name) → at_name news n ≡ (if name_eq q n then Some (length bs) else at_name es n))
+pub entered : (bs : List Binding) (es news : List (Bor (List ℕ) × ℕ)) (fs gs : List SymId) (b : Binding) → IsLinked bs es fs → b.outer ≡ at_name es b.name.now
+    → b.is_quantified ≡ (is_quantified_local b.local || quantified_among (names_bound bs) b.name.now)
+    → ((n : Name) → at_name news n ≡ (if name_eq b.name.now n then Some (length bs) else at_name es n))
     → reverse gs ≡ constants_before b.local (reverse fs) → IsLinked (b ∷ bs) news gs
-entered bs es news fs gs b q e is outer flag places constants = record {
-  places = λ n. places n ∙ by n (name_eq q n) ∙ ap (λ m. or_later (name_eq m n) (length bs) (place_in bs n)) (sym e);
-  links = (outer ∙ is.places q ∙ ap (place_in bs) (sym e), flag ∙ ap (λ m. is_quantified_local b.local || quantified_among (names_bound bs) m) (sym e), is.links);
+entered bs es news fs gs b is outer flag places constants = record {
+  places = λ n. places n ∙ by n (name_eq b.name.now n);
+  links = (outer ∙ is.places b.name.now, flag, is.links);
   constants = constants ∙ ap (constants_before b.local) is.constants;
 }
   where
@@ -120,18 +120,18 @@ entered bs es news fs gs b q e is outer flag places constants = record {
     by n true = refl
     by n false = is.places n
 
-pub left : (bs : List Binding) (es news : List (Vec ℕ Global × ℕ)) (fs gs : List SymId) (b : Binding) → IsLinked (b ∷ bs) es fs
-    → ((n : Name) → at_name news n ≡ (if name_eq b.name.items n then b.outer else at_name es n))
+pub left : (bs : List Binding) (es news : List (Bor (List ℕ) × ℕ)) (fs gs : List SymId) (b : Binding) → IsLinked (b ∷ bs) es fs
+    → ((n : Name) → at_name news n ≡ (if name_eq b.name.now n then b.outer else at_name es n))
     → ((hs : List SymId) → reverse fs ≡ constants_before b.local hs → reverse gs ≡ hs) → IsLinked bs news gs
 left bs es news fs gs b is places constants = record {
-  places = λ n. places n ∙ by n (name_eq b.name.items n) refl (is.places n);
+  places = λ n. places n ∙ by n (name_eq b.name.now n) refl (is.places n);
   links = is.links.2;
   constants = constants (constants_in (names_bound bs)) is.constants;
 }
   where
-    by : (n : Name) (t : Bool) → name_eq b.name.items n ≡ t → at_name es n ≡ or_later (name_eq b.name.items n) (length bs) (place_in bs n)
+    by : (n : Name) (t : Bool) → name_eq b.name.now n ≡ t → at_name es n ≡ or_later (name_eq b.name.now n) (length bs) (place_in bs n)
         → (if t then b.outer else at_name es n) ≡ place_in bs n
-    by n true h at = is.links.0 ∙ ap (place_in bs) (name_same b.name.items n h)
+    by n true h at = is.links.0 ∙ ap (place_in bs) (name_same b.name.now n h)
     by n false h at = at ∙ ap (λ t. or_later t (length bs) (place_in bs n)) h
 
 -- ---- the map
@@ -139,46 +139,44 @@ left bs es news fs gs b is places constants = record {
 same-name : (n : Name) → name_eq n n ≡ true
 same-name n = (bytes_eq-Decides n n).1 refl
 
-abbrev pub keys_eq : Vec ℕ Global → Vec ℕ Global → Bool
-keys_eq a b = bytes_eq a.items b.items
+abbrev pub keys_eq : Bor (List ℕ) → Bor (List ℕ) → Bool
+keys_eq a b = bytes_eq a.now b.now
 
-pub put : (es : List (Vec ℕ Global × ℕ)) (k : Vec ℕ Global) (v : ℕ) (q n : Name) → k.items ≡ q
-    → at_name (insert_entry keys_eq es k v) n ≡ (if name_eq q n then Some v else at_name es n)
-put [] k v q n e = ap (λ m. cond (bytes_eq n m) (Some v) None) e ∙ ap (λ t. cond t (Some v) None) (bytes_eq-turned n q) ∙ by (name_eq q n)
+pub put : (es : List (Bor (List ℕ) × ℕ)) (k : Bor (List ℕ)) (v : ℕ) (n : Name)
+    → at_name (insert_entry keys_eq es k v) n ≡ (if name_eq k.now n then Some v else at_name es n)
+put [] k v n = ap (λ t. cond t (Some v) None) (bytes_eq-turned n k.now) ∙ by (name_eq k.now n)
   where
     by : (t : Bool) → cond {A = Option ℕ} t (Some v) None ≡ (if t then Some v else None)
     by true = refl
     by false = refl
-put (p ∷ es) k v q n e =
-    ap (λ m. at_name (if◌then◌else◌ {A = List (Vec ℕ Global × ℕ)} (bytes_eq m p.0.items) ((p.0, v) ∷ es) (p ∷ insert_entry keys_eq es k v)) n) e
-    ∙ by (bytes_eq q p.0.items) (name_eq q n) refl refl (put es k v q n e)
+put (p ∷ es) k v n = by (bytes_eq k.now p.0.now) (name_eq k.now n) refl refl (put es k v n)
   where
-    here : (t : Bool) → name_eq q n ≡ t → q ≡ p.0.items → cond {A = Option ℕ} (bytes_eq n p.0.items) (Some v) (at_name es n) ≡ (if t then Some v else cond (bytes_eq n p.0.items) (Some p.1) (at_name es n))
-    here true ht same = ap (λ t. cond t (Some v) (at_name es n)) (ap (bytes_eq n) (sym same) ∙ bytes_eq-turned n q ∙ ht)
+    here : (t : Bool) → name_eq k.now n ≡ t → k.now ≡ p.0.now → cond {A = Option ℕ} (bytes_eq n p.0.now) (Some v) (at_name es n) ≡ (if t then Some v else cond (bytes_eq n p.0.now) (Some p.1) (at_name es n))
+    here true ht same = ap (λ t. cond t (Some v) (at_name es n)) (ap (bytes_eq n) (sym same) ∙ bytes_eq-turned n k.now ∙ ht)
     here false ht same =
-        let no : bytes_eq n p.0.items ≡ false = ap (bytes_eq n) (sym same) ∙ bytes_eq-turned n q ∙ ht in
+        let no : bytes_eq n p.0.now ≡ false = ap (bytes_eq n) (sym same) ∙ bytes_eq-turned n k.now ∙ ht in
         ap (λ t. cond t (Some v) (at_name es n)) no ∙ ap (λ t. cond t (Some p.1) (at_name es n)) (sym no)
 
-    there : (t : Bool) → name_eq q n ≡ t → bytes_eq q p.0.items ≡ false → at_name (insert_entry keys_eq es k v) n ≡ (if t then Some v else at_name es n)
-        → cond (bytes_eq n p.0.items) (Some p.1) (at_name (insert_entry keys_eq es k v) n) ≡ (if t then Some v else cond (bytes_eq n p.0.items) (Some p.1) (at_name es n))
+    there : (t : Bool) → name_eq k.now n ≡ t → bytes_eq k.now p.0.now ≡ false → at_name (insert_entry keys_eq es k v) n ≡ (if t then Some v else at_name es n)
+        → cond (bytes_eq n p.0.now) (Some p.1) (at_name (insert_entry keys_eq es k v) n) ≡ (if t then Some v else cond (bytes_eq n p.0.now) (Some p.1) (at_name es n))
     there true ht hs rest =
-        let no : bytes_eq n p.0.items ≡ false = ap (λ m. bytes_eq m p.0.items) (sym (name_same q n ht)) ∙ hs in
+        let no : bytes_eq n p.0.now ≡ false = ap (λ m. bytes_eq m p.0.now) (sym (name_same k.now n ht)) ∙ hs in
         ap (λ t. cond t (Some p.1) (at_name (insert_entry keys_eq es k v) n)) no ∙ rest
-    there false ht hs rest = ap (λ o. cond (bytes_eq n p.0.items) (Some p.1) o) rest
+    there false ht hs rest = ap (λ o. cond (bytes_eq n p.0.now) (Some p.1) o) rest
 
-    by : (s t : Bool) → bytes_eq q p.0.items ≡ s → name_eq q n ≡ t → at_name (insert_entry keys_eq es k v) n ≡ (if name_eq q n then Some v else at_name es n)
-        → at_name (if◌then◌else◌ {A = List (Vec ℕ Global × ℕ)} (bytes_eq q p.0.items) ((p.0, v) ∷ es) (p ∷ insert_entry keys_eq es k v)) n
-        ≡ (if name_eq q n then Some v else cond (bytes_eq n p.0.items) (Some p.1) (at_name es n))
+    by : (s t : Bool) → bytes_eq k.now p.0.now ≡ s → name_eq k.now n ≡ t → at_name (insert_entry keys_eq es k v) n ≡ (if name_eq k.now n then Some v else at_name es n)
+        → at_name (if◌then◌else◌ {A = List (Bor (List ℕ) × ℕ)} (bytes_eq k.now p.0.now) ((p.0, v) ∷ es) (p ∷ insert_entry keys_eq es k v)) n
+        ≡ (if name_eq k.now n then Some v else cond (bytes_eq n p.0.now) (Some p.1) (at_name es n))
     by true t hs ht rest =
-        ap (λ s. at_name (if◌then◌else◌ {A = List (Vec ℕ Global × ℕ)} s ((p.0, v) ∷ es) (p ∷ insert_entry keys_eq es k v)) n) hs
-        ∙ here t ht (name_same q p.0.items hs) ∙ ap (λ b. if b then Some v else cond (bytes_eq n p.0.items) (Some p.1) (at_name es n)) (sym ht)
+        ap (λ s. at_name (if◌then◌else◌ {A = List (Bor (List ℕ) × ℕ)} s ((p.0, v) ∷ es) (p ∷ insert_entry keys_eq es k v)) n) hs
+        ∙ here t ht (name_same k.now p.0.now hs) ∙ ap (λ b. if b then Some v else cond (bytes_eq n p.0.now) (Some p.1) (at_name es n)) (sym ht)
     by false t hs ht rest =
-        ap (λ s. at_name (if◌then◌else◌ {A = List (Vec ℕ Global × ℕ)} s ((p.0, v) ∷ es) (p ∷ insert_entry keys_eq es k v)) n) hs
-        ∙ there t ht hs (rest ∙ ap (λ b. if b then Some v else at_name es n) ht) ∙ ap (λ b. if b then Some v else cond (bytes_eq n p.0.items) (Some p.1) (at_name es n)) (sym ht)
+        ap (λ s. at_name (if◌then◌else◌ {A = List (Bor (List ℕ) × ℕ)} s ((p.0, v) ∷ es) (p ∷ insert_entry keys_eq es k v)) n) hs
+        ∙ there t ht hs (rest ∙ ap (λ b. if b then Some v else at_name es n) ht) ∙ ap (λ b. if b then Some v else cond (bytes_eq n p.0.now) (Some p.1) (at_name es n)) (sym ht)
 
 pub found-within : (bs : List Binding) (n : Name) (i : ℕ) → place_in bs n ≡ Some i → i < length bs
 found-within [] n i e = absurd (true≢false (sym (ap is_some e)))
-found-within (b ∷ bs) n i e = by (name_eq b.name.items n) e (found-within bs n i)
+found-within (b ∷ bs) n i e = by (name_eq b.name.now n) e (found-within bs n i)
   where
     by : (t : Bool) → or_later t (length bs) (place_in bs n) ≡ Some i → (place_in bs n ≡ Some i → i < length bs) → i < suc (length bs)
     by true e rest = let at : length bs ≡ i = ap number_in e in omega (arith, at)
@@ -186,11 +184,17 @@ found-within (b ∷ bs) n i e = by (name_eq b.name.items n) e (found-within bs n
 
 -- of bindings that have the outermost first
 pub found-in : (bs : List Binding) (n : Name) (i : ℕ) (b : Binding) → AreLinked (reverse bs) → place_in (reverse bs) n ≡ Some i → b ≡ get_or bs i b
-    → (innermost (names_bound (reverse bs)) n ≡ Some b.local) × (quantified_among (names_bound (reverse bs)) n ≡ b.is_quantified)
+    → innermost (names_bound (reverse bs)) n ≡ Some b.local
 found-in bs n i b links e is =
     let f = found (reverse bs) n i b links e in
     let its : get_or (reverse (reverse bs)) i b ≡ b = ap (λ cs. get_or cs i b) (reverse-reverse bs) ∙ sym is in
-    (f.local ∙ ap (λ c. Some c.local) its, f.quantified ∙ ap (λ c. c.is_quantified) its)
+    f.local ∙ ap (λ c. Some c.local) its
+
+pub quantified-in : (bs : List Binding) (n : Name) (i : ℕ) (d : Binding) → AreLinked (reverse bs) → place_in (reverse bs) n ≡ Some i
+    → quantified_among (names_bound (reverse bs)) n ≡ (get_or bs i d).is_quantified
+quantified-in bs n i d links e =
+    let f = found (reverse bs) n i d links e in
+    f.quantified ∙ ap (λ cs. (get_or cs i d).is_quantified) (reverse-reverse bs)
 
 pub found-before : (bs : List Binding) (n : Name) (i : ℕ) → place_in (reverse bs) n ≡ Some i → i < length bs
 found-before bs n i e =
@@ -198,21 +202,25 @@ found-before bs n i e =
     let whole = length-reverse bs in
     omega (arith, within, whole)
 
+pub place-before : (bs : List Binding) (n : Name) (o : Option ℕ) → o ≡ place_in (reverse bs) n → IfSome o (λ i. i < length bs)
+place-before bs n (Some i) e = found-before bs n i (sym e)
+place-before bs n None e = tt
+
 -- a name that is taken out
-pub taken : (es news : List (Vec ℕ Global × ℕ)) (q n : Name) → at_name news q ≡ None
-    → KeepsOthers keys_eq (λ k. bytes_eq q k.items) es news → at_name news n ≡ (if name_eq q n then None else at_name es n)
+pub taken : (es news : List (Bor (List ℕ) × ℕ)) (q n : Name) → at_name news q ≡ None
+    → KeepsOthers keys_eq (λ k. bytes_eq q k.now) es news → at_name news n ≡ (if name_eq q n then None else at_name es n)
 unfolding KeepsOthers
 taken es news q n gone keeps = by (name_eq q n) refl
   where
-    like : (x y : Vec ℕ Global) → bytes_eq n x.items ≡ true → bytes_eq n y.items ≡ bytes_eq x.items y.items
-    like x y h = ap (λ m. bytes_eq m y.items) (name_same n x.items h)
+    like : (x y : Bor (List ℕ)) → bytes_eq n x.now ≡ true → bytes_eq n y.now ≡ bytes_eq x.now y.now
+    like x y h = ap (λ m. bytes_eq m y.now) (name_same n x.now h)
 
-    apart : name_eq q n ≡ false → (k : Vec ℕ Global) → bytes_eq q k.items ≡ true → bytes_eq n k.items ≡ false
-    apart h k e = ap (bytes_eq n) (sym (name_same q k.items e)) ∙ bytes_eq-turned n q ∙ h
+    apart : name_eq q n ≡ false → (k : Bor (List ℕ)) → bytes_eq q k.now ≡ true → bytes_eq n k.now ≡ false
+    apart h k e = ap (bytes_eq n) (sym (name_same q k.now e)) ∙ bytes_eq-turned n q ∙ h
 
     by : (t : Bool) → name_eq q n ≡ t → at_name news n ≡ (if t then None else at_name es n)
     by true h = ap (at_name news) (sym (name_same q n h)) ∙ gone
-    by false h = keeps (λ k. bytes_eq n k.items) like (apart h)
+    by false h = keeps (λ k. bytes_eq n k.now) like (apart h)
 
 -- what doesn't fail is done
 pub done : {A E X Y : Type 0} (r : Result A E) → OnOk r X → OnErr r Y → (Y → ⊥) → X
@@ -223,39 +231,36 @@ some-or-none : {A : Type 0} (o : Option A) → IsSome o → o ≡ None → ⊥
 some-or-none (Some a) is none = absurd (true≢false (ap is_some none))
 some-or-none None is none = true≢false (sym is)
 
-pub pointed : (es news : List (Vec ℕ Global × ℕ)) (k : Vec ℕ Global) (v : ℕ) → IsSome (at_name es k.items)
-    → (r : Result (Option ℕ) (AllocFailed (Vec ℕ Global × ℕ))) → OnOk r (news ≡ insert_entry keys_eq es k v) → OnErr r (at_name es k.items ≡ None)
-    → (n : Name) → at_name news n ≡ (if name_eq k.items n then Some v else at_name es n)
+pub pointed : (es news : List (Bor (List ℕ) × ℕ)) (k : Bor (List ℕ)) (v : ℕ) → IsSome (at_name es k.now)
+    → (r : Result (Option ℕ) (AllocFailed (Bor (List ℕ) × ℕ))) → OnOk r (news ≡ insert_entry keys_eq es k v) → OnErr r (at_name es k.now ≡ None)
+    → (n : Name) → at_name news n ≡ (if name_eq k.now n then Some v else at_name es n)
 pointed es news k v is r ok err n =
-    ap (λ fs. at_name fs n) (done r ok err (some-or-none (at_name es k.items) is)) ∙ put es k v k.items n refl
+    ap (λ fs. at_name fs n) (done r ok err (some-or-none (at_name es k.now) is)) ∙ put es k v n
 
 -- the innermost binding, which stands last
 pub innermost-last : (b : Binding) (bs : List Binding) → reverse (bs ++ b ∷ []) ≡ b ∷ reverse bs
 innermost-last b bs = reverse-append bs (b ∷ [])
 
-pub left-last : (bs : List Binding) (b : Binding) (all : List Binding) (es news : List (Vec ℕ Global × ℕ)) (fs gs : List SymId) → all ≡ bs ++ b ∷ []
-    → IsLinked (reverse all) es fs → ((n : Name) → at_name news n ≡ (if name_eq b.name.items n then b.outer else at_name es n))
+pub left-last : (bs : List Binding) (b : Binding) (all : List Binding) (es news : List (Bor (List ℕ) × ℕ)) (fs gs : List SymId) → all ≡ bs ++ b ∷ []
+    → IsLinked (reverse all) es fs → ((n : Name) → at_name news n ≡ (if name_eq b.name.now n then b.outer else at_name es n))
     → ((hs : List SymId) → reverse fs ≡ constants_before b.local hs → reverse gs ≡ hs) → IsLinked (reverse bs) news gs
 left-last bs b all es news fs gs e is places constants =
     left (reverse bs) es news fs gs b (subst (λ cs. IsLinked cs es fs) (ap reverse e ∙ innermost-last b bs) is) places constants
 
-pub is-bound : (bs : List Binding) (b : Binding) (all : List Binding) (es : List (Vec ℕ Global × ℕ)) (fs : List SymId) → all ≡ bs ++ b ∷ []
-    → IsLinked (reverse all) es fs → IsSome (at_name es b.name.items)
+pub is-bound : (bs : List Binding) (b : Binding) (all : List Binding) (es : List (Bor (List ℕ) × ℕ)) (fs : List SymId) → all ≡ bs ++ b ∷ []
+    → IsLinked (reverse all) es fs → IsSome (at_name es b.name.now)
 is-bound bs b all es fs e is =
     let linked : IsLinked (b ∷ reverse bs) es fs = subst (λ cs. IsLinked cs es fs) (ap reverse e ∙ innermost-last b bs) is in
-    subst IsSome (sym (linked.places b.name.items ∙ ap (λ t. or_later t (length (reverse bs)) (place_in (reverse bs) b.name.items)) (same-name b.name.items))) refl
+    subst IsSome (sym (linked.places b.name.now ∙ ap (λ t. or_later t (length (reverse bs)) (place_in (reverse bs) b.name.now)) (same-name b.name.now))) refl
 
-pub entered-last : (bs : List Binding) (b : Binding) (all : List Binding) (es news : List (Vec ℕ Global × ℕ)) (fs gs : List SymId) (q : Name) (k : Vec ℕ Global) (v : ℕ)
-    → all ≡ bs ++ b ∷ [] → IsLinked (reverse bs) es fs → b.name.items ≡ q → k.items ≡ q → v ≡ length bs → b.outer ≡ at_name es q
-    → b.is_quantified ≡ (is_quantified_local b.local || quantified_among (names_bound (reverse bs)) q)
-    → news ≡ insert_entry keys_eq es k v → reverse gs ≡ constants_before b.local (reverse fs) → IsLinked (reverse all) news gs
-entered-last bs b all es news fs gs q k v e is name key place outer flag news-are constants =
+pub entered-last : (bs : List Binding) (b : Binding) (all : List Binding) (es news : List (Bor (List ℕ) × ℕ)) (fs gs : List SymId) (v : ℕ)
+    → all ≡ bs ++ b ∷ [] → IsLinked (reverse bs) es fs → v ≡ length bs → b.outer ≡ at_name es b.name.now
+    → b.is_quantified ≡ (is_quantified_local b.local || quantified_among (names_bound (reverse bs)) b.name.now)
+    → news ≡ insert_entry keys_eq es b.name v → reverse gs ≡ constants_before b.local (reverse fs) → IsLinked (reverse all) news gs
+entered-last bs b all es news fs gs v e is place outer flag news-are constants =
     subst (λ cs. IsLinked cs news gs) (sym (ap reverse e ∙ innermost-last b bs))
-    (entered (reverse bs) es news fs gs b q name is outer flag
-    (λ n. ap (λ hs. at_name hs n) news-are ∙ put es k v q n key ∙ ap (λ i. if name_eq q n then Some i else at_name es n) (place ∙ sym (length-reverse bs))) constants)
-
-pub view-last : (bs : List Binding) (b : Binding) (all : List Binding) → all ≡ bs ++ b ∷ [] → names_bound (reverse all) ≡ (b.name.items, b.local) ∷ names_bound (reverse bs)
-view-last bs b all e = ap (λ cs. names_bound (reverse cs)) e ∙ ap names_bound (innermost-last b bs)
+    (entered (reverse bs) es news fs gs b is outer flag
+    (λ n. ap (λ hs. at_name hs n) news-are ∙ put es b.name v n ∙ ap (λ i. if name_eq b.name.now n then Some i else at_name es n) (place ∙ sym (length-reverse bs))) constants)
 
 pub drop-next : {A : Type 0} (k : ℕ) (xs : List A) → drop 1 (drop k xs) ≡ drop (k + 1) xs
 drop-next {A = A} k xs = by k xs ∙ ap (λ n. drop n xs) (next k)

@@ -1,7 +1,7 @@
 -- The names of a `let` as they are kept: which are among them, and one more.
-use Rattle.std.proofs.Common.{◌≡◌, ℕ, ◌+◌, ◌-◌, ◌<◌, ◌≤◌, arith, length, drop, get_or, slice_get, Bool, true, false, cond, ◌||◌, List, [], ◌∷◌, ◌++◌, map, reverse, Some, None, is_some, Vec, Global, Ok, refl, ap, sym, ◌∙◌, true≢false, if◌then◌else◌}
+use Rattle.std.proofs.Common.{◌≡◌, ℕ, zero, suc, ◌+◌, ◌-◌, ◌<◌, ◌≤◌, arith, length, drop, get_or, slice_get, Bool, true, false, cond, ◌||◌, List, [], ◌∷◌, ◌++◌, map, reverse, Some, None, is_some, unwrap_or, option_map, Bor, Ok, refl, ap, sym, ◌∙◌, true≢false, if◌then◌else◌}
 use Rattle.std.proofs.lemmas.List.{reverse-append, drop_all, drop_more}
-use Rattle.std.proofs.lemmas.Option.{slice_get-get_or}
+use Rattle.std.proofs.lemmas.Option.{slice_get-get_or, slice_get-map}
 use Rattle.smt_terms.specs.declared.ids.NodeId.{NodeId}
 use Rattle.script_read.specs.Bound.{LocalNames, let_local}
 use Rattle.std.specs.Str.{bytes_eq}
@@ -16,41 +16,98 @@ use Rattle.script_read.specs.Read.{let_name}
 use Rattle.script_read.specs.Openings.{binding_in}
 use Rattle.script_read.specs.Places.{pair_in}
 use Rattle.script_read.specs.Sizes.{form_size}
+use Rattle.script_read.proofs.Linking.{keys_eq}
 use Rattle.script_read.proofs.Placing.{pair_is}
-use Rattle.script_read.specs.Laid.{named}
+use Rattle.script_read.specs.Laid.{borrowed}
 
-found : {A : Type 0} (es : List (Vec ℕ Global × A)) (n : Name) → is_some (lookup (λ k. bytes_eq n k.items) es) ≡ is_among (map (λ p. p.0) (named es)) n
-found [] n = refl
-found (e ∷ es) n = by (bytes_eq n e.0.items) (found es n)
-  where
-    by : (b : Bool) → is_some (lookup (λ k. bytes_eq n k.items) es) ≡ is_among (map (λ p. p.0) (named es)) n → is_some (cond b (Some e.1) (lookup (λ k. bytes_eq n k.items) es)) ≡ (b || is_among (map (λ p. p.0) (named es)) n)
-    by true rest = refl
-    by false rest = rest
+either_assoc : (a b c : Bool) → (a || (b || c)) ≡ ((a || b) || c)
+either_assoc true b c = refl
+either_assoc false b c = refl
 
-pub has_name : {A : Type 0} (es : List (Vec ℕ Global × A)) (n : Name) → is_some (lookup (λ k. bytes_eq n k.items) es) ≡ is_among (map (λ p. p.0) (named es)) n
-has_name es n = found es n
+-- ---- the first names, which are compared one by one, and those behind them
 
-pub name_added : {A : Type 0} (es : List (Vec ℕ Global × A)) (k : Vec ℕ Global) (v : A) (n : Name) → k.items ≡ n → is_among (map (λ p. p.0) (named es)) n ≡ false
-    → named (insert_entry (λ a b. bytes_eq a.items b.items) es k v) ≡ named es ++ (n, v) ∷ []
-name_added [] k v n is new = ap (λ m. (m, v) ∷ []) is
-name_added {A = A} (e ∷ es) k v n is new = by (bytes_eq n e.0.items) (ap (λ m. bytes_eq m e.0.items) is) new (name_added es k v n is)
-  where
-    by : (b : Bool) → bytes_eq k.items e.0.items ≡ b → (b || is_among (map (λ p. p.0) (named es)) n) ≡ false
-        → (is_among (map (λ p. p.0) (named es)) n ≡ false → named (insert_entry (λ a b. bytes_eq a.items b.items) es k v) ≡ named es ++ (n, v) ∷ [])
-        → named (if bytes_eq k.items e.0.items then (e.0, v) ∷ es else e ∷ insert_entry (λ a b. bytes_eq a.items b.items) es k v) ≡ (e.0.items, e.1) ∷ (named es ++ (n, v) ∷ [])
-    by true same new rest = absurd (true≢false new)
-    by false other new rest =
-        ap (λ b. named (if◌then◌else◌ {A = List (Vec ℕ Global × A)} b ((e.0, v) ∷ es) (e ∷ insert_entry (λ a b. bytes_eq a.items b.items) es k v))) other
-        ∙ ap (λ xs. (e.0.items, e.1) ∷ xs) (rest new)
+module _ {A : Type 0} where
+  found : (ls : List (Bor (List ℕ) × A)) (n : Name) → is_among (map (λ p. p.0) (borrowed ls)) n ≡ is_some (lookup (λ k. bytes_eq n k.now) ls)
+  found [] n = refl
+  found (l ∷ ls) n = by (bytes_eq n l.0.now) (found ls n)
+    where
+      by : (b : Bool) → is_among (map (λ p. p.0) (borrowed ls)) n ≡ is_some (lookup (λ k. bytes_eq n k.now) ls) → (b || is_among (map (λ p. p.0) (borrowed ls)) n) ≡ is_some (cond b (Some l.1) (lookup (λ k. bytes_eq n k.now) ls))
+      by true rest = refl
+      by false rest = rest
+
+  pub has_name : (fs ls : List (Bor (List ℕ) × A)) (n : Name)
+      → is_among (map (λ p. p.0) (borrowed (fs ++ ls))) n ≡ (is_among (map (λ e. e.0.now) fs) n || is_some (lookup (λ k. bytes_eq n k.now) ls))
+  has_name [] ls n = found ls n
+  has_name (f ∷ fs) ls n =
+      ap (λ b. bytes_eq n f.0.now || b) (has_name fs ls n)
+      ∙ either_assoc (bytes_eq n f.0.now) (is_among (map (λ e. e.0.now) fs) n) (is_some (lookup (λ k. bytes_eq n k.now) ls))
+
+  pub has_first : (fs ls : List (Bor (List ℕ) × A)) (n : Name) (r : Bool) → r ≡ is_among (map (λ e. e.0.now) fs) n → r ≡ true
+      → r ≡ is_among (map (λ p. p.0) (borrowed (fs ++ ls))) n
+  has_first fs ls n r is h = h ∙ sym (has_name fs ls n ∙ ap (λ b. b || is_some (lookup (λ k. bytes_eq n k.now) ls)) (sym is ∙ h))
+
+  pub has_later : (fs ls : List (Bor (List ℕ) × A)) (n : Name) (r : Bool) → r ≡ is_among (map (λ e. e.0.now) fs) n → r ≡ false
+      → is_some (lookup (λ k. bytes_eq n k.now) ls) ≡ is_among (map (λ p. p.0) (borrowed (fs ++ ls))) n
+  has_later fs ls n r is h = sym (has_name fs ls n ∙ ap (λ b. b || is_some (lookup (λ k. bytes_eq n k.now) ls)) (sym is ∙ h))
+
+  pub has_none : (fs ls : List (Bor (List ℕ) × A)) (n : Name) (r : Bool) → r ≡ is_among (map (λ e. e.0.now) fs) n → r ≡ false → length ls ≡ 0
+      → false ≡ is_among (map (λ p. p.0) (borrowed (fs ++ ls))) n
+  has_none fs ls n r is h empty = sym (nothing ls empty) ∙ has_later fs ls n r is h
+    where
+      nothing : (ls : List (Bor (List ℕ) × A)) → length ls ≡ 0 → is_some (lookup (λ k. bytes_eq n k.now) ls) ≡ false
+      nothing [] empty = refl
+      nothing (l ∷ ls) empty = absurd (omega (arith, empty))
+
+  pub added_later : (fs ls : List (Bor (List ℕ) × A)) (k : Bor (List ℕ)) (v : A) → is_among (map (λ p. p.0) (borrowed (fs ++ ls))) k.now ≡ false
+      → borrowed (fs ++ insert_entry keys_eq ls k v) ≡ borrowed (fs ++ ls) ++ (k.now, v) ∷ []
+  added_later [] [] k v new = refl
+  added_later [] (l ∷ ls) k v new = by (bytes_eq k.now l.0.now) refl new (added_later [] ls k v)
+    where
+      by : (b : Bool) → bytes_eq k.now l.0.now ≡ b → (b || is_among (map (λ p. p.0) (borrowed ls)) k.now) ≡ false
+          → (is_among (map (λ p. p.0) (borrowed ls)) k.now ≡ false → borrowed (insert_entry keys_eq ls k v) ≡ borrowed ls ++ (k.now, v) ∷ [])
+          → borrowed (if bytes_eq k.now l.0.now then (l.0, v) ∷ ls else l ∷ insert_entry keys_eq ls k v) ≡ (l.0.now, l.1) ∷ (borrowed ls ++ (k.now, v) ∷ [])
+      by true same new rest = absurd (true≢false new)
+      by false other new rest =
+          ap (λ b. borrowed (if◌then◌else◌ {A = List (Bor (List ℕ) × A)} b ((l.0, v) ∷ ls) (l ∷ insert_entry keys_eq ls k v))) other
+          ∙ ap (λ xs. (l.0.now, l.1) ∷ xs) (rest new)
+  added_later (f ∷ fs) ls k v new = by (bytes_eq k.now f.0.now) new (added_later fs ls k v)
+    where
+      by : (b : Bool) → (b || is_among (map (λ p. p.0) (borrowed (fs ++ ls))) k.now) ≡ false
+          → (is_among (map (λ p. p.0) (borrowed (fs ++ ls))) k.now ≡ false → borrowed (fs ++ insert_entry keys_eq ls k v) ≡ borrowed (fs ++ ls) ++ (k.now, v) ∷ [])
+          → (f.0.now, f.1) ∷ borrowed (fs ++ insert_entry keys_eq ls k v) ≡ (f.0.now, f.1) ∷ (borrowed (fs ++ ls) ++ (k.now, v) ∷ [])
+      by true new rest = absurd (true≢false new)
+      by false new rest = ap (λ xs. (f.0.now, f.1) ∷ xs) (rest new)
+
+  at_later : (fs ls : List (Bor (List ℕ) × A)) (i : ℕ) → length fs ≤ i
+      → slice_get (borrowed (fs ++ ls)) i ≡ option_map (λ e. (e.0.now, e.1)) (slice_get ls (i - length fs))
+  at_later [] ls i past = slice_get-map (λ e. (e.0.now, e.1)) ls i ∙ ap (λ j. option_map (λ e. (e.0.now, e.1)) (slice_get ls j)) (whole i)
+    where
+      whole : (i : ℕ) → i ≡ i - 0
+      whole i = omega arith
+  at_later (f ∷ fs) ls zero past = absurd (omega (arith, past))
+  at_later (f ∷ fs) ls (suc i) past = at_later fs ls i (omega (arith, past)) ∙ ap (λ j. option_map (λ e. (e.0.now, e.1)) (slice_get ls j)) (less i (length fs))
+    where
+      less : (i n : ℕ) → i - n ≡ suc i - suc n
+      less i n = omega arith
+
+  pub later_is : (fs ls : List (Bor (List ℕ) × A)) (i n : ℕ) (e : Bor (List ℕ) × A) (p : Name × A) → n ≡ length fs → n ≤ i → Some e ≡ slice_get ls (i - n)
+      → slice_get (borrowed (fs ++ ls)) i ≡ Some p → (e.0.now, e.1) ≡ p
+  later_is fs ls i n e p all past is stands =
+      ap (λ o. unwrap_or o (e.0.now, e.1))
+      (ap (option_map (λ e. (e.0.now, e.1))) (is ∙ ap (λ m. slice_get ls (i - m)) all) ∙ sym (at_later fs ls i (omega (arith, all, past))) ∙ stands)
+
+  pub later_none : (fs ls : List (Bor (List ℕ) × A)) (i n : ℕ) (p : Name × A) → n ≡ length fs → n ≤ i → None ≡ slice_get ls (i - n)
+      → slice_get (borrowed (fs ++ ls)) i ≡ Some p → ⊥
+  later_none fs ls i n p all past is stands =
+      true≢false
+      (sym
+      (ap (λ o. is_some {T = Name × A} (option_map (λ e. (e.0.now, e.1)) o)) (is ∙ ap (λ m. slice_get ls (i - m)) all)
+      ∙ ap (is_some {T = Name × A}) (sym (at_later fs ls i (omega (arith, all, past))) ∙ stands)))
 
 -- the order of names doesn't matter to whether one is among them
 among_append : (ms ns : List Name) (n : Name) → is_among (ms ++ ns) n ≡ (is_among ms n || is_among ns n)
 among_append [] ns n = refl
 among_append (m ∷ ms) ns n = ap (λ b. bytes_eq n m || b) (among_append ms ns n) ∙ either_assoc (bytes_eq n m) (is_among ms n) (is_among ns n)
-  where
-    either_assoc : (a b c : Bool) → (a || (b || c)) ≡ ((a || b) || c)
-    either_assoc true b c = refl
-    either_assoc false b c = refl
 
 either_turned : (a b : Bool) → (a || (b || false)) ≡ (b || a)
 either_turned true true = refl

@@ -22,7 +22,7 @@ use Rattle.script_read.specs.Bound.{ShowsLocals}
 use Rattle.script_read.specs.PlaceClauses.{BeginsForm, IsListAt}
 use Rattle.script_read.specs.Places.{IsForm, SparesText, form_from, forms_from}
 use Rattle.script_read.specs.TermClauses.{defined_name}
-use Rattle.script_read.specs.Waiting.{AllWait, is_call, awaits_operand, ComesBack, Opens, SomeGoing, Keeps, now_at, defined_by, Going, GoingBack}
+use Rattle.script_read.specs.Waiting.{AllWait, is_call, awaits_operand, ComesBack, Opens, SomeGoing, Keeps, now_at, defined_by, stacks_of, Going, GoingBack}
 use Rattle.script_read.proofs.Grown.{later_on, never_later}
 use Rattle.script_read.proofs.Stepping.{at_state, gains_self}
 use Rattle.script_read.proofs.Stepped.{reading_of, opened_is, reverse_push}
@@ -64,7 +64,7 @@ text_later ts t u a b x y keeps spares i n within symbol = never_later a.fresh b
 
 -- ---- a frame is taken off
 
-module _ (ts : List Token) (t : Formulas) (sofar : SofarSeen) (reader now : TermReader) (f : Frame) (same : now ≡ record { alloc = reader.alloc; defines = reader.defines; locals = reader.locals; frames = now.frames })
+module _ (ts : List Token) (t : Formulas) (sofar : SofarSeen) (reader now : TermReader) (f : Frame) (same : now ≡ record { alloc = reader.alloc; defines = reader.defines; locals = reader.locals; frames = now.frames; operands = reader.operands; callees = reader.callees })
     (popped : reader.frames.items ≡ now.frames.items ++ f ∷ []) where
   turned : reverse reader.frames.items ≡ f ∷ reverse now.frames.items
   turned = ap reverse popped ∙ reverse_push now.frames.items f
@@ -73,8 +73,8 @@ module _ (ts : List Token) (t : Formulas) (sofar : SofarSeen) (reader now : Term
   frame_other is = ap awaits_operand (sym turned) ∙ is
 
   pub frame_waits : (k : NodeId) (at : ℕ) (r : Result (Term × Sofar) Refused) → Going ts t sofar reader (NextTerm k at) r → GoingBack ts t sofar now f k at r
-  frame_waits k at r going = subst (λ x. ComesBack ts (defined_by ts x) (now_at t sofar) sofar.scope x.locals (f ∷ reverse now.frames.items) k at r) (sym same)
-      (subst (λ fs. ComesBack ts (defined_by ts reader) (now_at t sofar) sofar.scope reader.locals fs k at r) turned going)
+  frame_waits k at r going = subst (λ x. ComesBack ts (defined_by ts x) (now_at t sofar) sofar.scope (stacks_of x) (f ∷ reverse now.frames.items) k at r) (sym same)
+      (subst (λ fs. ComesBack ts (defined_by ts reader) (now_at t sofar) sofar.scope (stacks_of reader) fs k at r) turned going)
 
 -- ---- where a reading begins and ends
 
@@ -96,14 +96,14 @@ module _ (ts : List Token) (t : Formulas) (sofar : SofarSeen) (reader : TermRead
     known = shows;
     numbered = refl;
     stands = record { shown = locals; named = named };
-    waiting = subst (λ fs. AllWait ts (defined_by ts reader) (now_at t sofar) fs (after_at ts i) reader.locals (λ u. gives u)) (sym none_waits) (λ u s. refl);
+    waiting = subst (λ fs. AllWait ts (defined_by ts reader) (now_at t sofar) fs (after_at ts i) (stacks_of reader) (λ u. gives u)) (sym none_waits) (λ u s. refl);
     is = given_alone (read (form_from ts i) c (record { live = live; supply = sofar.fresh }));
   }
 
   pub ends_reading : (k : NodeId) (at : ℕ) (r : Result (Term × Sofar) Refused) → Going ts t sofar reader (NextTerm k at) r → ReadsTerm t sofar.scope sofar.fresh r (Ok k)
   ends_reading k at r going =
-      let come : ComesBack ts (defined_by ts reader) (now_at t sofar) sofar.scope reader.locals [] k at r =
-      subst (λ fs. ComesBack ts (defined_by ts reader) (now_at t sofar) sofar.scope reader.locals fs k at r) none_waits going in
+      let come : ComesBack ts (defined_by ts reader) (now_at t sofar) sofar.scope (stacks_of reader) [] k at r =
+      subst (λ fs. ComesBack ts (defined_by ts reader) (now_at t sofar) sofar.scope (stacks_of reader) fs k at r) none_waits going in
       (come.spared, record { live = come.live; shows = come.known; given = come.is ∙ come.waiting (tree t k) (at_state come.live (now_at t sofar)) })
 
 -- ---- from its first form on

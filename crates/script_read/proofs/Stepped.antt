@@ -23,11 +23,16 @@ use Rattle.script_read.specs.Read.{read, read_list}
 use Rattle.script_read.specs.Replies.{refused_seen}
 use Rattle.script_read.specs.Known.{Shows}
 use Rattle.script_read.specs.TermClauses.{ReadsAlone}
+use Rattle.script_read.specs.Bound.{LocalNames}
 use Rattle.script_read.specs.Places.{form_from, forms_from}
-use Rattle.script_read.specs.Waiting.{Gains, ComesBack, Opens, now_at, defined_by, Going, Stepped}
+use Rattle.script_read.specs.Waiting.{Gains, Stacks, ComesBack, Opens, now_at, defined_by, stacks_of, Going, Stepped}
 use Rattle.script_read.proofs.Grown.{later_self}
 use Rattle.script_read.proofs.Showing.{shows_stays}
 use Rattle.script_read.proofs.Stepping.{at_state, came_back, refused_here, refuses_as}
+
+-- the reader's stacks with other local names
+abbrev pub stacks_with : TermReader → LocalNames → Stacks
+stacks_with reader locals = record { locals = locals; callees = reverse reader.callees.items; operands = reader.operands.items }
 
 -- the table alone gained
 pub table_gains : (t u : Formulas) (sofar : SofarSeen) → GrowsTo t u → Gains (now_at t sofar) (now_at u sofar)
@@ -46,14 +51,14 @@ module _ (ts : List Token) (t : Formulas) (sofar : SofarSeen) (reader : TermRead
   -- what no reading has to give
   module _ (alone : Result Term Refused) (is : reading_of ≡ beside state_of alone) where
     pub alone_steps : (u : Formulas) → GrowsTo t u → (k : NodeId) → ReadsAlone u sofar.fresh alone (Ok k) → (n : ℕ) → n ≡ after_at ts i → Stepped ts u sofar reader r (Ok (NextTerm k n))
-    alone_steps u grows k answer n behind = subst (λ m. ComesBack ts (defined_by ts reader) (now_at u sofar) sofar.scope reader.locals (reverse reader.frames.items) k m r) (sym behind)
-        (came_back ts (defined_by ts reader) (now_at t sofar) sofar.scope reader.locals (reverse reader.frames.items) i r going
+    alone_steps u grows k answer n behind = subst (λ m. ComesBack ts (defined_by ts reader) (now_at u sofar) sofar.scope (stacks_of reader) (reverse reader.frames.items) k m r) (sym behind)
+        (came_back ts (defined_by ts reader) (now_at t sofar) sofar.scope (stacks_of reader) (reverse reader.frames.items) i r going
         (now_at u sofar) (table_gains t u sofar grows) sofar.scope going.live (still_shows t u sofar going.live grows going.known)
         k answer.0 (is ∙ ap (beside state_of) answer.1) refl)
 
     pub alone_refused : (u : Formulas) (e : ReadFault) → ReadsAlone u sofar.fresh alone (Err e) → Stepped ts u sofar reader r (Err e)
     alone_refused u e answer = refuses_as r alone e
-        (λ x refused. refused_here ts (defined_by ts reader) (now_at t sofar) sofar.scope reader.locals (reverse reader.frames.items) i r going x (is ∙ ap (beside state_of) refused)) answer
+        (λ x refused. refused_here ts (defined_by ts reader) (now_at t sofar) sofar.scope (stacks_of reader) (reverse reader.frames.items) i r going x (is ∙ ap (beside state_of) refused)) answer
 
   pub token_is : form_from ts i ≡ atom (token_at ts i) → reading_of ≡ beside state_of (atom_term going.context.locals (token_at ts i) going.live)
   token_is token = ap (λ f. read f going.context state_of) token
@@ -67,7 +72,7 @@ module _ (ts : List Token) (t : Formulas) (sofar : SofarSeen) (reader : TermRead
         ∙ ap (λ p. read_list p (forms_from ts (after_at ts first)) (token_at ts i).start going.context state_of) opens.begins
 
   pub refused_steps : (u : Formulas) (now : TermReader) (e : Fault) (x : Refused) → refused_seen e ≡ x → reading_of ≡ Err x → Stepped ts u sofar now r (Err (RefusedFor e))
-  refused_steps u now e x same is = refused_here ts (defined_by ts reader) (now_at t sofar) sofar.scope reader.locals (reverse reader.frames.items) i r going (refused_seen e) (is ∙ ap Err (sym same))
+  refused_steps u now e x same is = refused_here ts (defined_by ts reader) (now_at t sofar) sofar.scope (stacks_of reader) (reverse reader.frames.items) i r going (refused_seen e) (is ∙ ap Err (sym same))
 
 pub fault_is : (e : Fault) (cause : Cause) (place : ℕ) → e.cause ≡ cause → e.place ≡ place → refused_seen e ≡ record { cause = cause; place = place }
 fault_is e cause place same_cause same_place = λ i. record { cause = same_cause i; place = same_place i }

@@ -1,5 +1,5 @@
 -- One step of a reading: a form opens, and comes back as a term or refused.
-use Rattle.std.proofs.Common.{◌≡◌, ℕ, List, ◌∷◌, drop, All, Option, Result, Ok, Err, refl, ap, sym, ◌∙◌, subst}
+use Rattle.std.proofs.Common.{◌≡◌, ℕ, List, ◌∷◌, All, Option, Result, Ok, Err, refl, ap, sym, ◌∙◌, subst}
 use Rattle.smt_lex.specs.Lex.{Token}
 use Rattle.smt_lex.specs.Names.{Name}
 use Rattle.smt_lex.specs.Forest.{after_at}
@@ -14,9 +14,8 @@ use Rattle.script_read.specs.Replies.{refused_seen, Refuses}
 use Rattle.script_read.specs.Reading.{ReadBinding, Sofar, Reading, continued, ◌>>=◌}
 use Rattle.script_read.specs.Read.{Context, read}
 use Rattle.script_read.specs.Known.{Scoping, Shows, IsDefinition, IsSpared}
-use Rattle.script_read.specs.Bound.{LocalNames}
 use Rattle.script_read.specs.Places.{IsForm, form_from}
-use Rattle.script_read.specs.Waiting.{World, Gains, Later, list_of, bound_by, Stands, Waits, AllWait, GoesOn, ComesBack}
+use Rattle.script_read.specs.Waiting.{World, Gains, Later, Stacks, list_of, below, Stands, Waits, AllWait, GoesOn, ComesBack}
 use Rattle.script_read.proofs.Placing.{form_within, after_within}
 use Rattle.script_read.proofs.Gaining.{all_still}
 use Rattle.script_read.proofs.Grown.{grown_self, later_self}
@@ -41,10 +40,10 @@ module _ {A B : Type 0} (m : Reading A) (f : A → Reading B) (s : Sofar) where
 abbrev pub at_state : List ReadBinding → World → Sofar
 at_state live w = record { live = live; supply = w.supply }
 
-module _ (ts : List Token) (defines : Option Name) (w : World) (s : Scoping) (locals : LocalNames) where
+module _ (ts : List Token) (defines : Option Name) (w : World) (s : Scoping) (stacks : Stacks) where
   -- ---- a form opens
 
-  module _ (frames : List Frame) (i : ℕ) (r : Result (Term × Sofar) Refused) (going : GoesOn ts defines w s locals frames i r) where
+  module _ (frames : List Frame) (i : ℕ) (r : Result (Term × Sofar) Refused) (going : GoesOn ts defines w s stacks frames i r) where
     abbrev reading : Reading Term
     reading = read (form_from ts i) going.context
 
@@ -56,7 +55,7 @@ module _ (ts : List Token) (defines : Option Name) (w : World) (s : Scoping) (lo
 
     module _ (v : World) (gains : Gains w v) (known : Scoping) (live : List ReadBinding) (shows : Shows v.table v.supply known live) where
       pub came_back : (k : NodeId) → IsSpared v.table v.supply k → reading (at_state going.live w) ≡ Ok (tree v.table k, at_state live v)
-          → known.definitions ≡ v.definitions → ComesBack ts defines v known locals frames k (after_at ts i) r
+          → known.definitions ≡ v.definitions → ComesBack ts defines v known stacks frames k (after_at ts i) r
       came_back k spared is definitions = record {
         live = live;
         later = going.later;
@@ -64,17 +63,17 @@ module _ (ts : List Token) (defines : Option Name) (w : World) (s : Scoping) (lo
         numbered = definitions;
         spared = spared;
         place = after_within ts i (form_within ts i going.form);
-        waiting = all_still ts defines w v gains kept frames (after_at ts i) locals going.later going.waiting;
+        waiting = all_still ts defines w v gains kept frames (after_at ts i) stacks going.later going.waiting;
         is = going.is ∙ bound_ok reading going.later (at_state going.live w) (tree v.table k) (at_state live v) is;
       }
 
       -- it waits for a form inside it
-      pub goes_inside : (f : Frame) (j : ℕ) (names : LocalNames) (context : Context) (inner : Later) → IsForm ts j → Stands ts defines v names context
-          → list_of f ≡ i → drop (bound_by f) names ≡ locals
+      pub goes_inside : (f : Frame) (j : ℕ) (inside : Stacks) (context : Context) (inner : Later) → IsForm ts j → Stands ts defines v inside.locals context
+          → list_of f ≡ i → below f inside ≡ stacks
           → reading (at_state going.live w) ≡ (read (form_from ts j) context >>= inner) (at_state live v)
-          → Waits ts defines v f (after_at ts j) names (λ u. inner u >>= going.later) going.later
-          → known.definitions ≡ v.definitions → GoesOn ts defines v known names (f ∷ frames) j r
-      goes_inside f j names context inner form stands list left is waits definitions = record {
+          → Waits ts defines v f (after_at ts j) inside (λ u. inner u >>= going.later) going.later
+          → known.definitions ≡ v.definitions → GoesOn ts defines v known inside (f ∷ frames) j r
+      goes_inside f j inside context inner form stands list left is waits definitions = record {
         context = context;
         live = live;
         later = λ u. inner u >>= going.later;
@@ -86,16 +85,16 @@ module _ (ts : List Token) (defines : Option Name) (w : World) (s : Scoping) (lo
           going.later,
           subst (IsForm ts) (sym list) going.form,
           waits,
-          subst (λ n. AllWait ts defines v frames (after_at ts n) (drop (bound_by f) names) going.later) (sym list)
-              (subst (λ ns. AllWait ts defines v frames (after_at ts i) ns going.later) (sym left)
-              (all_still ts defines w v gains kept frames (after_at ts i) locals going.later going.waiting)),
+          subst (λ n. AllWait ts defines v frames (after_at ts n) (below f inside) going.later) (sym list)
+              (subst (λ below_it. AllWait ts defines v frames (after_at ts i) below_it going.later) (sym left)
+              (all_still ts defines w v gains kept frames (after_at ts i) stacks going.later going.waiting)),
         );
         is = going.is ∙ ap (continued going.later) is ∙ bound_twice inner going.later (read (form_from ts j) context) (at_state live v);
       }
 
   -- ---- a term comes back to the form around it
 
-  module _ (f : Frame) (frames : List Frame) (k : NodeId) (at : ℕ) (r : Result (Term × Sofar) Refused) (come : ComesBack ts defines w s locals (f ∷ frames) k at r) (rest : Reading Term)
+  module _ (f : Frame) (frames : List Frame) (k : NodeId) (at : ℕ) (r : Result (Term × Sofar) Refused) (come : ComesBack ts defines w s stacks (f ∷ frames) k at r) (rest : Reading Term)
       (leads : come.later (tree w.table k) (at_state come.live w) ≡ (rest >>= come.waiting.0) (at_state come.live w)) where
     pub refused_behind : (e : Refused) → rest (at_state come.live w) ≡ Err e → r ≡ Err e
     refused_behind e is = come.is ∙ leads ∙ bound_err rest come.waiting.0 (at_state come.live w) e is
@@ -105,7 +104,7 @@ module _ (ts : List Token) (defines : Option Name) (w : World) (s : Scoping) (lo
 
     module _ (v : World) (gains : Gains w v) (known : Scoping) (live : List ReadBinding) (shows : Shows v.table v.supply known live) (numbered : known.definitions ≡ v.definitions) where
       pub ends_with : (j : NodeId) → IsSpared v.table v.supply j → rest (at_state come.live w) ≡ Ok (tree v.table j, at_state live v)
-          → ComesBack ts defines v known (drop (bound_by f) locals) frames j (after_at ts (list_of f)) r
+          → ComesBack ts defines v known (below f stacks) frames j (after_at ts (list_of f)) r
       ends_with j spared is = record {
         live = live;
         later = come.waiting.0;
@@ -113,16 +112,16 @@ module _ (ts : List Token) (defines : Option Name) (w : World) (s : Scoping) (lo
         numbered = numbered;
         spared = spared;
         place = after_within ts (list_of f) (form_within ts (list_of f) come.waiting.1);
-        waiting = all_still ts defines w v gains defined_before frames (after_at ts (list_of f)) (drop (bound_by f) locals) come.waiting.0 come.waiting.3;
+        waiting = all_still ts defines w v gains defined_before frames (after_at ts (list_of f)) (below f stacks) come.waiting.0 come.waiting.3;
         is = come.is ∙ leads ∙ bound_ok rest come.waiting.0 (at_state come.live w) (tree v.table j) (at_state live v) is;
       }
 
-      pub goes_further : (g : Frame) (j : ℕ) (names : LocalNames) (context : Context) (inner : Later) → IsForm ts j → Stands ts defines v names context
-          → list_of g ≡ list_of f → drop (bound_by g) names ≡ drop (bound_by f) locals
+      pub goes_further : (g : Frame) (j : ℕ) (inside : Stacks) (context : Context) (inner : Later) → IsForm ts j → Stands ts defines v inside.locals context
+          → list_of g ≡ list_of f → below g inside ≡ below f stacks
           → rest (at_state come.live w) ≡ (read (form_from ts j) context >>= inner) (at_state live v)
-          → Waits ts defines v g (after_at ts j) names (λ u. inner u >>= come.waiting.0) come.waiting.0
-          → GoesOn ts defines v known names (g ∷ frames) j r
-      goes_further g j names context inner form stands list left is waits = record {
+          → Waits ts defines v g (after_at ts j) inside (λ u. inner u >>= come.waiting.0) come.waiting.0
+          → GoesOn ts defines v known inside (g ∷ frames) j r
+      goes_further g j inside context inner form stands list left is waits = record {
         context = context;
         live = live;
         later = λ u. inner u >>= come.waiting.0;
@@ -134,9 +133,9 @@ module _ (ts : List Token) (defines : Option Name) (w : World) (s : Scoping) (lo
           come.waiting.0,
           subst (IsForm ts) (sym list) come.waiting.1,
           waits,
-          subst (λ n. AllWait ts defines v frames (after_at ts n) (drop (bound_by g) names) come.waiting.0) (sym list)
-              (subst (λ ns. AllWait ts defines v frames (after_at ts (list_of f)) ns come.waiting.0) (sym left)
-              (all_still ts defines w v gains defined_before frames (after_at ts (list_of f)) (drop (bound_by f) locals) come.waiting.0 come.waiting.3)),
+          subst (λ n. AllWait ts defines v frames (after_at ts n) (below g inside) come.waiting.0) (sym list)
+              (subst (λ below_it. AllWait ts defines v frames (after_at ts (list_of f)) below_it come.waiting.0) (sym left)
+              (all_still ts defines w v gains defined_before frames (after_at ts (list_of f)) (below f stacks) come.waiting.0 come.waiting.3)),
         );
         is = come.is ∙ leads ∙ ap (continued come.waiting.0) is ∙ bound_twice inner come.waiting.0 (read (form_from ts j) context) (at_state live v);
       }

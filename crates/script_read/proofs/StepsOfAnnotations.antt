@@ -26,7 +26,7 @@ use Rattle.script_read.specs.Known.{Scoping}
 use Rattle.script_read.specs.Places.{form_from, forms_from}
 use Rattle.script_read.specs.TermClauses.{naming, NamesGiven}
 use Rattle.script_read.specs.Sizes.{form_size, forms_size}
-use Rattle.script_read.specs.Waiting.{frames_left, left_of, GoesOn, ComesBack, Opens, Later, now_at, defined_by, Going, GoingBack, Stepped}
+use Rattle.script_read.specs.Waiting.{frames_left, left_of, GoesOn, ComesBack, Opens, Later, now_at, defined_by, stacks_of, Going, GoingBack, Stepped}
 use Rattle.script_read.proofs.Grown.{grown_self, later_self}
 use Rattle.script_read.proofs.Stepping.{at_state, gains_self, goes_inside, ends_with, refused_behind, refuses_as}
 use Rattle.script_read.proofs.Stepped.{reading_of, opened_is, refused_steps, reverse_push}
@@ -61,12 +61,12 @@ module _ (ts : List Token) (t : Formulas) (sofar : SofarSeen) (reader : TermRead
         ∙ ap (λ b. refused_if (not b) BadForm place (read (form_from ts term) going.context >>= inner) state) (sym (ap annotates parts.parts) ∙ parts.holds)
 
     pub annotated_begins : (frames : Vec Frame Global) → frames.items ≡ reader.frames.items ++ Annotated (record { list = list; attributes = attributes }) ∷ []
-        → Stepped ts t sofar (record { alloc = reader.alloc; defines = reader.defines; locals = reader.locals; frames = frames }) r (Ok (NextForm term))
+        → Stepped ts t sofar (record { alloc = reader.alloc; defines = reader.defines; locals = reader.locals; frames = frames; operands = reader.operands; callees = reader.callees }) r (Ok (NextForm term))
     annotated_begins frames pushed =
-        subst (λ fs. GoesOn ts (defined_by ts reader) (now_at t sofar) sofar.scope reader.locals fs term r) (sym (ap reverse pushed ∙ reverse_push reader.frames.items _))
-        (goes_inside ts (defined_by ts reader) (now_at t sofar) sofar.scope reader.locals (reverse reader.frames.items) list r going
+        subst (λ fs. GoesOn ts (defined_by ts reader) (now_at t sofar) sofar.scope (stacks_of reader) fs term r) (sym (ap reverse pushed ∙ reverse_push reader.frames.items _))
+        (goes_inside ts (defined_by ts reader) (now_at t sofar) sofar.scope (stacks_of reader) (reverse reader.frames.items) list r going
         (now_at t sofar) (gains_self (now_at t sofar)) sofar.scope going.live going.known
-        (Annotated (record { list = list; attributes = attributes })) term reader.locals going.context inner parts.form.form going.stands refl refl
+        (Annotated (record { list = list; attributes = attributes })) term (stacks_of reader) going.context inner parts.form.form going.stands refl refl
         term_is
         (record {
           context = going.context;
@@ -96,13 +96,13 @@ module _ (ts : List Token) (t : Formulas) (sofar : SofarSeen) (reader : TermRead
 
   pub names_refused : (now : SofarSeen) (u : TermReader) (e : ReadFault) → NamesGiven t sofar.fresh sofar.scope k named (Err e) → Stepped ts t now u r (Err e)
   names_refused now u e answer = refuses_as r named e
-      (λ x refused. refused_behind ts (defined_by ts reader) (now_at t sofar) sofar.scope reader.locals (Annotated frame) (reverse reader.frames.items) k at r come
+      (λ x refused. refused_behind ts (defined_by ts reader) (now_at t sofar) sofar.scope (stacks_of reader) (Annotated frame) (reverse reader.frames.items) k at r come
       (naming (token_at ts frame.list).start (forms_from ts frame.attributes) come.waiting.2.context come.waiting.2.form (tree t k)) (come.waiting.2.next (tree t k) (at_state come.live (now_at t sofar))) x refused) answer
 
   pub names_given : (s : Scoping) → s.definitions ≡ sofar.scope.definitions → NamesGiven t sofar.fresh s k named (Ok tt) → (n : ℕ) → n ≡ after_at ts frame.list
       → Stepped ts t (record { scope = s; fresh = sofar.fresh }) reader r (Ok (NextTerm k n))
   names_given s same answer n behind =
-      subst (λ m. ComesBack ts (defined_by ts reader) (now_at t (record { scope = s; fresh = sofar.fresh })) s reader.locals (reverse reader.frames.items) k m r) (sym behind)
-      (ends_with ts (defined_by ts reader) (now_at t sofar) sofar.scope reader.locals (Annotated frame) (reverse reader.frames.items) k at r come
+      subst (λ m. ComesBack ts (defined_by ts reader) (now_at t (record { scope = s; fresh = sofar.fresh })) s (stacks_of reader) (reverse reader.frames.items) k m r) (sym behind)
+      (ends_with ts (defined_by ts reader) (now_at t sofar) sofar.scope (stacks_of reader) (Annotated frame) (reverse reader.frames.items) k at r come
       (naming (token_at ts frame.list).start (forms_from ts frame.attributes) come.waiting.2.context come.waiting.2.form (tree t k)) (come.waiting.2.next (tree t k) (at_state come.live (now_at t sofar)))
       (now_at t (record { scope = s; fresh = sofar.fresh })) (record { table = grown_self t; supply = later_self sofar.fresh; definitions = same }) s answer.live answer.shows refl k come.spared answer.given)

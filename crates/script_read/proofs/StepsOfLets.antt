@@ -31,9 +31,9 @@ use Rattle.script_read.specs.Bound.{LocalNames, let_local, local_meant, let_mean
 use Rattle.script_read.specs.Openings.{binds, binding_in, BindsAt}
 use Rattle.script_read.specs.PlaceClauses.{BeginsForm}
 use Rattle.script_read.specs.Places.{IsForm, form_from, forms_from}
-use Rattle.script_read.specs.Waiting.{Stands, GoesOn, ComesBack, BindsNext, BindingNext, Opens, WaitsForBinding, Later, now_at, defined_by, Going, GoingBack, Stepped, name_with_term, names_with_terms, reversed_names, AllWait}
+use Rattle.script_read.specs.Waiting.{Stands, GoesOn, ComesBack, BindsNext, BindingNext, Opens, WaitsForBinding, Later, now_at, defined_by, stacks_of, Going, GoingBack, Stepped, name_with_term, names_with_terms, reversed_names, AllWait}
 use Rattle.script_read.proofs.Stepping.{at_state, bound_twice, bound_alike, gains_self, ends_with}
-use Rattle.script_read.proofs.Stepped.{opened_is, refused_steps, reverse_push}
+use Rattle.script_read.proofs.Stepped.{stacks_with, opened_is, refused_steps, reverse_push}
 
 -- ---- one binding after the other
 
@@ -71,18 +71,28 @@ let_unbound (node part none ⨾ body ⨾ none) place c s unbound = refl
 let_unbound (node part (b ⨾ bs) ⨾ body ⨾ none) place c s unbound = absurd (cc)
 let_unbound (node part bs ⨾ body ⨾ f ⨾ fs) place c s unbound = refl
 
+-- the parts of a `let` that is kept
+binds_with : (ts : List Token) (t : Formulas) (sofar : SofarSeen) (reader : TermReader) (lets : Lets) (list part body : ℕ) (names : List (Name × NodeId)) (r : Result (Term × Sofar) Refused)
+    → lets.list ≡ list → lets.part ≡ part → lets.body ≡ body → lets.names.value ≡ names
+    → BindsNext ts (defined_by ts reader) (now_at t sofar) sofar.scope (stacks_of reader) (reverse reader.frames.items) list part body names r → BindingNext ts t sofar reader lets r
+binds_with ts t sofar reader lets list part body names r same_list same_part same_body same_names next =
+    subst (λ l. BindsNext ts (defined_by ts reader) (now_at t sofar) sofar.scope (stacks_of reader) (reverse reader.frames.items) l lets.part lets.body lets.names.value r) (sym same_list)
+    (subst (λ p. BindsNext ts (defined_by ts reader) (now_at t sofar) sofar.scope (stacks_of reader) (reverse reader.frames.items) list p lets.body lets.names.value r) (sym same_part)
+    (subst (λ b. BindsNext ts (defined_by ts reader) (now_at t sofar) sofar.scope (stacks_of reader) (reverse reader.frames.items) list part b lets.names.value r) (sym same_body)
+    (subst (λ ns. BindsNext ts (defined_by ts reader) (now_at t sofar) sofar.scope (stacks_of reader) (reverse reader.frames.items) list part body ns r) (sym same_names) next)))
+
 module _ (ts : List Token) (t : Formulas) (sofar : SofarSeen) (reader : TermReader) (list : ℕ) (r : Result (Term × Sofar) Refused) (going : Going ts t sofar reader (NextForm list) r)
     (first : ℕ) (opens : Opens ts list first let_word) where
   pub let_refused : (e : Fault) → BindsAt ts list (forms_from ts (after_at ts first)) (Err e) → Stepped ts t sofar reader r (Err (RefusedFor e))
   let_refused e unbound = refused_steps ts t sofar reader list r going t reader e _ unbound.1
       (opened_is ts t sofar reader list r going first let_word opens ∙ let_unbound (forms_from ts (after_at ts first)) _ going.context _ unbound.0)
 
-  pub let_begins : (part body : ℕ) → BindsAt ts list (forms_from ts (after_at ts first)) (Ok (part, body)) → (lets : Lets) → lets.list ≡ list → lets.part ≡ part → lets.body ≡ body → lets.names ≡ []
+  pub let_begins : (part body : ℕ) → BindsAt ts list (forms_from ts (after_at ts first)) (Ok (part, body)) → (lets : Lets) → lets.list ≡ list → lets.part ≡ part → lets.body ≡ body → lets.names.value ≡ []
       → BindingNext ts t sofar reader lets r
   let_begins part body bound lets same_list same_part same_body no_names =
       let read_is = opened_is ts t sofar reader list r going first let_word opens
       ∙ let_bound (forms_from ts (after_at ts first)) (token_at ts list).start going.context (at_state going.live (now_at t sofar)) bound.0 (forms_from ts part) (form_from ts body) bound.1 bound.4 in
-      let start : BindsNext ts (defined_by ts reader) (now_at t sofar) sofar.scope reader.locals (reverse reader.frames.items) list part body [] r = record {
+      let start : BindsNext ts (defined_by ts reader) (now_at t sofar) sofar.scope (stacks_of reader) (reverse reader.frames.items) list part body [] r = record {
         context = going.context;
         live = going.live;
         outer = going.later;
@@ -97,23 +107,20 @@ module _ (ts : List Token) (t : Formulas) (sofar : SofarSeen) (reader : TermRead
         waiting = going.waiting;
         is = going.is ∙ ap (continued going.later) read_is;
       } in
-      subst (λ l. BindsNext ts (defined_by ts reader) (now_at t sofar) sofar.scope reader.locals (reverse reader.frames.items) l lets.part lets.body lets.names r) (sym same_list)
-      (subst (λ p. BindsNext ts (defined_by ts reader) (now_at t sofar) sofar.scope reader.locals (reverse reader.frames.items) list p lets.body lets.names r) (sym same_part)
-      (subst (λ b. BindsNext ts (defined_by ts reader) (now_at t sofar) sofar.scope reader.locals (reverse reader.frames.items) list part b lets.names r) (sym same_body)
-      (subst (λ ns. BindsNext ts (defined_by ts reader) (now_at t sofar) sofar.scope reader.locals (reverse reader.frames.items) list part body ns r) (sym no_names) start)))
+      binds_with ts t sofar reader lets list part body [] r same_list same_part same_body no_names start
 
 -- ---- a binding opens
 
 module _ (ts : List Token) (t : Formulas) (sofar : SofarSeen) (reader : TermReader) (lets : Lets) (r : Result (Term × Sofar) Refused) (next : BindingNext ts t sofar reader lets r)
     (begins : BeginsForm ts lets.part) where
   abbrev earlier : List Name
-  earlier = reversed_names lets.names
+  earlier = reversed_names lets.names.value
 
   abbrev state : Sofar
   state = at_state next.live (now_at t sofar)
 
   abbrev body_of : List (Name × Term) → Reading Term
-  body_of us = read (form_from ts lets.body) (with_local (lets_as next.bindings (names_with_terms t lets.names ++ us)) next.context)
+  body_of us = read (form_from ts lets.body) (with_local (lets_as next.bindings (names_with_terms t lets.names.value ++ us)) next.context)
 
   abbrev named : Result (Name × Form) Refused
   named = binding_in earlier (form_from ts lets.part)
@@ -128,7 +135,7 @@ module _ (ts : List Token) (t : Formulas) (sofar : SofarSeen) (reader : TermRead
   binding_refused e refused =
       next.is ∙ ap (continued next.outer) (binding_is ∙ ap (λ n. continued body_of (continued (behind_name (forms_from ts (after_at ts lets.part)) earlier next.context) (beside state n))) refused)
 
-  module _ (term : ℕ) (form : IsForm ts term) (named_is : named ≡ Ok (name_at ts (suc lets.part), form_from ts term)) (new_name : is_among (map (λ p. p.0) lets.names) (name_at ts (suc lets.part)) ≡ false) (own_name : IsOwnName (name_at ts (suc lets.part))) (named_token : suc lets.part < length ts) where
+  module _ (term : ℕ) (form : IsForm ts term) (named_is : named ≡ Ok (name_at ts (suc lets.part), form_from ts term)) (new_name : is_among (map (λ p. p.0) lets.names.value) (name_at ts (suc lets.part)) ≡ false) (own_name : IsOwnName (name_at ts (suc lets.part))) (named_token : suc lets.part < length ts) where
     abbrev name : Name
     name = name_at ts (suc lets.part)
 
@@ -146,9 +153,9 @@ module _ (ts : List Token) (t : Formulas) (sofar : SofarSeen) (reader : TermRead
         ∙ bound_alike (λ u. (others >>= λ us. gives ((name, u) ∷ us)) >>= body_of) inner (λ u s. bound_twice (λ us. gives ((name, u) ∷ us)) body_of others s) (read (form_from ts term) next.context) state
 
     pub binding_begins : (frames : Vec Frame Global) → frames.items ≡ reader.frames.items ++ Binding lets ∷ []
-        → Stepped ts t sofar (record { alloc = reader.alloc; defines = reader.defines; locals = reader.locals; frames = frames }) r (Ok (NextForm term))
+        → Stepped ts t sofar (record { alloc = reader.alloc; defines = reader.defines; locals = reader.locals; frames = frames; operands = reader.operands; callees = reader.callees }) r (Ok (NextForm term))
     binding_begins frames pushed =
-        subst (λ fs. GoesOn ts (defined_by ts reader) (now_at t sofar) sofar.scope reader.locals fs term r) (sym (ap reverse pushed ∙ reverse_push reader.frames.items _))
+        subst (λ fs. GoesOn ts (defined_by ts reader) (now_at t sofar) sofar.scope (stacks_of reader) fs term r) (sym (ap reverse pushed ∙ reverse_push reader.frames.items _))
         (record {
           context = next.context;
           live = next.live;
@@ -181,26 +188,26 @@ module _ (ts : List Token) (t : Formulas) (sofar : SofarSeen) (reader : TermRead
 -- ---- the term of a binding comes back
 
 module _ (ts : List Token) (t : Formulas) (sofar : SofarSeen) (reader : TermReader) (lets : Lets) (k : NodeId) (at : ℕ) (r : Result (Term × Sofar) Refused) (come : GoingBack ts t sofar reader (Binding lets) k at r) where
-  abbrev waits : WaitsForBinding ts (defined_by ts reader) (now_at t sofar) lets.part lets.body lets.names reader.locals come.later come.waiting.0
+  abbrev waits : WaitsForBinding ts (defined_by ts reader) (now_at t sofar) lets.part lets.body lets.names.value reader.locals come.later come.waiting.0
   waits = come.waiting.2
 
   abbrev bound_name : Name
   bound_name = name_at ts (suc lets.part)
 
-  pub new_name : is_among (map (λ p. p.0) lets.names) bound_name ≡ false
+  pub new_name : is_among (map (λ p. p.0) lets.names.value) bound_name ≡ false
   new_name = waits.new_name
 
-  module _ (names : List (Name × NodeId)) (one_more : names ≡ lets.names ++ (bound_name, k) ∷ []) where
-    names_reversed : bound_name ∷ reversed_names lets.names ≡ reversed_names names
+  module _ (names : List (Name × NodeId)) (one_more : names ≡ lets.names.value ++ (bound_name, k) ∷ []) where
+    names_reversed : bound_name ∷ reversed_names lets.names.value ≡ reversed_names names
     names_reversed =
         sym (ap reversed_names one_more
-        ∙ ap reverse (map_push (λ (p : Name × NodeId). p.0) lets.names (bound_name, k))
-        ∙ reverse_push (map (λ p. p.0) lets.names) bound_name)
+        ∙ ap reverse (map_push (λ (p : Name × NodeId). p.0) lets.names.value (bound_name, k))
+        ∙ reverse_push (map (λ p. p.0) lets.names.value) bound_name)
 
-    terms_more : (us : List (Name × Term)) → names_with_terms t lets.names ++ (bound_name, tree t k) ∷ us ≡ names_with_terms t names ++ us
+    terms_more : (us : List (Name × Term)) → names_with_terms t lets.names.value ++ (bound_name, tree t k) ∷ us ≡ names_with_terms t names ++ us
     terms_more us =
-        sym (append_assoc (names_with_terms t lets.names) ((bound_name, tree t k) ∷ []) us)
-        ∙ ap (λ ps. ps ++ us) (sym (ap (names_with_terms t) one_more ∙ map_push (name_with_term t) lets.names (bound_name, k)))
+        sym (append_assoc (names_with_terms t lets.names.value) ((bound_name, tree t k) ∷ []) us)
+        ∙ ap (λ ps. ps ++ us) (sym (ap (names_with_terms t) one_more ∙ map_push (name_with_term t) lets.names.value (bound_name, k)))
 
     abbrev then_body : List (Name × Term) → Reading Term
     then_body ps = read (form_from ts lets.body) (with_local (lets_as waits.bindings ps) waits.context)
@@ -209,31 +216,33 @@ module _ (ts : List Token) (t : Formulas) (sofar : SofarSeen) (reader : TermRead
         ≡ ((read_bindings (forms_from ts (after_at ts lets.part)) (reversed_names names) waits.context >>= λ us. then_body (names_with_terms t names ++ us)) >>= come.waiting.0) (at_state come.live (now_at t sofar))
     further_is =
         waits.next (tree t k) (at_state come.live (now_at t sofar))
-        ∙ ap (λ ns. ((read_bindings (forms_from ts (after_at ts lets.part)) ns waits.context >>= λ us. then_body (names_with_terms t lets.names ++ (bound_name, tree t k) ∷ us)) >>= come.waiting.0) (at_state come.live (now_at t sofar))) names_reversed
+        ∙ ap (λ ns. ((read_bindings (forms_from ts (after_at ts lets.part)) ns waits.context >>= λ us. then_body (names_with_terms t lets.names.value ++ (bound_name, tree t k) ∷ us)) >>= come.waiting.0) (at_state come.live (now_at t sofar))) names_reversed
         ∙ ap (continued come.waiting.0)
-        (bound_alike (λ us. then_body (names_with_terms t lets.names ++ (bound_name, tree t k) ∷ us)) (λ us. then_body (names_with_terms t names ++ us)) (λ us s. ap (λ ps. then_body ps s) (terms_more us))
+        (bound_alike (λ us. then_body (names_with_terms t lets.names.value ++ (bound_name, tree t k) ∷ us)) (λ us. then_body (names_with_terms t names ++ us)) (λ us s. ap (λ ps. then_body ps s) (terms_more us))
         (read_bindings (forms_from ts (after_at ts lets.part)) (reversed_names names) waits.context) (at_state come.live (now_at t sofar)))
 
     terms_spared : AreSpared t sofar.fresh (map (λ p. p.1) names)
-    terms_spared = subst (AreSpared t sofar.fresh) (sym (ap (map (λ (p : Name × NodeId). p.1)) one_more ∙ map_push (λ (p : Name × NodeId). p.1) lets.names (bound_name, k)))
-        (All-push (IsSpared t sofar.fresh) (map (λ p. p.1) lets.names) k waits.terms come.spared)
+    terms_spared = subst (AreSpared t sofar.fresh) (sym (ap (map (λ (p : Name × NodeId). p.1)) one_more ∙ map_push (λ (p : Name × NodeId). p.1) lets.names.value (bound_name, k)))
+        (All-push (IsSpared t sofar.fresh) (map (λ p. p.1) lets.names.value) k waits.terms come.spared)
 
-    pub binding_next : (part : ℕ) → part ≡ after_at ts lets.part → BindingNext ts t sofar reader (record { list = lets.list; part = part; body = lets.body; names = names }) r
-    binding_next part is = record {
-      context = waits.context;
-      live = come.live;
-      outer = come.waiting.0;
-      bindings = waits.bindings;
-      known = come.known;
-      numbered = come.numbered;
-      stands = waits.stands;
-      terms = terms_spared;
-      own = subst HaveOwnNames (sym one_more) (All-push (λ p. IsOwnName p.0) lets.names (bound_name, k) waits.own waits.own_name);
-      list_form = come.waiting.1;
-      body_form = waits.body_form;
-      waiting = come.waiting.3;
-      is = come.is ∙ further_is ∙ ap (λ n. ((read_bindings (forms_from ts n) (reversed_names names) waits.context >>= λ us. then_body (names_with_terms t names ++ us)) >>= come.waiting.0) (at_state come.live (now_at t sofar))) (sym is);
-    }
+    pub binding_next : (now : Lets) → now.list ≡ lets.list → now.part ≡ after_at ts lets.part → now.body ≡ lets.body → now.names.value ≡ names → BindingNext ts t sofar reader now r
+    binding_next now same_list further same_body same_names =
+        let next : BindsNext ts (defined_by ts reader) (now_at t sofar) sofar.scope (stacks_of reader) (reverse reader.frames.items) lets.list (after_at ts lets.part) lets.body names r = record {
+          context = waits.context;
+          live = come.live;
+          outer = come.waiting.0;
+          bindings = waits.bindings;
+          known = come.known;
+          numbered = come.numbered;
+          stands = waits.stands;
+          terms = terms_spared;
+          own = subst HaveOwnNames (sym one_more) (All-push (λ p. IsOwnName p.0) lets.names.value (bound_name, k) waits.own waits.own_name);
+          list_form = come.waiting.1;
+          body_form = waits.body_form;
+          waiting = come.waiting.3;
+          is = come.is ∙ further_is;
+        } in
+        binds_with ts t sofar reader now lets.list (after_at ts lets.part) lets.body names r same_list further same_body same_names next
 
 -- ---- the body opens
 
@@ -260,28 +269,28 @@ dropped xs ys n all = drop-append-le n xs ys (omega (arith, all)) ∙ ap (λ zs.
 module _ (ts : List Token) (t : Formulas) (sofar : SofarSeen) (reader : TermReader) (lets : Lets) (r : Result (Term × Sofar) Refused) (next : BindingNext ts t sofar reader lets r)
     (empty : forms_from ts lets.part ≡ none) where
   abbrev inside : Context
-  inside = with_local (lets_as next.bindings (names_with_terms t lets.names ++ [])) next.context
+  inside = with_local (lets_as next.bindings (names_with_terms t lets.names.value ++ [])) next.context
 
   body_is : r ≡ (read (form_from ts lets.body) inside >>= next.outer) (at_state next.live (now_at t sofar))
-  body_is = next.is ∙ ap (λ fs. ((read_bindings fs (reversed_names lets.names) next.context >>= λ us. read (form_from ts lets.body) (with_local (lets_as next.bindings (names_with_terms t lets.names ++ us)) next.context)) >>= next.outer) (at_state next.live (now_at t sofar))) empty
+  body_is = next.is ∙ ap (λ fs. ((read_bindings fs (reversed_names lets.names.value) next.context >>= λ us. read (form_from ts lets.body) (with_local (lets_as next.bindings (names_with_terms t lets.names.value ++ us)) next.context)) >>= next.outer) (at_state next.live (now_at t sofar))) empty
 
-  pub body_begins : (locals : LocalNames) → locals ≡ map let_local lets.names ++ reader.locals → (n : ℕ) → n ≡ length lets.names
+  pub body_begins : (locals : LocalNames) → locals ≡ map let_local lets.names.value ++ reader.locals → (n : ℕ) → n ≡ length lets.names.value
       → (frames : Vec Frame Global) → frames.items ≡ reader.frames.items ++ Body (record { list = lets.list; names = n }) ∷ []
-      → Stepped ts t sofar (record { alloc = reader.alloc; defines = reader.defines; locals = locals; frames = frames }) r (Ok (NextForm lets.body))
+      → Stepped ts t sofar (record { alloc = reader.alloc; defines = reader.defines; locals = locals; frames = frames; operands = reader.operands; callees = reader.callees }) r (Ok (NextForm lets.body))
   body_begins locals entered n all frames pushed =
       let stands : Stands ts (defined_by ts reader) (now_at t sofar) locals inside = record {
         shown = record {
-          names = ap (locals_shown t) entered ∙ shown_append t (map let_local lets.names) reader.locals
-              ∙ ap (λ ps. ps ++ locals_shown t reader.locals) (shown_lets t lets.names ∙ ap (map (λ p. (p.0, let_meant p.1))) (sym (append-nil (names_with_terms t lets.names))))
-              ∙ ap (λ ps. map (λ p. (p.0, let_meant p.1)) (names_with_terms t lets.names ++ []) ++ ps) next.stands.shown.names;
-          numbers = subst (AreLocals t sofar.fresh) (sym entered) (All-append (λ p. IsLocal t sofar.fresh p.1) (map let_local lets.names) reader.locals (spared_lets t sofar.fresh lets.names next.terms) next.stands.shown.numbers);
-          own = subst HaveOwnNames (sym entered) (All-append (λ p. IsOwnName p.0) (map let_local lets.names) reader.locals (own_lets lets.names next.own) next.stands.shown.own);
+          names = ap (locals_shown t) entered ∙ shown_append t (map let_local lets.names.value) reader.locals
+              ∙ ap (λ ps. ps ++ locals_shown t reader.locals) (shown_lets t lets.names.value ∙ ap (map (λ p. (p.0, let_meant p.1))) (sym (append-nil (names_with_terms t lets.names.value))))
+              ∙ ap (λ ps. map (λ p. (p.0, let_meant p.1)) (names_with_terms t lets.names.value ++ []) ++ ps) next.stands.shown.names;
+          numbers = subst (AreLocals t sofar.fresh) (sym entered) (All-append (λ p. IsLocal t sofar.fresh p.1) (map let_local lets.names.value) reader.locals (spared_lets t sofar.fresh lets.names.value next.terms) next.stands.shown.numbers);
+          own = subst HaveOwnNames (sym entered) (All-append (λ p. IsOwnName p.0) (map let_local lets.names.value) reader.locals (own_lets lets.names.value next.own) next.stands.shown.own);
         };
         named = next.stands.named;
       } in
-      let many : n ≡ length (map let_local lets.names) = all ∙ sym (length-map lets.names let_local) in
-      let left : drop n locals ≡ reader.locals = ap (drop n) entered ∙ dropped (map let_local lets.names) reader.locals n many in
-      subst (λ fs. GoesOn ts (defined_by ts reader) (now_at t sofar) sofar.scope locals fs lets.body r) (sym (ap reverse pushed ∙ reverse_push reader.frames.items _))
+      let many : n ≡ length (map let_local lets.names.value) = all ∙ sym (length-map lets.names.value let_local) in
+      let left : drop n locals ≡ reader.locals = ap (drop n) entered ∙ dropped (map let_local lets.names.value) reader.locals n many in
+      subst (λ fs. GoesOn ts (defined_by ts reader) (now_at t sofar) sofar.scope (stacks_with reader locals) fs lets.body r) (sym (ap reverse pushed ∙ reverse_push reader.frames.items _))
       (record {
         context = inside;
         live = next.live;
@@ -293,8 +302,8 @@ module _ (ts : List Token) (t : Formulas) (sofar : SofarSeen) (reader : TermRead
         waiting = (
           next.outer,
           next.list_form,
-          record { within = let size = ap length entered ∙ length-append (map let_local lets.names) reader.locals in omega (arith, many, size); next = λ u s. refl },
-          subst (λ ls. AllWait ts (defined_by ts reader) (now_at t sofar) (reverse reader.frames.items) (after_at ts lets.list) ls next.outer) (sym left) next.waiting,
+          record { within = let size = ap length entered ∙ length-append (map let_local lets.names.value) reader.locals in omega (arith, many, size); next = λ u s. refl },
+          subst (λ ls. AllWait ts (defined_by ts reader) (now_at t sofar) (reverse reader.frames.items) (after_at ts lets.list) (stacks_with reader ls) next.outer) (sym left) next.waiting,
         );
         is = body_is;
       })
@@ -306,9 +315,9 @@ module _ (ts : List Token) (t : Formulas) (sofar : SofarSeen) (reader : TermRead
   names_within = come.waiting.2.within
 
   pub body_ends : (locals : LocalNames) → locals ≡ drop frame.names reader.locals → (n : ℕ) → n ≡ after_at ts frame.list
-      → Stepped ts t sofar (record { alloc = reader.alloc; defines = reader.defines; locals = locals; frames = reader.frames }) r (Ok (NextTerm k n))
+      → Stepped ts t sofar (record { alloc = reader.alloc; defines = reader.defines; locals = locals; frames = reader.frames; operands = reader.operands; callees = reader.callees }) r (Ok (NextTerm k n))
   body_ends locals left n behind =
-      subst (λ m. ComesBack ts (defined_by ts reader) (now_at t sofar) sofar.scope locals (reverse reader.frames.items) k m r) (sym behind)
-      (subst (λ ls. ComesBack ts (defined_by ts reader) (now_at t sofar) sofar.scope ls (reverse reader.frames.items) k (after_at ts frame.list) r) (sym left)
-      (ends_with ts (defined_by ts reader) (now_at t sofar) sofar.scope reader.locals (Body frame) (reverse reader.frames.items) k at r come (gives (tree t k)) (come.waiting.2.next (tree t k) (at_state come.live (now_at t sofar)))
+      subst (λ m. ComesBack ts (defined_by ts reader) (now_at t sofar) sofar.scope (stacks_with reader locals) (reverse reader.frames.items) k m r) (sym behind)
+      (subst (λ ls. ComesBack ts (defined_by ts reader) (now_at t sofar) sofar.scope (stacks_with reader ls) (reverse reader.frames.items) k (after_at ts frame.list) r) (sym left)
+      (ends_with ts (defined_by ts reader) (now_at t sofar) sofar.scope (stacks_of reader) (Body frame) (reverse reader.frames.items) k at r come (gives (tree t k)) (come.waiting.2.next (tree t k) (at_state come.live (now_at t sofar)))
       (now_at t sofar) (gains_self (now_at t sofar)) sofar.scope come.live come.known refl k come.spared refl))

@@ -42,13 +42,13 @@ use Rattle.script_read.specs.BinderClauses.{IsSortedName, AreSortedNames}
 use Rattle.script_read.specs.Openings.{binds, BindsAt}
 use Rattle.script_read.specs.Places.{SparesText, form_from, forms_from}
 use Rattle.script_read.specs.TermClauses.{ReadsAlone}
-use Rattle.script_read.specs.Waiting.{Gains, Stands, GoesOn, ComesBack, Opens, Later, now_at, defined_by, Going, GoingBack, Stepped}
+use Rattle.script_read.specs.Waiting.{Gains, Stands, GoesOn, ComesBack, Opens, Later, now_at, defined_by, stacks_of, Going, GoingBack, Stepped}
 use Rattle.term_walk.proofs.Visits.{table-grows}
 use Rattle.script_read.proofs.Showing.{sorts_found, declared_found, shows_stays}
 use Rattle.script_read.proofs.ShowingLocals.{quantified_found, locals_stay}
 use Rattle.script_read.proofs.BoundVariables.{known_fine, drawn_bindable, drawn_count, drawn_variables, entered_shows, entered_leaves, entered_length}
 use Rattle.script_read.proofs.Stepping.{at_state, goes_inside, ends_with, refused_here, refused_behind, refuses_as}
-use Rattle.script_read.proofs.Stepped.{reading_of, opened_is, refused_steps, table_gains, still_shows, reverse_push}
+use Rattle.script_read.proofs.Stepped.{stacks_with, reading_of, opened_is, refused_steps, table_gains, still_shows, reverse_push}
 
 -- ---- a quantifier opens
 
@@ -101,7 +101,7 @@ module _ (ts : List Token) (t : Formulas) (sofar : SofarSeen) (reader : TermRead
 
     pub variables_refused : (u : Formulas) (now : TermReader) (e : ReadFault) → Refuses read_variables e → Stepped ts u sofar now r (Err e)
     variables_refused u now e refuses = refuses_as r read_variables e
-        (λ x refused. refused_here ts (defined_by ts reader) (now_at t sofar) sofar.scope reader.locals (reverse reader.frames.items) list r going x
+        (λ x refused. refused_here ts (defined_by ts reader) (now_at t sofar) sofar.scope (stacks_of reader) (reverse reader.frames.items) list r going x
         (variables_is ∙ ap (λ v. continued (behind_variables place (quantifier_of q) (form_from ts body) going.context) (beside state v)) refused)) refuses
 
     same_taken : is_taken_in sofar.scope reader.locals ≡ is_taken going.context.locals going.live
@@ -151,7 +151,7 @@ module _ (ts : List Token) (t : Formulas) (sofar : SofarSeen) (reader : TermRead
       pub quantified_begins : IsSortList t.sorts → SparesText ts sofar.fresh → AreSortedNames u ts vs
           → (items : Vec Constant Global) → items.items ≡ cs → (locals : LocalNames) → locals ≡ entered ts vs cs reader.locals
           → (frames : Vec Frame Global) → frames.items ≡ reader.frames.items ++ Quantified (record { list = list; quantifier = q; constants = items }) ∷ []
-          → Stepped ts v (record { scope = sofar.scope; fresh = left }) (record { alloc = reader.alloc; defines = reader.defines; locals = locals; frames = frames }) r (Ok (NextForm body))
+          → Stepped ts v (record { scope = sofar.scope; fresh = left }) (record { alloc = reader.alloc; defines = reader.defines; locals = locals; frames = frames; operands = reader.operands; callees = reader.callees }) r (Ok (NextForm body))
       quantified_begins sorts text sorted items same locals bound_is frames pushed =
           let gains : Gains (now_at t sofar) (now_at v (record { scope = sofar.scope; fresh = left })) = record { table = all_grows; supply = later; definitions = refl } in
           let inside : Stands ts (defined_by ts reader) (now_at v (record { scope = sofar.scope; fresh = left })) locals below = record {
@@ -160,11 +160,11 @@ module _ (ts : List Token) (t : Formulas) (sofar : SofarSeen) (reader : TermRead
             named = going.stands.named;
           } in
           let many : length items.items ≡ length cs = ap length same in
-          subst (λ fs. GoesOn ts (defined_by ts reader) (now_at v (record { scope = sofar.scope; fresh = left })) sofar.scope locals fs body r) (sym (ap reverse pushed ∙ reverse_push reader.frames.items _))
-          (goes_inside ts (defined_by ts reader) (now_at t sofar) sofar.scope reader.locals (reverse reader.frames.items) list r going
+          subst (λ fs. GoesOn ts (defined_by ts reader) (now_at v (record { scope = sofar.scope; fresh = left })) sofar.scope (stacks_with reader locals) fs body r) (sym (ap reverse pushed ∙ reverse_push reader.frames.items _))
+          (goes_inside ts (defined_by ts reader) (now_at t sofar) sofar.scope (stacks_of reader) (reverse reader.frames.items) list r going
           (now_at v (record { scope = sofar.scope; fresh = left })) gains sofar.scope going.live (shows_stays t v sofar.fresh left all_grows later sofar.scope going.live going.known)
-          (Quantified (record { list = list; quantifier = q; constants = items })) body locals below inner bound.3 inside refl
-          (ap (λ n. drop n locals) many ∙ ap (drop (length cs)) bound_is ∙ entered_leaves ts vs cs reader.locals as_many)
+          (Quantified (record { list = list; quantifier = q; constants = items })) body (stacks_with reader locals) below inner bound.3 inside refl
+          (ap (stacks_with reader) (ap (λ n. drop n locals) many ∙ ap (drop (length cs)) bound_is ∙ entered_leaves ts vs cs reader.locals as_many))
           body_is
           (record {
             within = let size = ap length bound_is ∙ entered_length ts vs cs reader.locals as_many in omega (arith, many, size);
@@ -183,14 +183,14 @@ module _ (ts : List Token) (t : Formulas) (sofar : SofarSeen) (reader : TermRead
 
   pub quantifier_not_made : (u : Formulas) (now : TermReader) (e : ReadFault) → ReadsAlone u sofar.fresh closed (Err e) → Stepped ts u sofar now r (Err e)
   quantifier_not_made u now e answer = refuses_as r closed e
-      (λ x refused. refused_behind ts (defined_by ts reader) (now_at t sofar) sofar.scope reader.locals (Quantified frame) (reverse reader.frames.items) k at r come
+      (λ x refused. refused_behind ts (defined_by ts reader) (now_at t sofar) sofar.scope (stacks_of reader) (Quantified frame) (reverse reader.frames.items) k at r come
       (by_rule closed) (come.waiting.2.next (tree t k) (at_state come.live (now_at t sofar))) x (ap (beside (at_state come.live (now_at t sofar))) refused)) answer
 
   pub quantifier_made : (u : Formulas) → GrowsTo t u → (j : NodeId) → ReadsAlone u sofar.fresh closed (Ok j) → (locals : LocalNames) → locals ≡ drop (length frame.constants.items) reader.locals
-      → (n : ℕ) → n ≡ after_at ts frame.list → Stepped ts u sofar (record { alloc = reader.alloc; defines = reader.defines; locals = locals; frames = reader.frames }) r (Ok (NextTerm j n))
+      → (n : ℕ) → n ≡ after_at ts frame.list → Stepped ts u sofar (record { alloc = reader.alloc; defines = reader.defines; locals = locals; frames = reader.frames; operands = reader.operands; callees = reader.callees }) r (Ok (NextTerm j n))
   quantifier_made u grows j answer locals left n behind =
-      subst (λ m. ComesBack ts (defined_by ts reader) (now_at u sofar) sofar.scope locals (reverse reader.frames.items) j m r) (sym behind)
-      (subst (λ ls. ComesBack ts (defined_by ts reader) (now_at u sofar) sofar.scope ls (reverse reader.frames.items) j (after_at ts frame.list) r) (sym left)
-      (ends_with ts (defined_by ts reader) (now_at t sofar) sofar.scope reader.locals (Quantified frame) (reverse reader.frames.items) k at r come
+      subst (λ m. ComesBack ts (defined_by ts reader) (now_at u sofar) sofar.scope (stacks_with reader locals) (reverse reader.frames.items) j m r) (sym behind)
+      (subst (λ ls. ComesBack ts (defined_by ts reader) (now_at u sofar) sofar.scope (stacks_with reader ls) (reverse reader.frames.items) j (after_at ts frame.list) r) (sym left)
+      (ends_with ts (defined_by ts reader) (now_at t sofar) sofar.scope (stacks_of reader) (Quantified frame) (reverse reader.frames.items) k at r come
       (by_rule closed) (come.waiting.2.next (tree t k) (at_state come.live (now_at t sofar)))
       (now_at u sofar) (table_gains t u sofar grows) sofar.scope come.live (still_shows t u sofar come.live grows come.known) refl j answer.0 (ap (beside (at_state come.live (now_at t sofar))) answer.1)))

@@ -1,6 +1,5 @@
 -- Terms under way: what waits for the term that is being read, from the innermost form out, and what the reading then gives.
-use Rattle.std.specs.Prelude.{◌≡◌, Bool, true, false, ℕ, suc, ◌+◌, ◌<◌, ◌≤◌, List, [], ◌∷◌, ◌++◌, map, reverse, length, drop, get_or, All, IsTrue, Option, option_map, Result, Ok, Err}
-use Rattle.smallvec.specs.SmallVec.{SmallVec}
+use Rattle.std.specs.Prelude.{◌≡◌, Bool, true, false, ℕ, suc, ◌+◌, ◌<◌, ◌≤◌, List, [], ◌∷◌, ◌++◌, map, reverse, length, take, drop, get_or, All, IsTrue, Option, option_map, Result, Ok, Err}
 use Rattle.smt_lex.specs.Lex.{Token}
 use Rattle.smt_lex.specs.Names.{Name, is_among}
 use Rattle.smt_lex.specs.Forest.{token_at, after_at}
@@ -22,7 +21,6 @@ use Rattle.script_read.specs.declared.terms.callees.Callee.{Callee}
 use Rattle.script_read.specs.declared.terms.callees.Callee.TheVariants.{Written as WrittenCallee, ArrayOf, Called, Defined, Operandless}
 use Rattle.script_read.specs.declared.sofar.Sofar.{Sofar as SofarSeen}
 use Rattle.script_read.specs.declared.terms.term_reader.TermReader.{TermReader}
-use Rattle.script_read.specs.declared.terms.frames.Call.{Call}
 use Rattle.script_read.specs.declared.terms.frames.Lets.{Lets}
 use Rattle.script_read.specs.declared.terms.frames.Frame.{Frame}
 use Rattle.script_read.specs.declared.terms.frames.Frame.TheVariants.{Operands, Binding, Body, Quantified, Annotated}
@@ -72,20 +70,22 @@ abbrev pub awaits_operand : List Frame → Bool
 awaits_operand [] = false
 awaits_operand (f ∷ fs) = is_call f
 
--- the application that waits, the last of these frames, has this operand behind those that it had
-pub record OneMoreOperand (old new : List Frame) (k : NodeId) : Type 0 where
-  pub earlier : List Frame
-  pub call : Call
-  pub kids : SmallVec NodeId
-  pub before : old ≡ earlier ++ Operands call ∷ []
-  pub behind : new ≡ earlier ++ Operands (record { list = call.list; callee = call.callee; kids = kids }) ∷ []
-  pub one_more : kids.items ≡ call.kids.items ++ k ∷ []
+-- what stands beside the frames: local names and the callees of the applications under way, the innermost first, and the operands of all of these, the outermost first
+pub record Stacks : Type 0 where
+  pub locals : LocalNames
+  pub callees : List Callee
+  pub operands : List NodeId
 
--- how many local names end with it
-abbrev pub bound_by : Frame → ℕ
-bound_by (Body f) = f.names
-bound_by (Quantified f) = length f.constants.items
-bound_by _ = 0
+abbrev pub without_locals : ℕ → Stacks → Stacks
+without_locals n stacks = record { locals = drop n stacks.locals; callees = stacks.callees; operands = stacks.operands }
+
+-- what of it was there before the frame
+abbrev pub below : Frame → Stacks → Stacks
+below (Operands f) stacks = record { locals = stacks.locals; callees = drop 1 stacks.callees; operands = take f.first stacks.operands }
+below (Binding f) stacks = stacks
+below (Body f) stacks = without_locals f.names stacks
+below (Quantified f) stacks = without_locals (length f.constants.items) stacks
+below (Annotated f) stacks = stacks
 
 abbrev pub Later : Type 0
 Later = Term → Reading Term
@@ -129,15 +129,20 @@ module _ (ts : List Token) (defines : Option Name) where
     pub shown : ShowsLocals w.table w.supply locals c.locals
     pub named : c.defines ≡ defines
 
-  -- an application whose operand was read, with those from token `at` on still to come
-  pub record WaitsForOperand (w : World) (list : ℕ) (callee : Callee) (kids : List NodeId) (at : ℕ) (locals : LocalNames) (later outer : Later) : Type 0 where
+  -- an application whose operand was read, behind those from number `first` on, with those from token `at` on still to come
+  pub record WaitsForOperand (w : World) (list first at : ℕ) (stacks : Stacks) (later outer : Later) : Type 0 where
     pub context : Context
-    pub stands : Stands w locals context
+    pub stands : Stands w stacks.locals context
+    pub callee : Callee
+    pub callees : List Callee
+    pub innermost : stacks.callees ≡ callee ∷ callees
+    pub within : first ≤ length stacks.operands
     pub called : CalleeOf
     pub shows : ShowsCallee ts w callee called
-    pub spared : AreSpared w.table w.supply kids
+    pub spared : AreSpared w.table w.supply (drop first stacks.operands)
     pub place : at ≤ length ts
-    pub next : (u : Term) (s : Sofar) → later u s ≡ ((read_all (forms_from ts at) context >>= λ us. applied called (start_of list) (trees_at w.table kids ++ u ∷ us)) >>= outer) s
+    pub next : (u : Term) (s : Sofar) → later u s
+        ≡ ((read_all (forms_from ts at) context >>= λ us. applied called (start_of list) (trees_at w.table (drop first stacks.operands) ++ u ∷ us)) >>= outer) s
 
   -- a `let` with a binding `(x f)` whose f was read; `part` is the token of the binding
   pub record WaitsForBinding (w : World) (part body : ℕ) (names : List (Name × NodeId)) (locals : LocalNames) (later outer : Later) : Type 0 where
@@ -176,68 +181,68 @@ module _ (ts : List Token) (defines : Option Name) where
         ≡ ((by_live (term_names context.defines (start_of list) [] (named_parts (forms_from ts attributes))) >>= λ ns. annotated (start_of list) context form u ns) >>= outer) s
 
   -- what a frame does with a term, whose form ends before token `at`, and what then comes
-  abbrev pub Waits : World → Frame → ℕ → LocalNames → Later → Later → Type 0
-  Waits w (Operands f) at locals later outer = WaitsForOperand w f.list f.callee f.kids.items at locals later outer
-  Waits w (Binding f) at locals later outer = WaitsForBinding w f.part f.body f.names locals later outer
-  Waits w (Body f) at locals later outer = WaitsForBody f.names locals later outer
-  Waits w (Quantified f) at locals later outer = WaitsForQuantified w f.list f.quantifier f.constants.items locals later outer
-  Waits w (Annotated f) at locals later outer = WaitsForAnnotated w f.list f.attributes locals later outer
+  abbrev pub Waits : World → Frame → ℕ → Stacks → Later → Later → Type 0
+  Waits w (Operands f) at stacks later outer = WaitsForOperand w f.list f.first at stacks later outer
+  Waits w (Binding f) at stacks later outer = WaitsForBinding w f.part f.body f.names.value stacks.locals later outer
+  Waits w (Body f) at stacks later outer = WaitsForBody f.names stacks.locals later outer
+  Waits w (Quantified f) at stacks later outer = WaitsForQuantified w f.list f.quantifier f.constants.items stacks.locals later outer
+  Waits w (Annotated f) at stacks later outer = WaitsForAnnotated w f.list f.attributes stacks.locals later outer
 
   -- what all frames do, the innermost first
-  abbrev pub AllWait : World → List Frame → ℕ → LocalNames → Later → Type 0
-  AllWait w [] at locals later = (u : Term) (s : Sofar) → later u s ≡ Ok (u, s)
-  AllWait w (f ∷ fs) at locals later = (outer : Later) × IsForm ts (list_of f) × Waits w f at locals later outer × AllWait w fs (after_at ts (list_of f)) (drop (bound_by f) locals) outer
+  abbrev pub AllWait : World → List Frame → ℕ → Stacks → Later → Type 0
+  AllWait w [] at stacks later = (u : Term) (s : Sofar) → later u s ≡ Ok (u, s)
+  AllWait w (f ∷ fs) at stacks later = (outer : Later) × IsForm ts (list_of f) × Waits w f at stacks later outer × AllWait w fs (after_at ts (list_of f)) (below f stacks) outer
 
   -- ---- a reading under way
 
   -- a form is read next
-  pub record GoesOn (w : World) (s : Scoping) (locals : LocalNames) (frames : List Frame) (i : ℕ) (r : Result (Term × Sofar) Refused) : Type 0 where
+  pub record GoesOn (w : World) (s : Scoping) (stacks : Stacks) (frames : List Frame) (i : ℕ) (r : Result (Term × Sofar) Refused) : Type 0 where
     pub context : Context
     pub live : List ReadBinding
     pub later : Later
     pub form : IsForm ts i
     pub known : Shows w.table w.supply s live
     pub numbered : s.definitions ≡ w.definitions
-    pub stands : Stands w locals context
-    pub waiting : AllWait w frames (after_at ts i) locals later
+    pub stands : Stands w stacks.locals context
+    pub waiting : AllWait w frames (after_at ts i) stacks later
     pub is : r ≡ (read (form_from ts i) context >>= later) (record { live = live; supply = w.supply })
 
   -- a form was read as a term, and ends before token `at`
-  pub record ComesBack (w : World) (s : Scoping) (locals : LocalNames) (frames : List Frame) (k : NodeId) (at : ℕ) (r : Result (Term × Sofar) Refused) : Type 0 where
+  pub record ComesBack (w : World) (s : Scoping) (stacks : Stacks) (frames : List Frame) (k : NodeId) (at : ℕ) (r : Result (Term × Sofar) Refused) : Type 0 where
     pub live : List ReadBinding
     pub later : Later
     pub known : Shows w.table w.supply s live
     pub numbered : s.definitions ≡ w.definitions
     pub spared : IsSpared w.table w.supply k
     pub place : at ≤ length ts
-    pub waiting : AllWait w frames at locals later
+    pub waiting : AllWait w frames at stacks later
     pub is : r ≡ later (tree w.table k) (record { live = live; supply = w.supply })
 
   -- a binding of a `let` is read next, behind these names
-  pub record BindsNext (w : World) (s : Scoping) (locals : LocalNames) (frames : List Frame) (list part body : ℕ) (names : List (Name × NodeId)) (r : Result (Term × Sofar) Refused) : Type 0 where
+  pub record BindsNext (w : World) (s : Scoping) (stacks : Stacks) (frames : List Frame) (list part body : ℕ) (names : List (Name × NodeId)) (r : Result (Term × Sofar) Refused) : Type 0 where
     pub context : Context
     pub live : List ReadBinding
     pub outer : Later
     pub bindings : Forms
     pub known : Shows w.table w.supply s live
     pub numbered : s.definitions ≡ w.definitions
-    pub stands : Stands w locals context
+    pub stands : Stands w stacks.locals context
     pub terms : AreSpared w.table w.supply (map (λ p. p.1) names)
     pub own : HaveOwnNames names
     pub list_form : IsForm ts list
     pub body_form : IsForm ts body
-    pub waiting : AllWait w frames (after_at ts list) locals outer
+    pub waiting : AllWait w frames (after_at ts list) stacks outer
     pub is : r ≡ ((read_bindings (forms_from ts part) (reversed_names names) context >>= λ us.
         read (form_from ts body) (with_local (lets_as bindings (names_with_terms w.table names ++ us)) context)) >>= outer) (record { live = live; supply = w.supply })
 
-  abbrev pub IsGoing : World → Scoping → LocalNames → List Frame → Next → Result (Term × Sofar) Refused → Type 0
-  IsGoing w s locals frames (NextForm i) r = GoesOn w s locals frames i r
-  IsGoing w s locals frames (NextTerm k at) r = ComesBack w s locals frames k at r
+  abbrev pub IsGoing : World → Scoping → Stacks → List Frame → Next → Result (Term × Sofar) Refused → Type 0
+  IsGoing w s stacks frames (NextForm i) r = GoesOn w s stacks frames i r
+  IsGoing w s stacks frames (NextTerm k at) r = ComesBack w s stacks frames k at r
 
   -- a step leads on to the same reading, or finds it refused
-  abbrev pub Steps : World → Scoping → LocalNames → List Frame → Result (Term × Sofar) Refused → Result Next ReadFault → Type 0
-  Steps w s locals frames r (Ok next) = IsGoing w s locals frames next r
-  Steps w s locals frames r (Err e) = Refuses r e
+  abbrev pub Steps : World → Scoping → Stacks → List Frame → Result (Term × Sofar) Refused → Result Next ReadFault → Type 0
+  Steps w s stacks frames r (Ok next) = IsGoing w s stacks frames next r
+  Steps w s stacks frames r (Err e) = Refuses r e
 
 -- ---- how much is left
 
@@ -262,20 +267,23 @@ now_at t sofar = record { table = t; supply = sofar.fresh; definitions = sofar.s
 abbrev pub defined_by : List Token → TermReader → Option Name
 defined_by ts reader = option_map (name_at ts) reader.defines
 
+abbrev pub stacks_of : TermReader → Stacks
+stacks_of reader = record { locals = reader.locals; callees = reverse reader.callees.items; operands = reader.operands.items }
+
 -- a reading under way, where these frames wait, the outermost first
 abbrev pub Going : List Token → Formulas → SofarSeen → TermReader → Next → Result (Term × Sofar) Refused → Type 0
-Going ts t sofar reader next r = IsGoing ts (defined_by ts reader) (now_at t sofar) sofar.scope reader.locals (reverse reader.frames.items) next r
+Going ts t sofar reader next r = IsGoing ts (defined_by ts reader) (now_at t sofar) sofar.scope (stacks_of reader) (reverse reader.frames.items) next r
 
 abbrev pub Stepped : List Token → Formulas → SofarSeen → TermReader → Result (Term × Sofar) Refused → Result Next ReadFault → Type 0
-Stepped ts t sofar reader r answer = Steps ts (defined_by ts reader) (now_at t sofar) sofar.scope reader.locals (reverse reader.frames.items) r answer
+Stepped ts t sofar reader r answer = Steps ts (defined_by ts reader) (now_at t sofar) sofar.scope (stacks_of reader) (reverse reader.frames.items) r answer
 
 -- a reading in which a binding of this `let` is next
 abbrev pub BindingNext : List Token → Formulas → SofarSeen → TermReader → Lets → Result (Term × Sofar) Refused → Type 0
-BindingNext ts t sofar reader lets r = BindsNext ts (defined_by ts reader) (now_at t sofar) sofar.scope reader.locals (reverse reader.frames.items) lets.list lets.part lets.body lets.names r
+BindingNext ts t sofar reader lets r = BindsNext ts (defined_by ts reader) (now_at t sofar) sofar.scope (stacks_of reader) (reverse reader.frames.items) lets.list lets.part lets.body lets.names.value r
 
 -- a reading in which this frame waits for a term that was read
 abbrev pub GoingBack : List Token → Formulas → SofarSeen → TermReader → Frame → NodeId → ℕ → Result (Term × Sofar) Refused → Type 0
-GoingBack ts t sofar reader f k at r = ComesBack ts (defined_by ts reader) (now_at t sofar) sofar.scope reader.locals (f ∷ reverse reader.frames.items) k at r
+GoingBack ts t sofar reader f k at r = ComesBack ts (defined_by ts reader) (now_at t sofar) sofar.scope (stacks_of reader) (f ∷ reverse reader.frames.items) k at r
 
 pub record SomeGoingBack (ts : List Token) (t : Formulas) (sofar : SofarSeen) (reader : TermReader) (f : Frame) (k : NodeId) (at : ℕ) : Type 0 where
   pub reading : Result (Term × Sofar) Refused

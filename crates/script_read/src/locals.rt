@@ -1,10 +1,10 @@
 //! Local bindings: names of `let`, of quantifiers and of parameters.
 
-ghost use Rattle.std.specs.Prelude.{◌≡◌, ◌≤◌, ◌<◌, ◌||◌, ◌∷◌, [], length, drop, reverse, List, Some, IsSome, IsOk, OnOk, if◌then◌else◌, vec_len, vec_capacity};
+ghost use Rattle.std.specs.Prelude.{◌≡◌, ◌≤◌, ◌<◌, ◌||◌, ◌∷◌, [], length, drop, reverse, List, Some, IsSome, IfSome, IsOk, OnOk, if◌then◌else◌, vec_len, vec_capacity};
 ghost use Rattle.smt_lex.specs.Names.{Name};
 ghost use Rattle.smt_terms.specs.Equal.{name_eq};
 ghost use Rattle.script_read.specs.Bound.{innermost, is_quantified_local, quantified_among, constants_before, constants_in};
-ghost use Rattle.script_read.specs.Linked.{at_name};
+ghost use Rattle.script_read.specs.Linked.{at_name, names_bound, place_in, AreLinked};
 
 use indexmap::IndexMap;
 use smt_terms::{BuildNameHasher, NodeId, SymId};
@@ -31,8 +31,8 @@ pub enum Local {
 
 // A name that is bound.
 #[derive(Drop)]
-struct Binding {
-    name: Vec<u8>,
+struct Binding<'a> {
+    name: &'a [u8],
     local: Local,
     // the next binding of this name outwards
     outer: Option<usize>,
@@ -42,15 +42,14 @@ struct Binding {
 
 /// The names that are bound locally, of which the innermost counts.
 #[derive(Drop)]
-pub struct Locals {
-    alloc: Global,
-    bindings: Vec<Binding>,
+pub struct Locals<'a> {
+    bindings: Vec<Binding<'a>>,
     // the innermost binding of each name that is bound
-    places: IndexMap<Vec<u8>, usize, BuildNameHasher>,
+    places: IndexMap<&'a [u8], usize, BuildNameHasher>,
     constants: Vec<SymId>,
 }
 
-impl Model for Locals {
+impl<'a> Model for Locals<'a> {
     ghost use Rattle.std.specs.Prelude.{List, reverse};
     ghost use Rattle.smt_lex.specs.Names.{Name};
     ghost use Rattle.script_read.specs.declared.locals.Local.{Local};
@@ -63,13 +62,12 @@ impl Model for Locals {
     ghost invariant = { λ s. IsLinked (reverse s.bindings.items) s.places.entries s.constants.items };
 }
 
-impl Locals {
+impl<'a> Locals<'a> {
     /// Nothing is bound. It takes no memory.
-    pub fn new(alloc: Global) -> Locals
+    pub fn new(alloc: Global) -> Locals<'a>
         ensures { result ≡ [] }
     {
         Locals {
-            alloc,
             bindings: Vec::new(alloc),
             places: IndexMap::with_hasher(alloc, BuildNameHasher::new()),
             constants: Vec::new(alloc),
@@ -96,10 +94,7 @@ impl Locals {
         if self.bindings.is_empty() {
             return false;
         }
-        match self.places.get(name) {
-            Some(place) => self.bindings[*place].is_quantified,
-            None => false,
-        }
+        is_quantified_at(&self.bindings, self.places.get(name).copied())
     }
 
     /// The symbols of quantified names and parameters, the outermost first.
@@ -117,20 +112,19 @@ impl Locals {
     }
 
     /// Binds a name inside all others.
-    pub fn enter(&mut self, name: &[u8], local: Local) -> Result<(), AllocError>
+    pub fn enter(&mut self, name: &'a [u8], local: Local) -> Result<(), AllocError>
         ensures { OnOk result (self.new ≡ (name.now, local) ∷ self.old) }
     {
-        let binding = Binding {
-            name: Vec::from_slice(self.alloc, name)?,
-            local,
-            outer: self.places.get(name).copied(),
-            is_quantified: self.is_quantified_with(name, local),
-        };
-        let name = Vec::from_slice(self.alloc, name)?;
         self.bindings.reserve(1)?;
         self.constants.reserve(1)?;
-        self.places.insert(name, self.bindings.len())?;
-        self.bindings.push(binding)?;
+        let outer = self.places.insert(name, self.bindings.len())?;
+        let is_quantified = is_quantified_with(&self.bindings, outer, local);
+        self.bindings.push(Binding {
+            name,
+            local,
+            outer,
+            is_quantified,
+        })?;
         push_constant(&mut self.constants, local)?;
         Ok(())
     }
@@ -145,16 +139,6 @@ impl Locals {
         }
     }
 
-    // Whether a quantifier binds this name, below this binding of it.
-    fn is_quantified_with(&self, name: &[u8], local: Local) -> bool
-        ensures { result ≡ (is_quantified_local local || quantified_among self.now name.now) }
-    {
-        match local {
-            Local::Quantified(_) => true,
-            Local::Let(_) | Local::Parameter(_) => self.is_quantified(name),
-        }
-    }
-
     fn leave_one(&mut self)
         ensures { self.new ≡ drop 1 self.old }
     {
@@ -166,14 +150,36 @@ impl Locals {
     }
 }
 
+// Whether a quantifier binds the name that has its innermost binding at this place, if any.
+fn is_quantified_at(bindings: &[Binding], place: Option<usize>) -> bool
+    requires { IfSome place (λ i. i < length bindings.now) }
+    ensures { (n : Name) → AreLinked (reverse bindings.now) → place ≡ place_in (reverse bindings.now) n → result ≡ quantified_among (names_bound (reverse bindings.now)) n }
+{
+    match place {
+        Some(place) => bindings[place].is_quantified,
+        None => false,
+    }
+}
+
+// Whether a quantifier binds a name, below this binding of it; the innermost of the others is at this place, if any.
+fn is_quantified_with(bindings: &[Binding], outer: Option<usize>, local: Local) -> bool
+    requires { IfSome outer (λ i. i < length bindings.now) }
+    ensures { (n : Name) → AreLinked (reverse bindings.now) → outer ≡ place_in (reverse bindings.now) n → result ≡ (is_quantified_local local || quantified_among (names_bound (reverse bindings.now)) n) }
+{
+    match local {
+        Local::Quantified(_) => true,
+        Local::Let(_) | Local::Parameter(_) => is_quantified_at(bindings, outer),
+    }
+}
+
 // Gives a name that is bound the place of another of its bindings, or none.
-fn point_to(
-    places: &mut IndexMap<Vec<u8>, usize, BuildNameHasher>,
-    name: Vec<u8>,
+fn point_to<'a>(
+    places: &mut IndexMap<&'a [u8], usize, BuildNameHasher>,
+    name: &'a [u8],
     place: Option<usize>,
 )
-    requires { IsSome (at_name places.old.entries name.items) }
-    ensures { (n : Name) → at_name places.new.entries n ≡ (if name_eq name.items n then place else at_name places.old.entries n) }
+    requires { IsSome (at_name places.old.entries name.now) }
+    ensures { (n : Name) → at_name places.new.entries n ≡ (if name_eq name.now n then place else at_name places.old.entries n) }
 {
     match place {
         Some(place) => {
@@ -181,7 +187,7 @@ fn point_to(
             let _ = places.insert(name, place);
         }
         None => {
-            places.swap_remove(name.as_slice());
+            places.swap_remove(name);
         }
     }
 }

@@ -42,13 +42,13 @@ use term_table::Table;
 
 /// Reads the term that the form of token `i` is, below these local bindings; names that it gives to terms become live.
 /// `defines` is the token of the name that the command defines. Depth takes no stack.
-pub fn read_term(
+pub fn read_term<'a>(
     alloc: Global,
     table: &mut Table,
-    forest: &Forest,
+    forest: &'a Forest,
     i: usize,
     sofar: &mut Sofar,
-    locals: Locals,
+    locals: Locals<'a>,
     defines: Option<usize>,
 ) -> Result<NodeId, ReadFault>
     requires read { IsRead forest.now }
@@ -57,7 +57,7 @@ pub fn read_term(
     requires defined { IfSome defines (λ j. j < length forest.now.tokens) }
     requires known { (live : List ReadBinding) × Shows table.old sofar.old.fresh sofar.old.scope live }
     requires locals { (c : Context) × ShowsLocals table.old sofar.old.fresh locals c.locals × (c.defines ≡ defined_name forest.now.tokens defines) }
-    ensures term { (c : Context) (live : List ReadBinding) → Shows table.old sofar.old.fresh sofar.old.scope live → ShowsLocals table.old sofar.old.fresh locals c.locals → c.defines ≡ defined_name forest.now.tokens defines → ReadsTerm table.new sofar.new.scope sofar.new.fresh (read (form_from forest.now.tokens i) c (record { live = live; supply = sofar.old.fresh })) result }
+    ensures term { (c : Context) (live : List ReadBinding) → Shows table.old sofar.old.fresh sofar.old.scope live → ShowsLocals table.old sofar.old.fresh locals.entry c.locals → c.defines ≡ defined_name forest.now.tokens defines → ReadsTerm table.new sofar.new.scope sofar.new.fresh (read (form_from forest.now.tokens i) c (record { live = live; supply = sofar.old.fresh })) result }
     ensures definitions { sofar.new.scope.definitions ≡ sofar.old.scope.definitions }
     ensures later { IsLater sofar.old.fresh sofar.new.fresh }
     ensures grows { GrowsTo table.old table.new }
@@ -67,6 +67,8 @@ pub fn read_term(
         defines,
         locals,
         frames: Vec::new(alloc),
+        operands: Vec::new(alloc),
+        callees: Vec::new(alloc),
     };
     reader.run(table, forest, sofar, i)
 }

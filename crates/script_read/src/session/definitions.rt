@@ -138,12 +138,12 @@ fn define_body(
 }
 
 // The names of the parameters, bound to their constants.
-fn bind_parameters(
+fn bind_parameters<'a>(
     alloc: Global,
-    forest: &Forest,
+    forest: &'a Forest,
     parameters: &[SortedName],
     constants: &[Constant],
-) -> Result<Locals, AllocError>
+) -> Result<Locals<'a>, AllocError>
     requires names { All (λ x. x.name < length forest.now.tokens) parameters.now }
     requires own { All (λ x. IsOwnName (name_at forest.now.tokens x.name)) parameters.now }
     requires constants { length constants.now ≡ length parameters.now }

@@ -33,7 +33,7 @@ use std::alloc::{AllocError, Global};
 use term_table::Table;
 use term_walk::free_symbols;
 
-impl TermReader {
+impl TermReader<'_> {
     ghost use Rattle.script_read.specs.declared.sofar.Sofar.{Sofar as SofarSeen};
     ghost use Rattle.script_read.specs.Waiting.{Going, GoingBack, Stepped, SomeGoing, SomeGoingBack, Keeps, left_of, left_behind, Opens};
 

@@ -1,12 +1,12 @@
 //! Applications under way: `(f t ..)` has the head f, then its operands from left to right, and then itself.
 
-ghost use Rattle.std.specs.Prelude.{◌≡◌, ◌<◌, ◌++◌, ◌∷◌, [], true, reverse, List, IfOk, Result};
+ghost use Rattle.std.specs.Prelude.{◌≡◌, ◌<◌, ◌++◌, ◌∷◌, [], true, reverse, IfOk, Result};
 ghost use Rattle.smt_terms.specs.Term.{Term};
 ghost use Rattle.script_read.specs.Refusals.{Refused};
 ghost use Rattle.script_read.specs.Reading.{Sofar as Known};
 ghost use Rattle.script_read.specs.Parts.{head};
 ghost use Rattle.script_read.specs.Places.{IsRead, form_from};
-ghost use Rattle.script_read.specs.Waiting.{awaits_operand, OneMoreOperand};
+ghost use Rattle.script_read.specs.Waiting.{awaits_operand};
 
 use crate::faults::ReadFault;
 use crate::places::{bad_form, begins};
@@ -15,13 +15,11 @@ use crate::terms::applications::apply;
 use crate::terms::frames::{Call, Frame, Next};
 use crate::terms::heads::read_callee;
 use crate::terms::term_reader::TermReader;
-use smallvec::SmallVec;
 use smt_lex::Forest;
 use smt_terms::NodeId;
-use std::alloc::AllocError;
 use term_table::Table;
 
-impl TermReader {
+impl TermReader<'_> {
     ghost use Rattle.script_read.specs.Waiting.{Going, Stepped, SomeGoing, Keeps, left_of, Opens};
 
     /// Reads the head of the application of token `list`, and begins its first operand.
@@ -45,10 +43,10 @@ impl TermReader {
             return Err(ReadFault::Refused(bad_form(forest, list)));
         }
         let callee = read_callee(self.alloc, table, forest, first, &sofar.scope, &self.locals)?;
+        self.callees.push(callee)?;
         self.frames.push(Frame::Operands(Call {
             list,
-            callee,
-            kids: SmallVec::new(self.alloc),
+            first: self.operands.len(),
         }))?;
         Ok(Next::Form(operand))
     }
@@ -76,45 +74,29 @@ impl TermReader {
         ensures less { IfOk result (λ next. left_of forest.now.tokens self.new next < left_of forest.now.tokens self.old (Next.Term node behind)) }
         ensures keeps { Keeps table.old table.new sofar.old sofar.new self.old self.new }
     {
-        add_operand(&mut self.frames, node)?;
+        self.operands.push(node)?;
         if begins(forest, behind) {
             return Ok(Next::Form(behind));
         }
         let call = take_call(&mut self.frames);
+        let Some(callee) = self.callees.pop() else {
+            unreachable!()
+        };
         let node = apply(
             self.alloc,
             table,
             forest,
             call.list,
-            &call.callee,
-            &call.kids,
+            &callee,
+            &self.operands[call.first..],
             sofar,
         )?;
+        self.operands.truncate(call.first);
         Ok(Next::Term {
             node,
             behind: forest.after(call.list),
         })
     }
-}
-
-// Gives the application that waits last one operand more.
-fn add_operand(frames: &mut Vec<Frame>, node: NodeId) -> Result<(), AllocError>
-    requires { (earlier : List Frame) × (call : Call) × (frames.old.items ≡ earlier ++ Frame.Operands call ∷ []) }
-    ensures { IfOk result (λ _. OneMoreOperand frames.old.items frames.new.items node) }
-{
-    let last = frames.len() - 1;
-    let Frame::Operands(call) = &mut frames[last] else {
-        unreachable!()
-    };
-    add(call, node)
-}
-
-// Gives an application one operand more.
-fn add(call: &mut Call, node: NodeId) -> Result<(), AllocError>
-    ensures { IfOk result (λ _. (call.new ≡ record { list = call.old.list; callee = call.old.callee; kids = call.new.kids }) × (call.new.kids.items ≡ call.old.kids.items ++ node ∷ [])) }
-{
-    call.kids.push(node)?;
-    Ok(())
 }
 
 // Takes off the application that waits last.

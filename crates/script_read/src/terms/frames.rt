@@ -1,10 +1,9 @@
 //! What waits for a term: the forms that are read, from the innermost out.
 
 use crate::locals::Constant;
-use crate::terms::callees::Callee;
 use crate::terms::let_names::LetNames;
-use smallvec::SmallVec;
 use smt_terms::NodeId;
+use std::mem::size_of;
 
 /// The two quantifiers.
 #[derive(Clone, Copy, Debug, PartialEq, Eq)]
@@ -13,21 +12,20 @@ pub enum Quantifier {
     Existential,
 }
 
-/// An application, with the operands that were read. Here and below `list` is the first token of the form.
-#[derive(Drop)]
+/// An application, whose operands begin at number `first` of those under way. Here and below `list` is the first token of the form.
+#[derive(Clone, Copy, Debug, PartialEq, Eq)]
 pub struct Call {
     pub list: usize,
-    pub callee: Callee,
-    pub kids: SmallVec<NodeId, 4>,
+    pub first: usize,
 }
 
 /// A `let`, at the binding of token `part`, with the names before it.
 #[derive(Drop)]
-pub struct Lets {
+pub struct Lets<'a> {
     pub list: usize,
     pub part: usize,
     pub body: usize,
-    pub names: LetNames,
+    pub names: Box<LetNames<'a>>,
 }
 
 /// The body of a `let` of so many names.
@@ -54,13 +52,16 @@ pub struct Annotation {
 
 /// A form that is read.
 #[derive(Drop)]
-pub enum Frame {
+pub enum Frame<'a> {
     Operands(Call),
-    Binding(Lets),
+    Binding(Lets<'a>),
     Body(LetBody),
     Quantified(Scoped),
     Annotated(Annotation),
 }
+
+// Each push and each pop copies a frame.
+const _: () = prove!(size_of::<Frame>() <= 48);
 
 /// What is to be done next.
 #[derive(Clone, Copy, Debug, PartialEq, Eq)]

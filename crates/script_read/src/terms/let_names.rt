@@ -17,37 +17,43 @@ use crate::locals::{Local, Locals};
 use crate::names::is_theory_name;
 use crate::places::{bad_form, fault, is_symbol, two_inside};
 use indexmap::IndexMap;
+use smallvec::SmallVec;
 use smt_lex::Forest;
 use smt_terms::{BuildNameHasher, NodeId};
 use std::alloc::{AllocError, Global};
 use std::marker::Model;
 
+// How many names are compared one by one. A table is made for those behind them alone.
+const FEW: usize = 8;
+
 /// Names, each once, with their terms, in order.
 #[derive(Drop)]
-pub struct LetNames {
-    alloc: Global,
-    terms: IndexMap<Vec<u8>, NodeId, BuildNameHasher>,
+pub struct LetNames<'a> {
+    first: SmallVec<(&'a [u8], NodeId), 2>,
+    later: IndexMap<&'a [u8], NodeId, BuildNameHasher>,
 }
 
-impl Model for LetNames {
-    ghost use Rattle.std.specs.Prelude.{List};
+impl<'a> Model for LetNames<'a> {
+    ghost use Rattle.std.specs.Prelude.{List, ◌++◌, ◌≤◌, length};
     ghost use Rattle.smt_lex.specs.Names.{Name};
     ghost use Rattle.smt_terms.specs.declared.ids.NodeId.{NodeId};
-    ghost use Rattle.script_read.specs.Laid.{named};
+    ghost use Rattle.script_read.specs.Laid.{borrowed};
 
     ghost Value = { List (Name × NodeId) };
 
-    ghost view = { λ s. named s.terms.entries };
+    ghost view = { λ s. borrowed (s.first.items ++ s.later.entries) };
+
+    ghost invariant = { λ s. length s.first.items ≤ 8 };
 }
 
-impl LetNames {
+impl<'a> LetNames<'a> {
     /// No names. It takes no memory.
-    pub fn new(alloc: Global) -> LetNames
+    pub fn new(alloc: Global) -> LetNames<'a>
         ensures { result ≡ [] }
     {
         LetNames {
-            alloc,
-            terms: IndexMap::with_hasher(alloc, BuildNameHasher::new()),
+            first: SmallVec::new(alloc),
+            later: IndexMap::with_hasher(alloc, BuildNameHasher::new()),
         }
     }
 
@@ -55,27 +61,30 @@ impl LetNames {
     pub fn has(&self, name: &[u8]) -> bool
         ensures { result ≡ is_among (map (λ p. p.0) self.now) name.now }
     {
-        self.terms.get(name).is_some()
+        is_in(&self.first, name) || !self.later.is_empty() && self.later.get(name).is_some()
     }
 
     /// The number of names.
     pub fn len(&self) -> usize
         ensures { result ≡ length self.now }
     {
-        self.terms.len()
+        self.first.len() + self.later.len()
     }
 
     /// Puts a name last that isn't among them.
-    pub fn add(&mut self, name: &[u8], term: NodeId) -> Result<(), AllocError>
+    pub fn add(&mut self, name: &'a [u8], term: NodeId) -> Result<(), AllocError>
         ensures { is_among (map (λ p. p.0) self.old) name.now ≡ false → OnOk result (self.new ≡ self.old ++ (name.now, term) ∷ []) }
     {
-        let name = Vec::from_slice(self.alloc, name)?;
-        self.terms.insert(name, term)?;
+        if self.first.len() < FEW && self.later.is_empty() {
+            self.first.push((name, term))?;
+        } else {
+            self.later.insert(name, term)?;
+        }
         Ok(())
     }
 
     /// Binds the names, all at once.
-    pub fn enter(&self, locals: &mut Locals) -> Result<(), AllocError>
+    pub fn enter(&self, locals: &mut Locals<'a>) -> Result<(), AllocError>
         ensures { OnOk result (locals.new ≡ map let_local self.now ++ locals.old) }
     {
         for place in (0..self.len()).rev() {
@@ -84,14 +93,29 @@ impl LetNames {
         Ok(())
     }
 
-    fn enter_one(&self, locals: &mut Locals, place: usize) -> Result<(), AllocError>
+    fn enter_one(&self, locals: &mut Locals<'a>, place: usize) -> Result<(), AllocError>
         ensures { (p : Name × NodeId) → slice_get self.now place ≡ Some p → OnOk result (locals.new ≡ let_local p ∷ locals.old) }
     {
-        match self.terms.get_index(place) {
-            Some((name, term)) => locals.enter(name, Local::Let(*term)),
+        if let Some((name, term)) = self.first.get(place) {
+            return locals.enter(*name, Local::Let(*term));
+        }
+        match self.later.get_index(place - self.first.len()) {
+            Some((name, term)) => locals.enter(*name, Local::Let(*term)),
             None => Ok(()),
         }
     }
+}
+
+// Whether a name is one of these.
+fn is_in(terms: &[(&[u8], NodeId)], name: &[u8]) -> bool
+    ensures { result ≡ is_among (map (λ e. e.0.now) terms.now) name.now }
+{
+    for (other, _) in terms {
+        if name == *other {
+            return true;
+        }
+    }
+    false
 }
 
 /// The term of the binding of token `part`, whose name is that of the token behind it; or why it binds no name behind these.

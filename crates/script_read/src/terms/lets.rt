@@ -22,7 +22,7 @@ use crate::terms::term_reader::TermReader;
 use smt_lex::Forest;
 use smt_terms::NodeId;
 
-impl TermReader {
+impl<'a> TermReader<'a> {
     ghost use Rattle.script_read.specs.declared.sofar.Sofar.{Sofar as SofarSeen};
     ghost use Rattle.script_read.specs.Waiting.{Going, GoingBack, Stepped, BindingNext, left_of, left_behind, frames_left, Opens};
     ghost use Rattle.script_read.specs.Sizes.{forms_size, form_size};
@@ -30,7 +30,7 @@ impl TermReader {
     /// Begins the first binding of the `let` of token `list`.
     pub fn open_let(
         &mut self,
-        forest: &Forest,
+        forest: &'a Forest,
         list: usize,
         first: usize,
     ) -> Result<Next, ReadFault>
@@ -41,22 +41,23 @@ impl TermReader {
         ensures defines { self.new.defines ≡ self.old.defines }
     {
         let (part, body) = bound_and_body(forest, list, first)?;
+        let names = Box::new(self.alloc, LetNames::new(self.alloc))?;
         self.open_binding(
             forest,
             Lets {
                 list,
                 part,
                 body,
-                names: LetNames::new(self.alloc),
+                names,
             },
         )
     }
 
     // Begins the term of a binding.
-    fn open_binding(&mut self, forest: &Forest, lets: Lets) -> Result<Next, ReadFault>
+    fn open_binding(&mut self, forest: &'a Forest, lets: Lets<'a>) -> Result<Next, ReadFault>
         requires part { BeginsForm forest.now.tokens lets.part }
-        ensures steps { (t : Formulas) (s : SofarSeen) (r : Result (Term × Known) Refused) → BindingNext forest.now.tokens t s self.old lets r → Stepped forest.now.tokens t s self.new r result }
-        ensures less { IfOk result (λ next. left_of forest.now.tokens self.new next < forms_size (forms_from forest.now.tokens lets.part) + form_size (form_from forest.now.tokens lets.body) + frames_left forest.now.tokens (reverse self.old.frames.items) (after_at forest.now.tokens lets.list)) }
+        ensures steps { (t : Formulas) (s : SofarSeen) (r : Result (Term × Known) Refused) → BindingNext forest.now.tokens t s self.old lets.entry r → Stepped forest.now.tokens t s self.new r result }
+        ensures less { IfOk result (λ next. left_of forest.now.tokens self.new next < forms_size (forms_from forest.now.tokens lets.entry.part) + form_size (form_from forest.now.tokens lets.entry.body) + frames_left forest.now.tokens (reverse self.old.frames.items) (after_at forest.now.tokens lets.entry.list)) }
         ensures defines { self.new.defines ≡ self.old.defines }
     {
         let term = binding_term(forest, lets.part, &lets.names)?;
@@ -67,19 +68,20 @@ impl TermReader {
     /// Goes on behind the term of a binding: begins the next one, or the body.
     pub fn resume_binding(
         &mut self,
-        forest: &Forest,
-        lets: Lets,
+        forest: &'a Forest,
+        lets: Lets<'a>,
         node: NodeId,
     ) -> Result<Next, ReadFault>
         requires part { IsForm forest.now.tokens lets.part }
         requires token { suc lets.part < length forest.now.tokens }
-        ensures steps { (t : Formulas) (s : SofarSeen) (at : ℕ) (r : Result (Term × Known) Refused) → GoingBack forest.now.tokens t s self.old (Frame.Binding lets) node at r → Stepped forest.now.tokens t s self.new r result }
-        ensures less { (at : ℕ) → IfOk result (λ next. left_of forest.now.tokens self.new next < left_behind forest.now.tokens self.old (Frame.Binding lets) at) }
+        ensures steps { (t : Formulas) (s : SofarSeen) (at : ℕ) (r : Result (Term × Known) Refused) → GoingBack forest.now.tokens t s self.old (Frame.Binding lets.entry) node at r → Stepped forest.now.tokens t s self.new r result }
+        ensures less { (at : ℕ) → IfOk result (λ next. left_of forest.now.tokens self.new next < left_behind forest.now.tokens self.old (Frame.Binding lets.entry) at) }
         ensures defines { self.new.defines ≡ self.old.defines }
     {
         let mut lets = lets;
         let _ = forest.len();
-        lets.names.add(forest.name(lets.part + 1), node)?;
+        let name = forest.name(lets.part + 1);
+        lets.names.add(name, node)?;
         lets.part = forest.after(lets.part);
         if begins(forest, lets.part) {
             return self.open_binding(forest, lets);
@@ -88,9 +90,9 @@ impl TermReader {
     }
 
     // Begins the body of a `let` whose terms were read.
-    fn open_body(&mut self, lets: Lets) -> Result<Next, ReadFault>
-        ensures steps { (ts : List Token) (t : Formulas) (s : SofarSeen) (r : Result (Term × Known) Refused) → forms_from ts lets.part ≡ none → BindingNext ts t s self.old lets r → Stepped ts t s self.new r result }
-        ensures less { (ts : List Token) → IfOk result (λ next. left_of ts self.new next ≤ form_size (form_from ts lets.body) + 1 + frames_left ts (reverse self.old.frames.items) (after_at ts lets.list)) }
+    fn open_body(&mut self, lets: Lets<'a>) -> Result<Next, ReadFault>
+        ensures steps { (ts : List Token) (t : Formulas) (s : SofarSeen) (r : Result (Term × Known) Refused) → forms_from ts lets.entry.part ≡ none → BindingNext ts t s self.old lets.entry r → Stepped ts t s self.new r result }
+        ensures less { (ts : List Token) → IfOk result (λ next. left_of ts self.new next ≤ form_size (form_from ts lets.entry.body) + 1 + frames_left ts (reverse self.old.frames.items) (after_at ts lets.entry.list)) }
         ensures defines { self.new.defines ≡ self.old.defines }
     {
         lets.names.enter(&mut self.locals)?;

@@ -34,7 +34,7 @@ use smt_terms::{NodeId, Op};
 use std::alloc::{AllocError, Global};
 use term_table::Table;
 
-impl TermReader {
+impl<'a> TermReader<'a> {
     ghost use Rattle.script_read.specs.declared.sofar.Sofar.{Sofar as SofarSeen};
     ghost use Rattle.script_read.specs.Waiting.{Going, GoingBack, Stepped, SomeGoing, SomeGoingBack, Keeps, left_of, left_behind, Opens};
 
@@ -42,7 +42,7 @@ impl TermReader {
     pub fn open_quantifier(
         &mut self,
         table: &mut Table,
-        forest: &Forest,
+        forest: &'a Forest,
         sofar: &mut Sofar,
         list: usize,
         first: usize,
@@ -105,9 +105,9 @@ impl TermReader {
 }
 
 // Binds quantified names, each by its constant.
-fn enter(
-    forest: &Forest,
-    locals: &mut Locals,
+fn enter<'a>(
+    forest: &'a Forest,
+    locals: &mut Locals<'a>,
     variables: &[SortedName],
     constants: &[Constant],
 ) -> Result<(), AllocError>

@@ -16,6 +16,7 @@ use crate::locals::Locals;
 use crate::places::{bad_form, begins, inside};
 use crate::sofar::Sofar;
 use crate::terms::atoms::read_atom;
+use crate::terms::callees::Callee;
 use crate::terms::frames::{Frame, Next};
 use crate::terms::openings::{Opening, opening_of};
 use crate::terms::vectors::read_vector;
@@ -26,22 +27,26 @@ use term_table::Table;
 
 /// A term under way.
 #[derive(Drop)]
-pub struct TermReader {
+pub struct TermReader<'a> {
     pub alloc: Global,
     /// The token of the name that the command defines.
     pub defines: Option<usize>,
-    pub locals: Locals,
-    pub frames: Vec<Frame>,
+    pub locals: Locals<'a>,
+    pub frames: Vec<Frame<'a>>,
+    /// The operands of all applications under way, the outermost first.
+    pub operands: Vec<NodeId>,
+    /// What these applications call.
+    pub callees: Vec<Callee>,
 }
 
-impl TermReader {
+impl<'a> TermReader<'a> {
     ghost use Rattle.script_read.specs.Waiting.{Going, GoingBack, Stepped, SomeGoing, SomeGoingBack, Keeps, left_of, left_behind, is_call};
 
     /// Begins the form of token `i`.
     pub fn open(
         &mut self,
         table: &mut Table,
-        forest: &Forest,
+        forest: &'a Forest,
         sofar: &mut Sofar,
         i: usize,
     ) -> Result<Next, ReadFault>
@@ -61,7 +66,7 @@ impl TermReader {
     fn open_token(
         &mut self,
         table: &mut Table,
-        forest: &Forest,
+        forest: &'a Forest,
         sofar: &mut Sofar,
         i: usize,
     ) -> Result<Next, ReadFault>
@@ -82,7 +87,7 @@ impl TermReader {
     fn open_list(
         &mut self,
         table: &mut Table,
-        forest: &Forest,
+        forest: &'a Forest,
         sofar: &mut Sofar,
         list: usize,
         first: usize,
@@ -119,9 +124,9 @@ impl TermReader {
     fn resume(
         &mut self,
         table: &mut Table,
-        forest: &Forest,
+        forest: &'a Forest,
         sofar: &mut Sofar,
-        frame: Frame,
+        frame: Frame<'a>,
         node: NodeId,
         behind: usize,
     ) -> Result<Next, ReadFault>
@@ -130,8 +135,8 @@ impl TermReader {
         requires defined { IfSome self.old.defines (λ i. i < length forest.now.tokens) }
         requires other { is_call frame ≡ false }
         requires going { SomeGoingBack forest.now.tokens table.old sofar.old self.old frame node behind }
-        ensures steps { (r : Result (Term × Known) Refused) → GoingBack forest.now.tokens table.old sofar.old self.old frame node behind r → Stepped forest.now.tokens table.new sofar.new self.new r result }
-        ensures less { IfOk result (λ next. left_of forest.now.tokens self.new next < left_behind forest.now.tokens self.old frame behind) }
+        ensures steps { (r : Result (Term × Known) Refused) → GoingBack forest.now.tokens table.old sofar.old self.old frame.entry node behind r → Stepped forest.now.tokens table.new sofar.new self.new r result }
+        ensures less { IfOk result (λ next. left_of forest.now.tokens self.new next < left_behind forest.now.tokens self.old frame.entry behind) }
         ensures keeps { Keeps table.old table.new sofar.old sofar.new self.old self.new }
     {
         match frame {
@@ -149,7 +154,7 @@ impl TermReader {
     pub fn run(
         &mut self,
         table: &mut Table,
-        forest: &Forest,
+        forest: &'a Forest,
         sofar: &mut Sofar,
         i: usize,
     ) -> Result<NodeId, ReadFault>

@@ -1,4 +1,4 @@
-use Rattle.std.proofs.Common.{◌≡◌, false, List, [], sym, ap, ◌∙◌, subst}
+use Rattle.std.proofs.Common.{◌≡◌, false, sym, ap, ◌∙◌, subst}
 use Rattle.smt_terms.specs.Fresh.{Supply}
 use Rattle.term_table.specs.Formulas.{Formulas}
 use Rattle.script_read.specs.declared.session.Session.{Session}

@@ -16,7 +16,7 @@ returns-in-Some c =
     let at : option_copied c.get.result ≡ Some c.in-Some.place.now = ap option_copied c.in-Some.is in
     let f = found-in c.self.inside.bindings.items c.args.name.now c.in-Some.place.now c.index.result.now c.self.invariant.links
     (sym (c.self.invariant.places c.args.name.now) ∙ sym c.get.ensures.value ∙ at) c.index.ensures in
-    sym (ap (λ ps. innermost ps c.args.name.now) (sym c.self.view_is) ∙ f.0)
+    sym (ap (λ ps. innermost ps c.args.name.now) (sym c.self.view_is) ∙ f)
 
 pub returns-in-None : goal.returns-in-None
 returns-in-None c =

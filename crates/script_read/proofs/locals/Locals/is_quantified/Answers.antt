@@ -1,27 +1,21 @@
-use Rattle.std.proofs.Common.{◌≡◌, ◌∙◌, length, Some, None, ap, sym, reverse, option_copied, vec_len, rules, arith}
+use Rattle.std.proofs.Common.{◌≡◌, ◌∙◌, length, ap, sym, subst, reverse, vec_len, rules, arith}
 use Rattle.std.proofs.lemmas.Bool.Decides.{Decides-eqb}
 use Rattle.script_read.specs.Bound.{quantified_among}
-use Rattle.script_read.proofs.Linking.{none_bound, found-in, found-before, absent}
+use Rattle.script_read.specs.Linked.{names_bound, place_in, AreLinked}
+use Rattle.script_read.proofs.Linking.{none_bound, place-before}
 use Rattle.script_read.proofs.locals.Locals.is_quantified.Goals as goal
 
-pub index-requires : goal.index-requires
-index-requires c =
-    let held : vec_len c.self.inside.bindings ≡ length c.self.inside.bindings.items = search rules in
-    let at : option_copied c.get.result ≡ Some c.in-Some.place.now = ap option_copied c.in-Some.is in
-    let few = found-before c.self.inside.bindings.items c.args.name.now c.in-Some.place.now (sym (c.self.invariant.places c.args.name.now) ∙ sym c.get.ensures.value ∙ at) in
-    omega (arith, held, few)
+pub is_quantified_at-requires : goal.is_quantified_at-requires
+is_quantified_at-requires c =
+    rw (c.deref.ensures.value)
+    (place-before c.self.inside.bindings.items c.args.name.now c.copied.result (c.copied.ensures ∙ c.get.ensures.value ∙ c.self.invariant.places c.args.name.now))
 
-pub returns-in-Some : goal.returns-in-Some
-returns-in-Some c =
-    let at : option_copied c.get.result ≡ Some c.in-Some.place.now = ap option_copied c.in-Some.is in
-    let f = found-in c.self.inside.bindings.items c.args.name.now c.in-Some.place.now c.index.result.now c.self.invariant.links
-    (sym (c.self.invariant.places c.args.name.now) ∙ sym c.get.ensures.value ∙ at) c.index.ensures in
-    sym (ap (λ ps. quantified_among ps c.args.name.now) (sym c.self.view_is) ∙ f.1)
-
-pub returns-in-None : goal.returns-in-None
-returns-in-None c =
-    let none : option_copied c.get.result ≡ None = ap option_copied c.in-None.is in
-    sym (ap (λ ps. quantified_among ps c.args.name.now) (sym c.self.view_is) ∙ (absent (reverse c.self.inside.bindings.items) c.args.name.now (sym (c.self.invariant.places c.args.name.now) ∙ sym c.get.ensures.value ∙ none)).1)
+pub returns : goal.returns
+returns c =
+    let n = c.args.name.now in
+    subst (λ bs. AreLinked (reverse bs) → c.copied.result ≡ place_in (reverse bs) n → c.is_quantified_at.result ≡ quantified_among (names_bound (reverse bs)) n)
+    c.deref.ensures.value (c.is_quantified_at.ensures n) c.self.invariant.links (c.copied.ensures ∙ c.get.ensures.value ∙ c.self.invariant.places n)
+    ∙ ap (λ ps. quantified_among ps n) c.self.view_is
 
 pub returns-then-is_empty : goal.returns-then-is_empty
 returns-then-is_empty c =

@@ -1,4 +1,4 @@
-use Rattle.std.proofs.Common.{ap, sym, ◌∙◌}
+use Rattle.std.proofs.Common.{◌≡◌, length, vec_len, rules, ap, sym, ◌∙◌}
 use Rattle.std.proofs.lemmas.Result.{err_from_is_err_and}
 use Rattle.script_read.specs.declared.causes.Cause.TheVariants.{BadForm}
 use Rattle.script_read.specs.Places.{forms_from}
@@ -22,7 +22,8 @@ returns-in_err-callee-clause-steps c r going =
 
 pub returns-clause-steps : goal.returns-clause-steps
 returns-clause-steps c r going =
+    let held : vec_len c.args.self.now.operands ≡ length c.args.self.now.operands.items = search rules in
     operand_begins c.args.forest.now.tokens c.args.table.now c.args.sofar.now c.args.self.now c.args.list r going c.args.first c.requires.opens
     c.after-operand.result (c.begins.ensures.yes c.if-not-begins.false) c.after-operand.ensures.behind
     c.read_callee.new.table c.in_ok-callee.ensures.grows c.in_ok-callee.callee (c.in_ok-callee.ensures.callee c.args.sofar.now.fresh going.live going.context.locals going.known going.stands.shown)
-    c.new.result c.new.ensures.items c.push.new.self c.in_ok-push.ensures.items
+    c.push.new.self c.in_ok-push.ensures.items c.len.result (c.len.ensures ∙ held) c.push-2.new.self c.in_ok-push-2.ensures.items

@@ -46,7 +46,7 @@ loop-next-preserved-then-awaits_operand c =
 pub returns-in_err-next-in-Term-2-clause-term : goal.returns-in_err-next-in-Term-2-clause-term
 returns-in_err-next-in-Term-2-clause-term c r going =
     let now = c.loop-next in
-    let waiting : TermReader = record { alloc = now.self.alloc; defines = now.self.defines; locals = now.self.locals; frames = c.pop.new.self } in
+    let waiting : TermReader = record { alloc = now.self.alloc; defines = now.self.defines; locals = now.self.locals; frames = c.pop.new.self; operands = now.self.operands; callees = now.self.callees } in
     let p = err_from_is_err_and c.from_residual-in_err-next-in-Term-2.result c.from_residual-in_err-next-in-Term-2.ensures.1 in
     rw (p.1, p.2)
     (c.in_err-next-in-Term-2.ensures.steps r
@@ -56,7 +56,7 @@ returns-in_err-next-in-Term-2-clause-term c r going =
 pub loop-next-preserved : goal.loop-next-preserved
 loop-next-preserved c =
     let now = c.loop-next in
-    let waiting : TermReader = record { alloc = now.self.alloc; defines = now.self.defines; locals = now.self.locals; frames = c.pop.new.self } in
+    let waiting : TermReader = record { alloc = now.self.alloc; defines = now.self.defines; locals = now.self.locals; frames = c.pop.new.self; operands = now.self.operands; callees = now.self.callees } in
     runs_on c.args.forest.now.tokens c.args.table.now c.args.sofar.now c.args.self.now c.args.i now.table now.sofar now.self now.next now.invariant
     c.resume.new.table c.resume.new.sofar c.resume.new.self c.in_ok-next-in-Term-2.next
     (record { gains = c.in_ok-next-in-Term-2.ensures.keeps.gains; defines = c.in_ok-next-in-Term-2.ensures.keeps.defines })
