@@ -1,8 +1,9 @@
 -- Names on levels: what is found, bound, opened and closed in the order of declaration.
-use Rattle.std.proofs.Common.{◌≡◌, ℕ, zero, suc, ◌+◌, ◌-◌, ◌≤◌, ◌<◌, Bool, true, false, cond, ◌&&◌, ◌||◌, List, [], ◌∷◌, ◌++◌, map, reverse, take, drop, length, get_or, count_by, replicate, Option, Some, None, Vec, Global, refl, ap, sym, ◌∙◌, subst, arith, true≢false, append-nil, append_assoc, is_some, if◌then◌else◌}
+use Rattle.std.proofs.Common.{◌≡◌, ℕ, zero, suc, ◌+◌, ◌-◌, ◌≤◌, ◌<◌, Bool, true, false, cond, ◌&&◌, ◌||◌, List, [], ◌∷◌, ◌++◌, map, reverse, take, drop, length, get_or, count_by, replicate, Option, Some, None, refl, ap, sym, ◌∙◌, subst, arith, true≢false, append-nil, append_assoc, is_some, if◌then◌else◌}
 use Rattle.std.proofs.lemmas.List.{reverse-append, take-append-drop, take_all, drop_all, length-append, length-reverse, length-drop, length-take, get_or-reverse, get_or_past}
 use Rattle.std.proofs.lemmas.List.Sums.{sum_by-cons}
 use Rattle.std.proofs.lemmas.Slice.Eq.{bytes_eq-Decides}
+use Rattle.std.specs.Borrow.{Bor}
 use Rattle.std.specs.Str.{bytes_eq}
 use Rattle.std.specs.Map.{lookup}
 use Rattle.indexmap.specs.IndexMap.{insert_entry}
@@ -12,7 +13,7 @@ use Rattle.smt_terms.proofs.Tests.{alike_from}
 use Rattle.script_read.specs.Scope.{or_later, opened, closed, merged, popped, flattened, emptied}
 use Rattle.script_read.specs.declared.scopes.Entry.{Entry}
 use Rattle.script_read.specs.Known.{Scoped, find, is_mark, is_symbol_entry, declared_among}
-use Rattle.script_read.specs.Laid.{named, laid, AreMarks, has, AreOnce, IsLaid}
+use Rattle.script_read.specs.Laid.{borrowed, laid, AreMarks, has, AreOnce, IsLaid}
 
 -- ---- lists
 
@@ -91,17 +92,17 @@ pub bytes_eq-turned : (a b : List ℕ) → bytes_eq a b ≡ bytes_eq b a
 bytes_eq-turned a b =
     alike_from (bytes_eq a b) (bytes_eq b a) (λ h. (bytes_eq-Decides b a).1 (sym ((bytes_eq-Decides a b).0 h))) (λ h. (bytes_eq-Decides a b).1 (sym ((bytes_eq-Decides b a).0 h)))
 
-first-lookup : {A : Type 0} (es : List (Vec ℕ Global × A)) (n : Name) → first (named es) n ≡ lookup (λ k. bytes_eq n k.items) es
+first-lookup : {A : Type 0} (es : List (Bor (List ℕ) × A)) (n : Name) → first (borrowed es) n ≡ lookup (λ k. bytes_eq n k.now) es
 first-lookup [] n = refl
-first-lookup (e ∷ es) n = ap (λ b. or_later b e.1 (first (named es) n)) (bytes_eq-turned e.0.items n) ∙ by (bytes_eq n e.0.items) (first-lookup es n)
+first-lookup (e ∷ es) n = ap (λ b. or_later b e.1 (first (borrowed es) n)) (bytes_eq-turned e.0.now n) ∙ by (bytes_eq n e.0.now) (first-lookup es n)
   where
-    by : (b : Bool) → first (named es) n ≡ lookup (λ k. bytes_eq n k.items) es → or_later b e.1 (first (named es) n) ≡ cond b (Some e.1) (lookup (λ k. bytes_eq n k.items) es)
+    by : (b : Bool) → first (borrowed es) n ≡ lookup (λ k. bytes_eq n k.now) es → or_later b e.1 (first (borrowed es) n) ≡ cond b (Some e.1) (lookup (λ k. bytes_eq n k.now) es)
     by true rest = refl
     by false rest = rest
 
-pub find-entries : {A : Type 0} (ms : List ℕ) (es : List (Vec ℕ Global × A)) (n : Name) → IsLaid ms (named es)
-    → find (laid ms (named es)) n ≡ lookup (λ k. bytes_eq n k.items) es
-find-entries ms es n is = find-laid ms (named es) n ∙ find-plain (named es) n is.once ∙ first-lookup es n
+pub find-entries : {A : Type 0} (ms : List ℕ) (es : List (Bor (List ℕ) × A)) (n : Name) → IsLaid ms (borrowed es)
+    → find (laid ms (borrowed es)) n ≡ lookup (λ k. bytes_eq n k.now) es
+find-entries ms es n is = find-laid ms (borrowed es) n ∙ find-plain (borrowed es) n is.once ∙ first-lookup es n
 
 -- ---- levels
 
@@ -176,34 +177,34 @@ laid-pushed ms es p is none = record {
   once = once-push es p is.once (sym (find-laid ms es p.0 ∙ find-plain es p.0 is.once) ∙ none);
 }
 
-named-push : {A : Type 0} (es : List (Vec ℕ Global × A)) (k : Vec ℕ Global) (v : A) → named (es ++ (k, v) ∷ []) ≡ named es ++ (k.items, v) ∷ []
+named-push : {A : Type 0} (es : List (Bor (List ℕ) × A)) (k : Bor (List ℕ)) (v : A) → borrowed (es ++ (k, v) ∷ []) ≡ borrowed es ++ (k.now, v) ∷ []
 named-push [] k v = refl
-named-push (e ∷ es) k v = ap (λ xs. (e.0.items, e.1) ∷ xs) (named-push es k v)
+named-push (e ∷ es) k v = ap (λ xs. (e.0.now, e.1) ∷ xs) (named-push es k v)
 
 -- a name that the map hasn't goes last
-inserted : {A : Type 0} (es : List (Vec ℕ Global × A)) (k : Vec ℕ Global) (v : A) (q : Name) → k.items ≡ q
-    → lookup (λ x. bytes_eq q x.items) es ≡ None → insert_entry (λ a b. bytes_eq a.items b.items) es k v ≡ es ++ (k, v) ∷ []
+inserted : {A : Type 0} (es : List (Bor (List ℕ) × A)) (k : Bor (List ℕ)) (v : A) (q : Name) → k.now ≡ q
+    → lookup (λ x. bytes_eq q x.now) es ≡ None → insert_entry (λ a b. bytes_eq a.now b.now) es k v ≡ es ++ (k, v) ∷ []
 inserted [] k v q e none = refl
-inserted {A = A} (p ∷ es) k v q e none = by (bytes_eq q p.0.items) (ap (λ n. bytes_eq n p.0.items) e) none (inserted es k v q e)
+inserted {A = A} (p ∷ es) k v q e none = by (bytes_eq q p.0.now) (ap (λ n. bytes_eq n p.0.now) e) none (inserted es k v q e)
   where
-    by : (b : Bool) → bytes_eq k.items p.0.items ≡ b → cond b (Some p.1) (lookup (λ x. bytes_eq q x.items) es) ≡ None
-        → (lookup (λ x. bytes_eq q x.items) es ≡ None → insert_entry (λ a b. bytes_eq a.items b.items) es k v ≡ es ++ (k, v) ∷ [])
-        → (if bytes_eq k.items p.0.items then (p.0, v) ∷ es else p ∷ insert_entry (λ a b. bytes_eq a.items b.items) es k v) ≡ p ∷ (es ++ (k, v) ∷ [])
+    by : (b : Bool) → bytes_eq k.now p.0.now ≡ b → cond b (Some p.1) (lookup (λ x. bytes_eq q x.now) es) ≡ None
+        → (lookup (λ x. bytes_eq q x.now) es ≡ None → insert_entry (λ a b. bytes_eq a.now b.now) es k v ≡ es ++ (k, v) ∷ [])
+        → (if bytes_eq k.now p.0.now then (p.0, v) ∷ es else p ∷ insert_entry (λ a b. bytes_eq a.now b.now) es k v) ≡ p ∷ (es ++ (k, v) ∷ [])
     by true h none rest = absurd (true≢false (ap is_some none))
-    by false h none rest = ap (λ b. if◌then◌else◌ {A = List (Vec ℕ Global × A)} b ((p.0, v) ∷ es) (p ∷ insert_entry (λ a b. bytes_eq a.items b.items) es k v)) h ∙ ap (λ xs. p ∷ xs) (rest none)
+    by false h none rest = ap (λ b. if◌then◌else◌ {A = List (Bor (List ℕ) × A)} b ((p.0, v) ∷ es) (p ∷ insert_entry (λ a b. bytes_eq a.now b.now) es k v)) h ∙ ap (λ xs. p ∷ xs) (rest none)
 
-pub named-inserted : {A : Type 0} (ms : List ℕ) (es : List (Vec ℕ Global × A)) (k : Vec ℕ Global) (v : A) (q : Name) → k.items ≡ q → IsLaid ms (named es)
-    → find (laid ms (named es)) q ≡ None → named (insert_entry (λ a b. bytes_eq a.items b.items) es k v) ≡ named es ++ (q, v) ∷ []
+pub named-inserted : {A : Type 0} (ms : List ℕ) (es : List (Bor (List ℕ) × A)) (k : Bor (List ℕ)) (v : A) (q : Name) → k.now ≡ q → IsLaid ms (borrowed es)
+    → find (laid ms (borrowed es)) q ≡ None → borrowed (insert_entry (λ a b. bytes_eq a.now b.now) es k v) ≡ borrowed es ++ (q, v) ∷ []
 named-inserted ms es k v q e is none =
-    ap named (inserted es k v q e (sym (find-entries ms es q is) ∙ none)) ∙ named-push es k v ∙ ap (λ n. named es ++ (n, v) ∷ []) e
+    ap borrowed (inserted es k v q e (sym (find-entries ms es q is) ∙ none)) ∙ named-push es k v ∙ ap (λ n. borrowed es ++ (n, v) ∷ []) e
 
-pub bound : {A : Type 0} (ms : List ℕ) (es : List (Vec ℕ Global × A)) (k : Vec ℕ Global) (v : A) (q : Name) → k.items ≡ q → IsLaid ms (named es)
-    → find (laid ms (named es)) q ≡ None → laid ms (named (insert_entry (λ a b. bytes_eq a.items b.items) es k v)) ≡ Some (q, v) ∷ laid ms (named es)
-bound ms es k v q e is none = ap (laid ms) (named-inserted ms es k v q e is none) ∙ laid-push ms (named es) (q, v) is.marks
+pub bound : {A : Type 0} (ms : List ℕ) (es : List (Bor (List ℕ) × A)) (k : Bor (List ℕ)) (v : A) (q : Name) → k.now ≡ q → IsLaid ms (borrowed es)
+    → find (laid ms (borrowed es)) q ≡ None → laid ms (borrowed (insert_entry (λ a b. bytes_eq a.now b.now) es k v)) ≡ Some (q, v) ∷ laid ms (borrowed es)
+bound ms es k v q e is none = ap (laid ms) (named-inserted ms es k v q e is none) ∙ laid-push ms (borrowed es) (q, v) is.marks
 
-pub bound-laid : {A : Type 0} (ms : List ℕ) (es : List (Vec ℕ Global × A)) (k : Vec ℕ Global) (v : A) (q : Name) → k.items ≡ q → IsLaid ms (named es)
-    → find (laid ms (named es)) q ≡ None → IsLaid ms (named (insert_entry (λ a b. bytes_eq a.items b.items) es k v))
-bound-laid ms es k v q e is none = subst (IsLaid ms) (sym (named-inserted ms es k v q e is none)) (laid-pushed ms (named es) (q, v) is none)
+pub bound-laid : {A : Type 0} (ms : List ℕ) (es : List (Bor (List ℕ) × A)) (k : Bor (List ℕ)) (v : A) (q : Name) → k.now ≡ q → IsLaid ms (borrowed es)
+    → find (laid ms (borrowed es)) q ≡ None → IsLaid ms (borrowed (insert_entry (λ a b. bytes_eq a.now b.now) es k v))
+bound-laid ms es k v q e is none = subst (IsLaid ms) (sym (named-inserted ms es k v q e is none)) (laid-pushed ms (borrowed es) (q, v) is none)
 
 -- ---- opening
 
@@ -321,7 +322,7 @@ flattened-laid [] es = ap (flattened is_mark) (sym (append-nil (plain es))) ∙ 
 flattened-laid (m ∷ ms) es =
     flattened-plain (reverse (drop m es)) (None ∷ laid ms (take m es)) ∙ ap (λ zs. plain (drop m es) ++ zs) (flattened-laid ms (take m es)) ∙ plain-cut m es
 
-pub length-named : {A : Type 0} (es : List (Vec ℕ Global × A)) → length (named es) ≡ length es
+pub length-named : {A : Type 0} (es : List (Bor (List ℕ) × A)) → length (borrowed es) ≡ length es
 length-named [] = refl
 length-named (e ∷ es) = ap suc (length-named es)
 
@@ -368,33 +369,33 @@ left-take (suc n) d (m ∷ k ∷ ms) es few marks =
     at_most zero d (k ∷ ms) m few marks = marks.0
     at_most (suc n) d (k ∷ ms) m few marks = at_most n d ms m (omega (arith, few)) (more-marks k m ms marks.0 marks.1)
 
-named-take : {A : Type 0} (k : ℕ) (es : List (Vec ℕ Global × A)) → named (take k es) ≡ take k (named es)
+named-take : {A : Type 0} (k : ℕ) (es : List (Bor (List ℕ) × A)) → borrowed (take k es) ≡ take k (borrowed es)
 named-take zero es = refl
 named-take (suc k) [] = refl
-named-take (suc k) (e ∷ es) = ap (λ zs. (e.0.items, e.1) ∷ zs) (named-take k es)
+named-take (suc k) (e ∷ es) = ap (λ zs. (e.0.now, e.1) ∷ zs) (named-take k es)
 
 -- the names below the latest n levels
-left-named : {A : Type 0} (n : ℕ) (marks : List ℕ) (es : List (Vec ℕ Global × A)) → n ≤ length marks → AreMarks (length (named es)) (reverse marks)
-    → left_of n (reverse marks) (named es) ≡ named (take (get_or marks (length marks - n) (length es)) es)
+left-named : {A : Type 0} (n : ℕ) (marks : List ℕ) (es : List (Bor (List ℕ) × A)) → n ≤ length marks → AreMarks (length (borrowed es)) (reverse marks)
+    → left_of n (reverse marks) (borrowed es) ≡ borrowed (take (get_or marks (length marks - n) (length es)) es)
 left-named zero marks es few is =
-    sym (take_all (length (named es)) (named es) (omega arith))
-    ∙ ap (λ k. take k (named es)) (length-named es)
+    sym (take_all (length (borrowed es)) (borrowed es) (omega arith))
+    ∙ ap (λ k. take k (borrowed es)) (length-named es)
     ∙ sym (named-take (length es) es)
-    ∙ ap (λ k. named (take k es)) (sym (get_or_past marks (length marks - 0) (length es) (omega arith)))
+    ∙ ap (λ k. borrowed (take k es)) (sym (get_or_past marks (length marks - 0) (length es) (omega arith)))
 left-named (suc n) marks es few is =
     let whole = length-reverse marks in
-    left-take n (length es) (reverse marks) (named es) (omega (arith, few, whole)) is
-    ∙ ap (λ k. take k (named es)) (get_or-reverse marks n (length es) (omega (arith, few)) ∙ ap (λ k. get_or marks k (length es)) (places (length marks) n))
+    left-take n (length es) (reverse marks) (borrowed es) (omega (arith, few, whole)) is
+    ∙ ap (λ k. take k (borrowed es)) (get_or-reverse marks n (length es) (omega (arith, few)) ∙ ap (λ k. get_or marks k (length es)) (places (length marks) n))
     ∙ sym (named-take (get_or marks (length marks - suc n) (length es)) es)
   where
     places : (l n : ℕ) → l - 1 - n ≡ l - suc n
     places l n = omega arith
 
-pub closed-names : {A : Type 0} (n : ℕ) (marks : List ℕ) (es : List (Vec ℕ Global × A)) → n ≤ length marks → IsLaid (reverse marks) (named es)
-    → laid (reverse (take (length marks - n) marks)) (named (take (get_or marks (length marks - n) (length es)) es)) ≡ closed is_mark n (laid (reverse marks) (named es))
+pub closed-names : {A : Type 0} (n : ℕ) (marks : List ℕ) (es : List (Bor (List ℕ) × A)) → n ≤ length marks → IsLaid (reverse marks) (borrowed es)
+    → laid (reverse (take (length marks - n) marks)) (borrowed (take (get_or marks (length marks - n) (length es)) es)) ≡ closed is_mark n (laid (reverse marks) (borrowed es))
 closed-names n marks es few is =
     let whole = length-reverse marks in
-    sym (closed-laid n (reverse marks) (named es) (omega (arith, few, whole)) ∙ (λ i. laid (drop-reverse n marks few i) (left-named n marks es few is.marks i)))
+    sym (closed-laid n (reverse marks) (borrowed es) (omega (arith, few, whole)) ∙ (λ i. laid (drop-reverse n marks few i) (left-named n marks es few is.marks i)))
 
 pub merged-names : {A : Type 0} (n : ℕ) (marks : List ℕ) (es : List (Name × A)) → n ≤ length marks → IsLaid (reverse marks) es
     → laid (reverse (take (length marks - n) marks)) es ≡ merged is_mark n (laid (reverse marks) es)
@@ -428,12 +429,12 @@ marks-drop zero k ms marks = marks
 marks-drop (suc n) k [] marks = tt
 marks-drop (suc n) k (m ∷ ms) marks = marks-drop n k ms (more-marks m k ms marks.0 marks.1)
 
-pub closed-is-laid : {A : Type 0} (n : ℕ) (marks : List ℕ) (es : List (Vec ℕ Global × A)) → n ≤ length marks → IsLaid (reverse marks) (named es)
-    → IsLaid (reverse (take (length marks - n) marks)) (named (take (get_or marks (length marks - n) (length es)) es))
+pub closed-is-laid : {A : Type 0} (n : ℕ) (marks : List ℕ) (es : List (Bor (List ℕ) × A)) → n ≤ length marks → IsLaid (reverse marks) (borrowed es)
+    → IsLaid (reverse (take (length marks - n) marks)) (borrowed (take (get_or marks (length marks - n) (length es)) es))
 closed-is-laid n marks es few is = record {
   marks = subst (λ zs. AreMarks (length zs) (reverse (take (length marks - n) marks))) (left-named n marks es few is.marks)
-      (subst (AreMarks (length (left_of n (reverse marks) (named es)))) (drop-reverse n marks few) (marks-left n (reverse marks) (named es) is.marks));
-  once = subst AreOnce (sym (named-take (get_or marks (length marks - n) (length es)) es)) (once-take (get_or marks (length marks - n) (length es)) (named es) is.once);
+      (subst (AreMarks (length (left_of n (reverse marks) (borrowed es)))) (drop-reverse n marks few) (marks-left n (reverse marks) (borrowed es) is.marks));
+  once = subst AreOnce (sym (named-take (get_or marks (length marks - n) (length es)) es)) (once-take (get_or marks (length marks - n) (length es)) (borrowed es) is.once);
 }
 
 pub merged-is-laid : {A : Type 0} (n : ℕ) (marks : List ℕ) (es : List (Name × A)) → n ≤ length marks → IsLaid (reverse marks) es
@@ -498,9 +499,9 @@ declared-plain (e ∷ es) n once =
         ∙ no_symbol (is_symbol_entry e.1)
     by false h = no_name (is_symbol_found (first es n)) (is_symbol_entry e.1)
 
-pub declared-entries : (ms : List ℕ) (es : List (Vec ℕ Global × Entry)) (n : Name) → IsLaid ms (named es)
-    → declared_among (laid ms (named es)) n ≡ is_symbol_found (lookup (λ k. bytes_eq n k.items) es)
-declared-entries ms es n is = declared-laid ms (named es) n ∙ declared-plain (named es) n is.once ∙ ap is_symbol_found (first-lookup es n)
+pub declared-entries : (ms : List ℕ) (es : List (Bor (List ℕ) × Entry)) (n : Name) → IsLaid ms (borrowed es)
+    → declared_among (laid ms (borrowed es)) n ≡ is_symbol_found (lookup (λ k. bytes_eq n k.now) es)
+declared-entries ms es n is = declared-laid ms (borrowed es) n ∙ declared-plain (borrowed es) n is.once ∙ ap is_symbol_found (first-lookup es n)
 
 -- ---- how many levels are open
 
@@ -560,7 +561,7 @@ pub levels-emptied : {A : Type 0} (keeps : Bool) (ys : List (Scoped A)) → coun
 levels-emptied true ys = levels-flattened ys
 levels-emptied false ys = refl
 
-pub resized : {A : Type 0} (n : ℕ) (marks news : List ℕ) (es : List (Vec ℕ Global × A)) (l b : ℕ) → l ≡ length marks → b ≡ length es
+pub resized : {A : Type 0} (n : ℕ) (marks news : List ℕ) (es : List (Bor (List ℕ) × A)) (l b : ℕ) → l ≡ length marks → b ≡ length es
     → news ≡ take (l + n) marks ++ replicate (l + n - l) b
-    → news ≡ take (length marks + n) marks ++ replicate (length marks + n - length marks) (length (named es))
+    → news ≡ take (length marks + n) marks ++ replicate (length marks + n - length marks) (length (borrowed es))
 resized n marks news es l b e f is = is ∙ (λ i. take (e i + n) marks ++ replicate (e i + n - e i) ((f ∙ sym (length-named es)) i))

@@ -17,6 +17,7 @@ mod CommandWords
 mod DefinedName
 mod DefinitionSteps
 mod Defining
+mod DrawnBytes
 mod DrawnConstants
 mod Expanding
 mod Fitting
@@ -54,6 +55,7 @@ mod ReaderSteps
 mod RegularReads
 mod RegularStanding
 mod RegularTerms
+mod ReservedWords
 mod Rows
 mod Running
 mod SameSorts

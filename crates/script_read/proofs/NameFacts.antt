@@ -1,8 +1,8 @@
 -- Names: which are among those of a text, which are reserved, and which a supply never gives.
-use Rattle.std.proofs.Common.{◌≡◌, ◌≢◌, ◌∙◌, sym, ap, subst, refl, ℕ, ◌==◌, Bool, true, false, cond, ◌&&◌, ◌||◌, ◌⊎◌, inl, inr, List, [], ◌∷◌, ◌++◌, Option, Some, None}
+use Rattle.std.proofs.Common.{◌≡◌, ◌≢◌, ◌∙◌, sym, ap, subst, refl, ℕ, ◌==◌, Bool, true, false, not, cond, ◌&&◌, ◌||◌, ◌⊎◌, inl, inr, List, [], ◌∷◌, ◌++◌, Option, Some, None}
 use Rattle.std.specs.Prelude.{codes}
 use Rattle.std.specs.List.{list_all}
-use Rattle.smt_lex.specs.Names.{Name, is_among, is_theory_name, is_reserved_for_declaring}
+use Rattle.smt_lex.specs.Names.{Name, is_among, is_reserved, is_syntax_word, is_command_word, is_theory_name, is_reserved_for_declaring}
 use Rattle.smt_lex.specs.Lex.{symbol_of}
 use Rattle.smt_lex.specs.Forms.{Form, atom, node, Forms, none, ◌⨾◌}
 use Rattle.smt_terms.specs.Equal.{name_eq, symbol_eq}
@@ -107,15 +107,50 @@ array_reserved : list_all (λ (p : Name × Indexed). is_theory_name p.0) array_o
 unfolding is_theory_name
 array_reserved = refl
 
+module _ (test : Name → Bool) where
+  abbrev All_pass : List (Name × Indexed) → Type 0
+  All_pass ps = list_all (λ p. test p.0) ps ≡ true
+
+  operator_passes : All_pass core_operators → All_pass number_operators → All_pass vector_operators → All_pass array_operators → (n : Name) (o : Indexed) → operator_named n ≡ Some o → test n ≡ true
+  unfolding operator_named
+  operator_passes core number vector array n o h = go (named_in core_operators n) refl (named_in number_operators n) refl (named_in vector_operators n) refl h
+    where
+      go : (a : Option Indexed) → named_in core_operators n ≡ a → (b : Option Indexed) → named_in number_operators n ≡ b → (c : Option Indexed) → named_in vector_operators n ≡ c → or_else a (or_else b (or_else c (named_in array_operators n))) ≡ Some o → test n ≡ true
+      go (Some x) ea b eb c ec found = named_passes test core_operators n x core ea
+      go None ea (Some x) eb c ec found = named_passes test number_operators n x number eb
+      go None ea None eb (Some x) ec found = named_passes test vector_operators n x vector ec
+      go None ea None eb None ec found = named_passes test array_operators n o array found
+
 pub operator_reserved : (n : Name) (o : Indexed) → operator_named n ≡ Some o → is_theory_name n ≡ true
-unfolding operator_named
-operator_reserved n o h = go (named_in core_operators n) refl (named_in number_operators n) refl (named_in vector_operators n) refl h
-  where
-    go : (a : Option Indexed) → named_in core_operators n ≡ a → (b : Option Indexed) → named_in number_operators n ≡ b → (c : Option Indexed) → named_in vector_operators n ≡ c → or_else a (or_else b (or_else c (named_in array_operators n))) ≡ Some o → is_theory_name n ≡ true
-    go (Some x) ea b eb c ec found = named_passes is_theory_name core_operators n x core_reserved ea
-    go None ea (Some x) eb c ec found = named_passes is_theory_name number_operators n x number_reserved eb
-    go None ea None eb (Some x) ec found = named_passes is_theory_name vector_operators n x vector_reserved ec
-    go None ea None eb None ec found = named_passes is_theory_name array_operators n o array_reserved found
+operator_reserved n o h = operator_passes is_theory_name core_reserved number_reserved vector_reserved array_reserved n o h
+
+-- no operator has the name of a reserved word
+
+abbrev is_free : Name → Bool
+is_free n = not (is_reserved n)
+
+core_free : list_all (λ (p : Name × Indexed). is_free p.0) core_operators ≡ true
+unfolding is_syntax_word is_command_word
+core_free = refl
+
+number_free : list_all (λ (p : Name × Indexed). is_free p.0) number_operators ≡ true
+unfolding is_syntax_word is_command_word
+number_free = refl
+
+vector_free : list_all (λ (p : Name × Indexed). is_free p.0) vector_operators ≡ true
+unfolding is_syntax_word is_command_word
+vector_free = refl
+
+array_free : list_all (λ (p : Name × Indexed). is_free p.0) array_operators ≡ true
+unfolding is_syntax_word is_command_word
+array_free = refl
+
+pub turned_false : (b : Bool) → not b ≡ true → b ≡ false
+turned_false false h = refl
+turned_false true h = absurd cc
+
+pub operator_free : (n : Name) (o : Indexed) → operator_named n ≡ Some o → is_reserved n ≡ false
+operator_free n o h = turned_false (is_reserved n) (operator_passes is_free core_free number_free vector_free array_free n o h)
 
 pub theory_reserved : (n : Name) → is_theory_name n ≡ true → is_reserved_for_declaring n ≡ true
 unfolding is_reserved_for_declaring

@@ -318,6 +318,12 @@ module _ (t : Token) where
   pub symbol_word : t.item ≡ Word → symbol_of t ≡ (if is_reserved t.text then None else Some (name_of t))
   symbol_word is = rw is refl
 
+  -- a word that isn't reserved
+  pub word_free : t.item ≡ Word → is_reserved (name_of t) ≡ false → symbol_of t ≡ Some (name_of t)
+  word_free is free =
+      let name_is : name_of t ≡ t.text = rw is refl in
+      symbol_word is ∙ ap (λ b. if b then None else Some (name_of t)) (ap is_reserved (sym name_is) ∙ free)
+
   pub symbol_quoted : t.item ≡ Quoted → symbol_of t ≡ Some (name_of t)
   symbol_quoted is = rw is refl
 

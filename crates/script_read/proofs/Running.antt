@@ -1,5 +1,5 @@
 -- A reading from its first form to its term: how lists open, what is kept from step to step, and where it ends.
-use Rattle.std.proofs.Common.{◌≡◌, ℕ, ◌<◌, List, [], ◌∷◌, ◌++◌, reverse, length, false, Some, IfSome, Result, Ok, Err, refl, ap, sym, ◌∙◌, subst}
+use Rattle.std.proofs.Common.{◌≡◌, ℕ, ◌<◌, List, [], ◌∷◌, ◌++◌, reverse, length, false, Option, Some, IfSome, Result, Ok, Err, refl, ap, sym, ◌∙◌, subst}
 use Rattle.smt_lex.specs.Lex.{Token}
 use Rattle.smt_lex.specs.Forest.{token_at, after_at}
 use Rattle.smt_lex.specs.Forms.{node}
@@ -18,7 +18,7 @@ use Rattle.script_read.specs.Heads.{vector_constant}
 use Rattle.script_read.specs.Reading.{ReadBinding, Sofar, continued, gives, beside}
 use Rattle.script_read.specs.Read.{Context, read}
 use Rattle.script_read.specs.Known.{Shows, ReadsTerm}
-use Rattle.script_read.specs.Bound.{ShowsLocals}
+use Rattle.script_read.specs.Bound.{LocalNames, ShowsLocals}
 use Rattle.script_read.specs.PlaceClauses.{BeginsForm, IsListAt}
 use Rattle.script_read.specs.Places.{IsForm, SparesText, form_from, forms_from}
 use Rattle.script_read.specs.TermClauses.{defined_name}
@@ -99,6 +99,13 @@ module _ (ts : List Token) (t : Formulas) (sofar : SofarSeen) (reader : TermRead
     waiting = subst (λ fs. AllWait ts (defined_by ts reader) (now_at t sofar) fs (after_at ts i) (stacks_of reader) (λ u. gives u)) (sym none_waits) (λ u s. refl);
     is = given_alone (read (form_from ts i) c (record { live = live; supply = sofar.fresh }));
   }
+
+  -- the same of a reader that was given these local names, and the token of the name that is defined
+  pub begins_below : (ps : LocalNames) (d : Option ℕ) → reader.locals ≡ ps → reader.defines ≡ d
+      → (i : ℕ) (c : Context) (live : List ReadBinding) → IsForm ts i → Shows t sofar.fresh sofar.scope live → ShowsLocals t sofar.fresh ps c.locals → c.defines ≡ defined_name ts d
+      → Going ts t sofar reader (NextForm i) (read (form_from ts i) c (record { live = live; supply = sofar.fresh }))
+  begins_below ps d locals_are defines_is i c live form shows locals named =
+      begins_reading i c live form shows (subst (λ (qs : LocalNames). ShowsLocals t sofar.fresh qs c.locals) (sym locals_are) locals) (named ∙ ap (defined_name ts) (sym defines_is))
 
   pub ends_reading : (k : NodeId) (at : ℕ) (r : Result (Term × Sofar) Refused) → Going ts t sofar reader (NextTerm k at) r → ReadsTerm t sofar.scope sofar.fresh r (Ok k)
   ends_reading k at r going =

@@ -1,5 +1,6 @@
 -- The names of a text, token by token.
-use Rattle.std.proofs.Common.{◌≡◌, ℕ, zero, suc, ◌+◌, ◌<◌, ◌≤◌, inl, inr, Bool, true, false, not, cond, List, [], ◌∷◌, ◌++◌, length, None, Some, if◌then◌else◌, refl, ap, sym, ◌∙◌, arith, ◌&&◌, ◌||◌, ◌==◌, true≢false}
+use Rattle.std.proofs.Common.{◌≡◌, ℕ, zero, suc, ◌+◌, ◌<◌, ◌≤◌, inl, inr, Bool, true, false, not, cond, List, [], ◌∷◌, ◌++◌, length, None, Some, if◌then◌else◌, refl, ap, sym, ◌∙◌, subst, arith, ◌&&◌, ◌||◌, ◌==◌, true≢false}
+use Rattle.std.specs.Bool.{⊤}
 use Rattle.std.proofs.lemmas.List.{drop_more, drop_all}
 use Rattle.std.proofs.lemmas.List.Elements.{filter-append}
 use Rattle.std.proofs.lemmas.Bool.Decides.{eqb_tells}
@@ -133,16 +134,24 @@ kept_around (fs ∷ gss) ns n among = kept_around gss (names_with_all ns fs) n (
 kept_left : (r : Forms × List Forms) (ns : List Name) (n : Name) → name_among ns n ≡ true → name_among (names_left ns r) n ≡ true
 kept_left r ns n among = kept_around r.1 (names_with_all ns r.0) n (kept_by_forms r.0 ns n among)
 
-names_before_token : (ts : List Token) (i : ℕ) → i ≤ length ts → (ns : List Name) × (names_left [] (rest_at ts 0) ≡ names_left ns (rest_at ts i))
-names_before_token ts zero within = ([], refl)
-names_before_token ts (suc i) within =
-    let (ns, same) = names_before_token ts i (omega arith) in
-    let next : i + 1 ≡ suc i = omega arith in
-    (with_name ns (symbol_of (token_at ts i)), same ∙ names_next ts i (omega arith) ns ∙ ap (λ k. names_left (with_name ns (symbol_of (token_at ts i))) (rest_at ts k)) next)
+-- what holds of no names, and of names with each symbol of the text if it holds of them
+module _ (ts : List Token) (P : List Name → Type 0) (empty : P []) (next : (i : ℕ) → i < length ts → (ns : List Name) → P ns → P (with_name ns (symbol_of (token_at ts i)))) where
+  names_before_token : (i : ℕ) → i ≤ length ts → (ns : List Name) × P ns × (names_left [] (rest_at ts 0) ≡ names_left ns (rest_at ts i))
+  names_before_token zero within = ([], empty, refl)
+  names_before_token (suc i) within =
+      let (ns, holds, same) = names_before_token i (omega arith) in
+      let behind : i + 1 ≡ suc i = omega arith in
+      let more = with_name ns (symbol_of (token_at ts i)) in
+      (more, next i (omega arith) ns holds, same ∙ names_next ts i (omega arith) ns ∙ ap (λ k. names_left more (rest_at ts k)) behind)
+
+  pub holds_of_names : IsBalanced ts → P (names_with_all [] (forms_from ts 0))
+  holds_of_names matched =
+      let (ns, holds, same) = names_before_token (length ts) (omega arith) in
+      subst P (sym (names_at_end ts (length ts) ns (omega arith)) ∙ sym same ∙ names_at_start ts [] matched) holds
 
 symbol_among : (ts : List Token) (i : ℕ) (n : Name) → IsBalanced ts → i < length ts → symbol_of (token_at ts i) ≡ Some n → name_among (names_with_all [] (forms_from ts 0)) n ≡ true
 symbol_among ts i n matched within symbol =
-    let (ns, same) = names_before_token ts i (omega arith) in
+    let (ns, _, same) = names_before_token ts (λ _. ⊤) tt (λ _ _ _ _. tt) i (omega arith) in
     let here : names_left [] (rest_at ts 0) ≡ names_left (with_name ns (Some n)) (rest_at ts (i + 1)) = same ∙ names_next ts i within ns ∙ ap (λ o. names_left (with_name ns o) (rest_at ts (i + 1))) symbol in
     ap (λ ms. name_among ms n) (sym (names_at_start ts [] matched) ∙ here) ∙ kept_left (rest_at ts (i + 1)) (with_name ns (Some n)) n (among_new ns n)
 

@@ -18,7 +18,7 @@ is_other n = takes_no_index n || (is_among real_names n || is_bit_vector_constan
 abbrev is_known : Name → Bool
 is_known n = is_some (operator_named n) || is_other n
 
-among_passes : (test : Name → Bool) (ns : List Name) (n : Name) → list_all test ns ≡ true → is_among ns n ≡ true → test n ≡ true
+pub among_passes : (test : Name → Bool) (ns : List Name) (n : Name) → list_all test ns ≡ true → is_among ns n ≡ true → test n ≡ true
 among_passes test [] n all h = absurd cc
 among_passes test (m ∷ ns) n all h =
     let both = both_true (test m) (list_all test ns) all in

@@ -1,16 +1,11 @@
 -- Names in order of declaration, cut into levels.
-use Rattle.std.specs.Prelude.{◌≡◌, ℕ, ◌≤◌, Bool, false, ◌||◌, List, [], ◌∷◌, ◌++◌, map, reverse, take, drop, length, Some, None, Vec}
+use Rattle.std.specs.Prelude.{◌≡◌, ℕ, ◌≤◌, Bool, false, ◌||◌, List, [], ◌∷◌, ◌++◌, map, reverse, take, drop, length, Some, None}
 use Rattle.std.specs.Borrow.{Bor}
-use Rattle.std.specs.Global.{Global}
 use Rattle.smt_lex.specs.Names.{Name}
 use Rattle.smt_terms.specs.Equal.{name_eq}
 use Rattle.script_read.specs.Known.{Scoped}
 
--- what a map of names holds
-abbrev pub named : {A : Type 0} → List (Vec ℕ Global × A) → List (Name × A)
-named es = map (λ e. (e.0.items, e.1)) es
-
--- what a list of borrowed names holds
+-- what a map or a list of borrowed names holds
 abbrev pub borrowed : {A : Type 0} → List (Bor (List ℕ) × A) → List (Name × A)
 borrowed es = map (λ e. (e.0.now, e.1)) es
 

@@ -12,32 +12,30 @@ use std::marker::Model;
 
 /// Names, each with what it stands for, on levels. No name stands twice.
 #[derive(Drop)]
-pub struct Leveled<T> {
-    alloc: Global,
-    entries: IndexMap<Vec<u8>, T, BuildNameHasher>,
+pub struct Leveled<'a, T> {
+    entries: IndexMap<&'a [u8], T, BuildNameHasher>,
     // how many names stand below each level
     marks: Vec<usize>,
 }
 
-impl<T> Model for Leveled<T> {
+impl<'a, T> Model for Leveled<'a, T> {
     ghost use Rattle.std.specs.Prelude.{List, reverse};
     ghost use Rattle.script_read.specs.Known.{Scoped};
-    ghost use Rattle.script_read.specs.Laid.{named, laid, IsLaid};
+    ghost use Rattle.script_read.specs.Laid.{borrowed, laid, IsLaid};
 
     ghost Value = { List (Scoped T) };
 
-    ghost view = { λ s. laid (reverse s.marks.items) (named s.entries.entries) };
+    ghost view = { λ s. laid (reverse s.marks.items) (borrowed s.entries.entries) };
 
-    ghost invariant = { λ s. IsLaid (reverse s.marks.items) (named s.entries.entries) };
+    ghost invariant = { λ s. IsLaid (reverse s.marks.items) (borrowed s.entries.entries) };
 }
 
-impl<T: Copy + Drop> Leveled<T> {
+impl<'a, T: Copy + Drop> Leveled<'a, T> {
     /// No names, and no open level. It takes no memory.
-    pub fn new(alloc: Global) -> Leveled<T>
+    pub fn new(alloc: Global) -> Leveled<'a, T>
         ensures { result ≡ [] }
     {
         Leveled {
-            alloc,
             entries: IndexMap::with_hasher(alloc, BuildNameHasher::new()),
             marks: Vec::new(alloc),
         }
@@ -58,12 +56,11 @@ impl<T: Copy + Drop> Leveled<T> {
     }
 
     /// Gives a name that stands for nothing this meaning. Where it is refused, all is as before.
-    pub fn bind(&mut self, name: &[u8], value: T) -> Result<(), AllocError>
+    pub fn bind(&mut self, name: &'a [u8], value: T) -> Result<(), AllocError>
         requires { find self.old name.now ≡ None }
         ensures ok { OnOk result (self.new ≡ Some (name.now, value) ∷ self.old) }
         ensures err { OnErr result (self.new ≡ self.old) }
     {
-        let name = Vec::from_slice(self.alloc, name)?;
         self.entries.insert(name, value)?;
         Ok(())
     }
@@ -137,7 +134,7 @@ fn names_below(marks: &[usize], level: usize, all: usize) -> usize
 }
 
 // Leaves the first `len` entries. Each one that goes costs the same, however many stay.
-fn cut<T: Drop>(entries: &mut IndexMap<Vec<u8>, T, BuildNameHasher>, len: usize)
+fn cut<T: Drop>(entries: &mut IndexMap<&[u8], T, BuildNameHasher>, len: usize)
     ensures { entries.new.entries ≡ take len entries.old.entries }
 {
     while entries.len() > len {

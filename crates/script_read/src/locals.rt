@@ -74,13 +74,20 @@ impl<'a> Locals<'a> {
         }
     }
 
-    /// What the innermost binding of a name has.
+    /// What the innermost binding of a name has. Where nothing is bound, the name isn't looked at.
+    #[inline(always)]
     pub fn find(&self, name: &[u8]) -> Option<Local>
         ensures { result ≡ innermost self.now name.now }
     {
         if self.bindings.is_empty() {
             return None;
         }
+        self.find_bound(name)
+    }
+
+    fn find_bound(&self, name: &[u8]) -> Option<Local>
+        ensures { result ≡ innermost self.now name.now }
+    {
         match self.places.get(name) {
             Some(place) => Some(self.bindings[*place].local),
             None => None,

@@ -6,6 +6,7 @@ ghost use Rattle.std.specs.Str.Parse.{digits_value};
 ghost use Rattle.smt_lex.specs.Lex.{symbol_of, name_of};
 ghost use Rattle.smt_lex.specs.Forest.{token_at, after_at};
 ghost use Rattle.smt_lex.specs.Forms.{none};
+ghost use Rattle.smt_lex.specs.Names.{is_reserved};
 ghost use Rattle.script_read.specs.Parts.{place_of, symbol_in, word_in, is_name, numeral_in};
 ghost use Rattle.script_read.specs.Places.{IsForm, form_from, forms_from, pair_in, two_from, capped};
 ghost use Rattle.script_read.specs.PlaceClauses.{BeginsForm, IsListAt, AreTwo};
@@ -102,8 +103,30 @@ pub fn is_symbol(forest: &Forest, i: usize) -> bool
     ensures no { result ≡ false → symbol_in (form_from forest.now.tokens i) ≡ None }
 {
     match forest.item(i) {
-        Item::Word => !is_reserved(forest.text(i)),
+        Item::Word => !is_reserved_word(forest.text(i)),
         Item::Quoted => true,
+        _ => false,
+    }
+}
+
+// Whether a word is reserved, as none is that ends in a digit.
+fn is_reserved_word(word: &[u8]) -> bool
+    ensures { result ≡ is_reserved word.now }
+{
+    match word {
+        [.., last] if last.is_ascii_digit() => false,
+        _ => is_reserved(word),
+    }
+}
+
+/// Whether the form that begins at token `i` is a symbol, or a reserved word.
+pub fn is_name(forest: &Forest, i: usize) -> bool
+    requires { IsForm forest.now.tokens i }
+    ensures yes { result ≡ true → is_reserved (name_of (token_at forest.now.tokens i)) ≡ false → symbol_in (form_from forest.now.tokens i) ≡ Some (name_of (token_at forest.now.tokens i)) }
+    ensures no { result ≡ false → symbol_in (form_from forest.now.tokens i) ≡ None }
+{
+    match forest.item(i) {
+        Item::Word | Item::Quoted => true,
         _ => false,
     }
 }

@@ -13,6 +13,7 @@ use crate::faults::{Fault, ReadFault, Refusal, ScriptFault};
 use crate::places::begins;
 use crate::scripts::{Command, Commands, Script};
 use crate::session::{Session, read_command};
+use crate::terms::term_reader::TermReader;
 use crate::text_names::fresh_beside;
 use smt_lex::{Forest, line_of};
 use std::alloc::{AllocError, Global};
@@ -47,11 +48,11 @@ fn make_room(table: &mut Table, forest: &Forest)
 }
 
 // Reads all commands of a text.
-fn read_commands(
+fn read_commands<'a>(
     alloc: Global,
     table: &mut Table,
-    forest: &Forest,
-    session: &mut Session,
+    forest: &'a Forest,
+    session: &mut Session<'a>,
 ) -> Result<Commands, ScriptFault>
     requires read { IsRead forest.now }
     requires text { SparesText forest.now.tokens session.old.sofar.fresh }
@@ -62,11 +63,12 @@ fn read_commands(
     ensures grows { GrowsTo table.old table.new }
 {
     let mut commands = Commands::new(alloc);
+    let mut reader = TermReader::new(alloc);
     let mut at = 0;
     let mut read = 0;
     while begins(forest, at) {
         let next = forest.after(at);
-        let command = match read_command(alloc, table, forest, at, session) {
+        let command = match read_command(&mut reader, table, forest, at, session) {
             Ok(command) => command,
             Err(fault) => return Err(script_fault(forest, read + 1, fault)),
         };

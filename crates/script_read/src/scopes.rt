@@ -27,14 +27,13 @@ pub enum Entry {
 /// The live names. Functions, definitions and names of terms share one name space, sorts have another; no two live names of
 /// one name space are equal. Declarations stand in order, with the levels that they were made on.
 #[derive(Drop)]
-pub struct Scope {
-    alloc: Global,
-    terms: Leveled<Entry>,
-    sorts: Leveled<SortId>,
+pub struct Scope<'a> {
+    terms: Leveled<'a, Entry>,
+    sorts: Leveled<'a, SortId>,
     definitions: Vec<Definition>,
 }
 
-impl Model for Scope {
+impl<'a> Model for Scope<'a> {
     ghost use Rattle.std.specs.Prelude.{◌≤◌, count_by};
     ghost use Rattle.script_read.specs.Known.{Scoping, is_mark};
 
@@ -45,13 +44,12 @@ impl Model for Scope {
     ghost invariant = { λ s. count_by is_mark s.terms ≤ count_by is_mark s.sorts };
 }
 
-impl Scope {
+impl<'a> Scope<'a> {
     /// Nothing is live. It takes no memory.
-    pub fn new(alloc: Global) -> Scope
+    pub fn new(alloc: Global) -> Scope<'a>
         ensures { result ≡ nothing_known }
     {
         Scope {
-            alloc,
             terms: Leveled::new(alloc),
             sorts: Leveled::new(alloc),
             definitions: Vec::new(alloc),
@@ -95,7 +93,7 @@ impl Scope {
     }
 
     /// Gives a name that isn't live this meaning.
-    pub fn bind(&mut self, name: &[u8], entry: Entry) -> Result<(), AllocError>
+    pub fn bind(&mut self, name: &'a [u8], entry: Entry) -> Result<(), AllocError>
         requires { find self.old.terms name.now ≡ None }
         ensures entry { OnOk result (self.new ≡ with_entry name.now entry self.old) }
         ensures definitions { self.new.definitions ≡ self.old.definitions }
@@ -104,7 +102,7 @@ impl Scope {
     }
 
     /// Gives a name of a sort that isn't live this sort.
-    pub fn bind_sort(&mut self, name: &[u8], sort: SortId) -> Result<(), AllocError>
+    pub fn bind_sort(&mut self, name: &'a [u8], sort: SortId) -> Result<(), AllocError>
         requires { find self.old.sorts name.now ≡ None }
         ensures { OnOk result (self.new ≡ with_sort name.now sort self.old) }
     {
@@ -112,7 +110,7 @@ impl Scope {
     }
 
     /// Gives a name that isn't live this definition, which gets the next number.
-    pub fn define(&mut self, name: &[u8], definition: Definition) -> Result<(), AllocError>
+    pub fn define(&mut self, name: &'a [u8], definition: Definition) -> Result<(), AllocError>
         requires { find self.old.terms name.now ≡ None }
         ensures { OnOk result (self.new ≡ with_definition name.now definition self.old) }
     {

@@ -23,9 +23,9 @@ pub use turns::read_command;
 
 /// What is known between two commands.
 #[derive(Drop)]
-pub struct Session {
+pub struct Session<'a> {
     /// The live bindings, and the names that are left to draw.
-    pub sofar: Sofar,
+    pub sofar: Sofar<'a>,
     /// Whether declarations outlive their level.
     pub global: bool,
     /// Whether a command came that declares, defines, asserts, checks, pushes or pops, since the start or the last `reset`.
@@ -34,9 +34,9 @@ pub struct Session {
     pub asserted: u64,
 }
 
-impl Session {
+impl<'a> Session<'a> {
     /// Nothing is live, and these names are left. It takes no memory.
-    pub fn new(alloc: Global, fresh: Fresh) -> Session
+    pub fn new(alloc: Global, fresh: Fresh) -> Session<'a>
         ensures { result ≡ record { sofar = record { scope = nothing_known; fresh = fresh }; global = false; begun = false; asserted = 0 } }
     {
         let sofar = Sofar {
@@ -53,7 +53,7 @@ impl Session {
 
     /// The names that are left to draw.
     pub fn into_names(self) -> Fresh
-        ensures { result ≡ self.sofar.fresh }
+        ensures { result ≡ self.entry.sofar.fresh }
     {
         let Sofar { fresh, .. } = self.sofar;
         fresh

@@ -5,7 +5,7 @@ use term_subst::Fresh;
 
 /// The live bindings, and the names that are left to draw.
 #[derive(Drop)]
-pub struct Sofar {
-    pub scope: Scope,
+pub struct Sofar<'a> {
+    pub scope: Scope<'a>,
     pub fresh: Fresh,
 }

@@ -37,17 +37,16 @@ use crate::sofar::Sofar;
 use crate::terms::term_reader::TermReader;
 use smt_lex::Forest;
 use smt_terms::NodeId;
-use std::alloc::Global;
 use term_table::Table;
 
-/// Reads the term that the form of token `i` is, below these local bindings; names that it gives to terms become live.
-/// `defines` is the token of the name that the command defines. Depth takes no stack.
+/// Reads the term that the form of token `i` is, below these local bindings; names that it gives to terms become live. What
+/// the reader had under way is given up. `defines` is the token of the name that the command defines. Depth takes no stack.
 pub fn read_term<'a>(
-    alloc: Global,
+    reader: &mut TermReader<'a>,
     table: &mut Table,
     forest: &'a Forest,
     i: usize,
-    sofar: &mut Sofar,
+    sofar: &mut Sofar<'a>,
     locals: Locals<'a>,
     defines: Option<usize>,
 ) -> Result<NodeId, ReadFault>
@@ -62,13 +61,6 @@ pub fn read_term<'a>(
     ensures later { IsLater sofar.old.fresh sofar.new.fresh }
     ensures grows { GrowsTo table.old table.new }
 {
-    let mut reader = TermReader {
-        alloc,
-        defines,
-        locals,
-        frames: Vec::new(alloc),
-        operands: Vec::new(alloc),
-        callees: Vec::new(alloc),
-    };
+    reader.begin(locals, defines);
     reader.run(table, forest, sofar, i)
 }

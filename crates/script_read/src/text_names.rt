@@ -8,6 +8,7 @@ ghost use Rattle.script_read.specs.Places.{forms_from};
 ghost use Rattle.script_read.specs.Script.{names_with_all, fresh};
 ghost use Rattle.script_read.specs.DrawnNames.{drawn_among, KeepsWith};
 
+use memchr::memmem;
 use smt_lex::{Forest, Item, is_reserved};
 use std::alloc::{AllocError, Global};
 use term_subst::{Fresh, NameSet, NotedNames, begins_as_drawn};
@@ -28,12 +29,16 @@ fn noted_in(_forest: &Forest) -> NotedNames
     NotedNames {}
 }
 
-// Those of them that begin as names that are drawn.
+// Those of them that begin as names that are drawn. Most texts have nowhere the bytes that these begin with.
 fn names_in(alloc: Global, forest: &Forest) -> Result<NameSet, AllocError>
     ensures { IfOk result (λ names. names ≡ drawn_among (names_with_all [] (forms_from forest.now.tokens 0))) }
 {
     let mut names = NameSet::new(alloc);
-    for token in 0..forest.len() {
+    let count = forest.len();
+    if memmem::find(forest.bytes(), b"FV").is_none() {
+        return Ok(names);
+    }
+    for token in 0..count {
         add_symbol(&mut names, forest, token)?;
     }
     Ok(names)

@@ -10,7 +10,7 @@ use Rattle.smt_lex.specs.Lex.{Token, Fault, Lexed, ended, faulty, next, lex}
 use Rattle.smt_lex.specs.Forms.{is_right, depth_after, with_token, balanced, to_exit, tokens_of}
 use Rattle.smt_lex.specs.Forest.{no_token, token_at, end_of, items, form_length, after_at, closes, IsBalanced, IsScanned}
 use Rattle.smt_lex.proofs.Stepping.{after_bounds}
-use Rattle.smt_lex.specs.Building.{Nests, Spans, IsForest, entry_at, no_entry, entry_items, token_of, tokens_in, source}
+use Rattle.smt_lex.specs.Building.{Nests, Spans, IsForest, entry_at, entry_end, entry_after, no_entry, entry_items, token_of, tokens_in, source}
 
 pub with_token_ok : (t : Token) (r : Result (List Token) Fault) (us : List Token) → with_token t r ≡ Ok us → (vs : List Token) × (r ≡ Ok vs) × (us ≡ t ∷ vs)
 with_token_ok t (Ok vs) us h = (vs, refl, cc)
@@ -47,18 +47,18 @@ module _ (bytes : List ℕ) (es : List Entry) (forest : IsForest bytes es) where
   pub token_is : (i : ℕ) → i < length es → token_at (tokens_in bytes es) i ≡ token_of bytes (entry_at es i)
   token_is i within = get_or-map (token_of bytes) es i no_entry no_token within
 
-  pub after_is : (i : ℕ) → i < length es → (entry_at es i).after ≡ after_at (tokens_in bytes es) i
+  pub after_is : (i : ℕ) → i < length es → entry_after (entry_at es i) i ≡ after_at (tokens_in bytes es) i
   after_is i within = elim (forest.ends.ends i within) [
     | inl listed ↦ absurd (let none = listed.1 in omega (arith, none))
     | inr ends ↦ sym (ends []) ∙ ap (λ xs. i + form_length (drop i xs)) (append-nil (entry_items es) ∙ sym (items_in bytes es))
   ]
 
-  text_length : (i : ℕ) → i < length es → length (slice_range bytes (entry_at es i).start (entry_at es i).end) ≡ (entry_at es i).end - (entry_at es i).start
+  text_length : (i : ℕ) → i < length es → length (slice_range bytes (entry_at es i).start (entry_end (entry_at es i))) ≡ (entry_end (entry_at es i)) - (entry_at es i).start
   text_length i within =
       let stands = forest.spans.stands i within in
-      length-take-le ((entry_at es i).end - (entry_at es i).start) (drop (entry_at es i).start bytes) (omega (arith, length-drop (entry_at es i).start bytes, stands.some, stands.within))
+      length-take-le ((entry_end (entry_at es i)) - (entry_at es i).start) (drop (entry_at es i).start bytes) (omega (arith, length-drop (entry_at es i).start bytes, stands.some, stands.within))
 
-  end_is : (i : ℕ) → i < length es → end_of (token_at (tokens_in bytes es) i) ≡ (entry_at es i).end
+  end_is : (i : ℕ) → i < length es → end_of (token_at (tokens_in bytes es) i) ≡ (entry_end (entry_at es i))
   end_is i within =
       let stands = forest.spans.stands i within in
       ap end_of (token_is i within) ∙ omega (arith, text_length i within, stands.some)
@@ -79,7 +79,7 @@ module _ (bytes : List ℕ) (es : List Entry) (forest : IsForest bytes es) where
     texts = λ i within.
         let inside : i < length es = omega (arith, within, count) in
         ap (λ t. t.text) (token_is i inside)
-        ∙ sym (ap (slice_range bytes (token_at (tokens_in bytes es) i).start) (end_is i inside) ∙ ap (λ t. slice_range bytes t.start (entry_at es i).end) (token_is i inside));
+        ∙ sym (ap (slice_range bytes (token_at (tokens_in bytes es) i).start) (end_is i inside) ∙ ap (λ t. slice_range bytes t.start (entry_end (entry_at es i))) (token_is i inside));
     order = λ i j below within.
         let last : j < length es = omega (arith, within, count) in
         let first : i < length es = omega (arith, below, last) in
@@ -87,13 +87,23 @@ module _ (bytes : List ℕ) (es : List Entry) (forest : IsForest bytes es) where
         omega (arith, end_is i first, starts, forest.spans.order i j below last);
   }
 
+  pub number_small : (i : ℕ) → i < length (tokens_in bytes es) → i < 2 ^ 32
+  number_small i within = omega (arith, count, within, forest.spans.count, forest.small)
+
   -- what is read of an entry
-  pub after_read : (i : ℕ) (e : Entry) → e ≡ get_or es i e → i < length (tokens_in bytes es) → e.after ≡ after_at (tokens_in bytes es) i
+  pub end_within : (i : ℕ) (e : Entry) → e ≡ get_or es i e → i < length (tokens_in bytes es) → entry_end e < 2 ^ 32
+  end_within i e read within =
+      let inside : i < length es = omega (arith, within, count) in
+      let is = ap entry_end (read ∙ get_or_default es i e no_entry inside) in
+      let stands = forest.spans.stands i inside in
+      omega (arith, is, stands.within, forest.small)
+
+  pub after_read : (i : ℕ) (e : Entry) → e ≡ get_or es i e → i < length (tokens_in bytes es) → entry_after e i ≡ after_at (tokens_in bytes es) i
   after_read i e read within =
       let inside : i < length es = omega (arith, within, count) in
-      ap (λ (e : Entry). e.after) (read ∙ get_or_default es i e no_entry inside) ∙ after_is i inside
+      ap (λ (e : Entry). entry_after e i) (read ∙ get_or_default es i e no_entry inside) ∙ after_is i inside
 
-  pub after_within : (i : ℕ) (e : Entry) → e ≡ get_or es i e → i < length (tokens_in bytes es) → (i < e.after) × (e.after ≤ length (tokens_in bytes es))
+  pub after_within : (i : ℕ) (e : Entry) → e ≡ get_or es i e → i < length (tokens_in bytes es) → (i < entry_after e i) × (entry_after e i ≤ length (tokens_in bytes es))
   after_within i e read within =
       let is = after_read i e read within in
       let bounds = after_bounds (tokens_in bytes es) forest.balanced i within in

@@ -1,9 +1,11 @@
 mod Choices
+mod ClassFacts
 pub mod Joining
 mod Keeping
 mod Lexing
 mod Literals
 mod Nesting
+mod Numbers
 mod Outcomes
 pub mod Printing
 mod Putting

@@ -9,7 +9,7 @@ use Rattle.smt_lex.specs.declared.items.Item.TheVariants.{Left, Right}
 use Rattle.smt_lex.specs.declared.entries.Entry.{Entry}
 use Rattle.smt_lex.specs.Forms.{is_left}
 use Rattle.smt_lex.specs.Forest.{closing, form_length}
-use Rattle.smt_lex.specs.Building.{IsAtom, Nests, IsOpen, EndsAt, ClosesBehind, entry_at, no_entry, entry_items}
+use Rattle.smt_lex.specs.Building.{IsAtom, Nests, IsOpen, EndsAt, ClosesBehind, entry_at, entry_after, no_entry, entry_items}
 
 closing_atom : (item : Item) → IsAtom item → (depth : ℕ) (more : List Item) → closing depth (item ∷ more) ≡ suc (closing depth more)
 closing_atom item atom depth more = rw (atom.1) (ap (λ d. suc (closing d more)) (atom.2 depth))
@@ -63,10 +63,11 @@ module _ (es : List Entry) (e : Entry) where
       sym (drop-drop 1 (length es) (entry_items (es ++ e ∷ []) ++ more) ∙ ap (λ n. drop n (entry_items (es ++ e ∷ []) ++ more)) place) ∙ ap (drop 1) (last_drop more)
 
   -- a form of one token
-  one_ends : is_left e.item ≡ false → e.after ≡ suc (length es) → EndsAt (es ++ e ∷ []) (length es) e.after
-  one_ends atom after more =
+  one_ends : is_left e.item ≡ false → EndsAt (es ++ e ∷ []) (length es) (entry_after e (length es))
+  one_ends atom more =
       let n = ap form_length (last_drop more) in
       let one : form_length (e.item ∷ more) ≡ 1 = rw atom refl in
+      let after : entry_after e (length es) ≡ length es + 1 = rw atom refl in
       omega (arith, n, one, after)
 
   below_push : (lists : List ℕ) → Nests es lists → (j : ℕ) → j < length lists → get_or lists j 0 < length (es ++ e ∷ [])
@@ -75,17 +76,17 @@ module _ (es : List Entry) (e : Entry) where
   lefts_push : (lists : List ℕ) → Nests es lists → (j : ℕ) → j < length lists → (entry_at (es ++ e ∷ []) (get_or lists j 0)).item ≡ Left
   lefts_push lists nests j within = ap (λ (e : Entry). e.item) (entry_before _ (nests.below j within)) ∙ nests.lefts j within
 
-  pub nests_atom : (lists : List ℕ) → IsAtom e.item → e.after ≡ suc (length es) → Nests es lists → Nests (es ++ e ∷ []) lists
-  nests_atom lists atom after nests = record {
+  pub nests_atom : (lists : List ℕ) → IsAtom e.item → Nests es lists → Nests (es ++ e ∷ []) lists
+  nests_atom lists atom nests = record {
     below = below_push lists nests;
     lefts = lefts_push lists nests;
     behind = λ j within. behind_push _ _ _ (closing_atom e.item atom _) (nests.behind j within);
-    ends = below_or_last (λ i. IsOpen lists i ⊎ EndsAt (es ++ e ∷ []) i (entry_at (es ++ e ∷ []) i).after) (length es) (length (es ++ e ∷ [])) (length_push es e)
+    ends = below_or_last (λ i. IsOpen lists i ⊎ EndsAt (es ++ e ∷ []) i (entry_after (entry_at (es ++ e ∷ []) i) i)) (length es) (length (es ++ e ∷ [])) (length_push es e)
         (λ i within. elim (nests.ends i within) [
           | inl listed ↦ inl listed
-          | inr ends ↦ inr (subst (EndsAt (es ++ e ∷ []) i) (ap (λ (e : Entry). e.after) (sym (entry_before i within))) (ends_push i _ ends))
+          | inr ends ↦ inr (subst (EndsAt (es ++ e ∷ []) i) (ap (λ (e : Entry). entry_after e i) (sym (entry_before i within))) (ends_push i _ ends))
         ])
-        (inr (subst (EndsAt (es ++ e ∷ []) (length es)) (ap (λ (e : Entry). e.after) (sym entry_last)) (one_ends atom.0 after)));
+        (inr (subst (EndsAt (es ++ e ∷ []) (length es)) (ap (λ (e : Entry). entry_after e (length es)) (sym entry_last)) (one_ends atom.0)));
   }
 
   pub nests_left : (lists : List ℕ) → e.item ≡ Left → Nests es lists → Nests (es ++ e ∷ []) (lists ++ length es ∷ [])
@@ -111,16 +112,16 @@ module _ (es : List Entry) (e : Entry) where
             (λ more.
             let inside = ap (closing 0) (behind_last more) in
             omega (arith, inside, length_push es e))));
-        ends = below_or_last (λ i. IsOpen (lists ++ length es ∷ []) i ⊎ EndsAt (es ++ e ∷ []) i (entry_at (es ++ e ∷ []) i).after) (length es) (length (es ++ e ∷ [])) (length_push es e)
+        ends = below_or_last (λ i. IsOpen (lists ++ length es ∷ []) i ⊎ EndsAt (es ++ e ∷ []) i (entry_after (entry_at (es ++ e ∷ []) i) i)) (length es) (length (es ++ e ∷ [])) (length_push es e)
             (λ i within. elim (nests.ends i within) [
               | inl listed ↦ inl (listed.0, omega (arith, length_push lists (length es), listed.1), listed_before listed.0 listed.1 ∙ listed.2)
-              | inr ends ↦ inr (subst (EndsAt (es ++ e ∷ []) i) (ap (λ (e : Entry). e.after) (sym (entry_before i within))) (ends_push i _ ends))
+              | inr ends ↦ inr (subst (EndsAt (es ++ e ∷ []) i) (ap (λ (e : Entry). entry_after e i) (sym (entry_before i within))) (ends_push i _ ends))
             ])
             (inl (length lists, omega (arith, length_push lists (length es)), listed_last));
       }
 
   -- the list of entry o, which closes, is the innermost
-  module _ (lists : List ℕ) (o : ℕ) (right : e.item ≡ Right) (after : e.after ≡ suc (length es)) (nests : Nests es (lists ++ o ∷ [])) where
+  module _ (lists : List ℕ) (o : ℕ) (right : e.item ≡ Right) (nests : Nests es (lists ++ o ∷ [])) where
     listed_before : (j : ℕ) → j < length lists → get_or (lists ++ o ∷ []) j 0 ≡ get_or lists j 0
     listed_before j within = get_or_append_left lists (o ∷ []) 0 j within
 
@@ -152,7 +153,10 @@ module _ (es : List Entry) (e : Entry) where
         let here = closes behind_it ∙ ap (λ item. length es + closing 0 (item ∷ more)) right in
         omega (arith, size, here)
 
-    module _ (closed : Entry) (left : closed.item ≡ Left) (closed_after : closed.after ≡ suc (length es)) where
+    module _ (closed : Entry) (left : closed.item ≡ Left) (closed_link : closed.link ≡ suc (length es)) where
+      closed_after : entry_after closed o ≡ suc (length es)
+      closed_after = rw left closed_link
+
       same_items : entry_items (set (es ++ e ∷ []) o closed) ≡ entry_items (es ++ e ∷ [])
       same_items = map-set_same (λ (e : Entry). e.item) (es ++ e ∷ []) o closed no_entry (left ∙ sym (ap (λ (e : Entry). e.item) (entry_before o closed_below) ∙ closed_left))
 
@@ -180,13 +184,13 @@ module _ (es : List Entry) (e : Entry) where
         | inr earlier ↦ omega (arith, within, length_push lists o, earlier.1)
       ]
 
-      ends_earlier : (i : ℕ) → i < length es → IsOpen lists i ⊎ EndsAt (set (es ++ e ∷ []) o closed) i (entry_at (set (es ++ e ∷ []) o closed) i).after
+      ends_earlier : (i : ℕ) → i < length es → IsOpen lists i ⊎ EndsAt (set (es ++ e ∷ []) o closed) i (entry_after (entry_at (set (es ++ e ∷ []) o closed) i) i)
       ends_earlier i within = elim (eqb_tells i o) [
-        | inl same ↦ inr (subst (λ n. EndsAt (set (es ++ e ∷ []) o closed) n (entry_at (set (es ++ e ∷ []) o closed) n).after) (sym same.1)
-            (subst (EndsAt (set (es ++ e ∷ []) o closed) o) (sym (ap (λ (e : Entry). e.after) at_closed ∙ closed_after)) (ends_set o _ closed_ends)))
+        | inl same ↦ inr (subst (λ n. EndsAt (set (es ++ e ∷ []) o closed) n (entry_after (entry_at (set (es ++ e ∷ []) o closed) n) n)) (sym same.1)
+            (subst (EndsAt (set (es ++ e ∷ []) o closed) o) (sym (ap (λ (e : Entry). entry_after e o) at_closed ∙ closed_after)) (ends_set o _ closed_ends)))
         | inr differs ↦ elim (nests.ends i within) [
           | inl listed ↦ inl (listed.0, still_listed i differs.1 listed.0 listed.1 listed.2, sym (listed_before listed.0 (still_listed i differs.1 listed.0 listed.1 listed.2)) ∙ listed.2)
-          | inr ends ↦ inr (subst (EndsAt (set (es ++ e ∷ []) o closed) i) (ap (λ (e : Entry). e.after) (sym (at_other i differs.1 ∙ entry_before i within))) (ends_set i _ (ends_push i _ ends)))
+          | inr ends ↦ inr (subst (EndsAt (set (es ++ e ∷ []) o closed) i) (ap (λ (e : Entry). entry_after e i) (sym (at_other i differs.1 ∙ entry_before i within))) (ends_set i _ (ends_push i _ ends)))
         ]
       ]
 
@@ -203,9 +207,9 @@ module _ (es : List Entry) (e : Entry) where
             let now = behind_push _ _ (length lists - suc j) (λ more. ap (λ item. closing (suc (length lists - suc j)) (item ∷ more)) right ∙ closing_right _ more) was more in
             ap (λ xs. suc (get_or lists j 0) + closing 0 (drop (suc (get_or lists j 0)) (xs ++ more))) same_items ∙ now
             ∙ ap (λ n. n + closing (length lists - suc j) more) (length_push es e ∙ add-one (length es) ∙ sym same_length);
-        ends = below_or_last (λ i. IsOpen lists i ⊎ EndsAt (set (es ++ e ∷ []) o closed) i (entry_at (set (es ++ e ∷ []) o closed) i).after) (length es) (length (set (es ++ e ∷ []) o closed)) (same_length ∙ sym (add-one (length es)))
+        ends = below_or_last (λ i. IsOpen lists i ⊎ EndsAt (set (es ++ e ∷ []) o closed) i (entry_after (entry_at (set (es ++ e ∷ []) o closed) i) i)) (length es) (length (set (es ++ e ∷ []) o closed)) (same_length ∙ sym (add-one (length es)))
             ends_earlier
             (let differs : length es ≡ o → ⊥ = λ same. omega (arith, closed_below, same) in
-            inr (subst (EndsAt (set (es ++ e ∷ []) o closed) (length es)) (ap (λ (e : Entry). e.after) (sym (at_other (length es) differs ∙ entry_last)))
-            (ends_set _ _ (one_ends (ap is_left right) after))));
+            inr (subst (EndsAt (set (es ++ e ∷ []) o closed) (length es)) (ap (λ (e : Entry). entry_after e (length es)) (sym (at_other (length es) differs ∙ entry_last)))
+            (ends_set _ _ (one_ends (ap is_left right)))));
       }

@@ -32,7 +32,7 @@ list_all-weaker p q weaker (b ∷ bs) all = rw (weaker b (and_left (p b) (list_a
 pub other_byte : (test : ℕ → Bool) (b c : ℕ) → test b ≡ true → test c ≡ false → eqb b c ≡ false
 other_byte test b c passes fails = elim (eqb_tells b c) [ inl same ↦ absurd (cc (passes, fails, ap test same.1)) | inr differs ↦ differs.0 ]
 
-not_blank : (b : ℕ) → is_run_byte b ≡ true → is_blank b ≡ false
+pub not_blank : (b : ℕ) → is_run_byte b ≡ true → is_blank b ≡ false
 not_blank b runs = rw (other_byte is_run_byte b 9 runs refl, other_byte is_run_byte b 10 runs refl, other_byte is_run_byte b 13 runs refl, other_byte is_run_byte b 32 runs refl) refl
 
 pub run_byte : (b : ℕ) → is_symbol_byte b ≡ true → is_run_byte b ≡ true

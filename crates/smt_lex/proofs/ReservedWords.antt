@@ -5,7 +5,7 @@ use Rattle.std.specs.List.{list_all, list_any}
 use Rattle.std.proofs.lemmas.List.Folds.{list_any-append}
 use Rattle.std.proofs.lemmas.Bool.Decides.{Decides-eqb}
 use Rattle.std.proofs.lemmas.Slice.Eq.{bytes_eq-Decides}
-use Rattle.smt_lex.specs.Names.{Name, is_among, is_syntax_word, is_command_word, syntax_words, command_words}
+use Rattle.smt_lex.specs.Names.{Name, is_among, is_syntax_word, is_command_word, is_reserved, syntax_words, command_words}
 use Rattle.smt_lex.proofs.Choices.{tell, and_left, and_right}
 
 abbrev pub first_byte : Name → ℕ
@@ -38,9 +38,15 @@ none_among firsts (other ∷ words) w all lacks = elim (tell (bytes_eq w other))
   | inr apart ↦ rw apart (none_among firsts words w (and_right (list_any (nat_eq (first_byte other)) firsts) _ all) lacks)
 ]
 
-pub syntax_beginning : (w : Name) (k : ℕ) → first_byte w ≡ k → is_among (beginning k syntax_words) w ≡ is_syntax_word w
-unfolding is_syntax_word
-syntax_beginning w k is = ap (λ j. is_among (beginning j syntax_words) w) (sym is) ∙ among_beginning syntax_words w
+abbrev pub reserved_words : List Name
+reserved_words = syntax_words ++ command_words
+
+reserved_among : (w : Name) → is_among reserved_words w ≡ is_reserved w
+unfolding is_syntax_word is_command_word
+reserved_among w = list_any-append (λ other. bytes_eq w other) syntax_words command_words
+
+pub reserved_beginning : (w : Name) (k : ℕ) → first_byte w ≡ k → is_among (beginning k reserved_words) w ≡ is_reserved w
+reserved_beginning w k is = ap (λ j. is_among (beginning j reserved_words) w) (sym is) ∙ among_beginning reserved_words w ∙ reserved_among w
 
 pub command_beginning : (w : Name) (k : ℕ) → first_byte w ≡ k → is_among (beginning k command_words) w ≡ is_command_word w
 unfolding is_command_word
@@ -58,8 +64,11 @@ alone w {text} {other} same = ap (bytes_eq w) same ∙ elim (tell (bytes_eq w ot
 abbrev pub marks_and_capitals : List ℕ
 marks_and_capitals = codes "!BDHNS_"
 
-abbrev pub small_letters : List ℕ
-small_letters = codes "aeflmp"
+abbrev pub early_letters : List ℕ
+early_letters = codes "acdef"
+
+abbrev pub late_letters : List ℕ
+late_letters = codes "glmprs"
 
 abbrev pub command_letters : List ℕ
 command_letters = codes "acdegprs"
@@ -67,18 +76,20 @@ command_letters = codes "acdegprs"
 neither : (b : ℕ) (firsts others : List ℕ) → list_any (nat_eq b) firsts ≡ false → list_any (nat_eq b) others ≡ false → list_any (nat_eq b) (firsts ++ others) ≡ false
 neither b firsts others here there = list_any-append (nat_eq b) firsts others ∙ rw (here, there) refl
 
-pub no_syntax_word : (w : Name) → list_any (nat_eq (first_byte w)) marks_and_capitals ≡ false → list_any (nat_eq (first_byte w)) small_letters ≡ false → false ≡ is_syntax_word w
-unfolding is_syntax_word
-no_syntax_word w mark letter =
-    sym (none_among (marks_and_capitals ++ small_letters) syntax_words w refl (neither (first_byte w) marks_and_capitals small_letters mark letter))
+pub no_reserved_word : (w : Name) → list_any (nat_eq (first_byte w)) marks_and_capitals ≡ false → list_any (nat_eq (first_byte w)) early_letters ≡ false → list_any (nat_eq (first_byte w)) late_letters ≡ false
+    → false ≡ is_reserved w
+no_reserved_word w mark early late =
+    let letter = neither (first_byte w) early_letters late_letters early late in
+    let lacks = neither (first_byte w) marks_and_capitals (early_letters ++ late_letters) mark letter in
+    sym (sym (reserved_among w) ∙ none_among (marks_and_capitals ++ (early_letters ++ late_letters)) reserved_words w refl lacks)
 
 pub no_command_word : (w : Name) → list_any (nat_eq (first_byte w)) command_letters ≡ false → false ≡ is_command_word w
 unfolding is_command_word
 no_command_word w lacks = sym (none_among command_letters command_words w refl lacks)
 
-pub empty_syntax : (w : Name) → length w < 1 → false ≡ is_syntax_word w
-empty_syntax [] below = no_syntax_word [] refl refl
-empty_syntax (b ∷ w) below = absurd (omega (arith, below))
+pub empty_reserved : (w : Name) → length w < 1 → false ≡ is_reserved w
+empty_reserved [] below = no_reserved_word [] refl refl refl
+empty_reserved (b ∷ w) below = absurd (omega (arith, below))
 
 pub empty_command : (w : Name) → length w < 1 → false ≡ is_command_word w
 empty_command [] below = no_command_word [] refl

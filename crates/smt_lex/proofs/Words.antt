@@ -1,23 +1,27 @@
 -- The run of a text that begins as a word does, and single bytes that are taken off by themselves.
-use Rattle.std.proofs.Common.{◌≡◌, ℕ, suc, ◌+◌, ◌<◌, inl, inr, Bool, true, false, eqb, get_or, Some, None, List, [], ◌∷◌, length, take, drop, refl, ap, ◌∙◌, subst, arith}
+use Rattle.std.proofs.Common.{◌≡◌, ℕ, suc, ◌+◌, ◌-◌, ◌<◌, ◌≤◌, inl, inr, Bool, true, false, eqb, get_or, Some, None, List, [], ◌∷◌, length, take, drop, refl, ap, sym, ◌∙◌, subst, arith}
 use Rattle.std.specs.List.{list_all}
 use Rattle.std.specs.Char.{is_ascii_digit}
-use Rattle.std.proofs.lemmas.List.{drop_more}
+use Rattle.std.proofs.lemmas.List.{drop_more, length-drop, get_or-drop}
 use Rattle.std.proofs.lemmas.Bool.{ne_eqb}
 use Rattle.std.proofs.Math.Dec.{eqb-suc-zero}
 use Rattle.smt_lex.proofs.Choices.{tell}
 use Rattle.smt_lex.specs.declared.items.Item.TheVariants.{Left, Right, Word}
-use Rattle.smt_lex.specs.declared.fronts.Front.TheVariants.{Gap, Lexeme, BadToken}
-use Rattle.smt_lex.specs.Lexicon.{left_parenthesis, right_parenthesis, semicolon, quote, bar, is_blank, is_symbol_byte, is_run_byte, is_word, is_numeral, is_keyword, is_decimal, is_hexadecimal, is_binary, starts_as, length_while, run_item}
-use Rattle.smt_lex.specs.Lex.{next, front, run_front, run_by, lex_at}
+use Rattle.smt_lex.specs.declared.classes.Class.{Class}
+use Rattle.smt_lex.specs.declared.classes.Class.TheVariants.{Left as LeftClass, Right as RightClass, Blank, Letter}
+use Rattle.smt_lex.specs.declared.fronts.Front.TheVariants.{Lexeme, BadToken}
+use Rattle.smt_lex.specs.ByteClasses.{class_of}
+use Rattle.smt_lex.specs.Lexicon.{is_symbol_byte, is_run_byte, is_word, is_numeral, is_keyword, is_decimal, is_hexadecimal, is_binary, starts_as, length_while, run_item}
+use Rattle.smt_lex.specs.Lex.{next, faulty, bad_token, front, run_front, run_by, lex_at}
 use Rattle.smt_lex.specs.Building.{token}
-use Rattle.smt_lex.proofs.Lexing.{lex_gap, lex_lexeme}
-use Rattle.smt_lex.proofs.Printing.{run_is, run_byte, other_byte}
+use Rattle.smt_lex.proofs.Lexing.{lex_gap, lex_lexeme, lex_bad_token}
+use Rattle.smt_lex.proofs.ClassFacts.{told, is_symbol_class, class_front}
+use Rattle.smt_lex.proofs.Printing.{run_is, run_byte}
 use Rattle.smt_lex.proofs.Rereading.{all_while}
 
 -- two tests, the second of which all bytes pass that pass the first
 module _ (p q : ℕ → Bool) (weaker : (b : ℕ) → p b ≡ true → q b ≡ true) where
-  while_same : (bs : List ℕ) → (length_while p bs < length bs → q (get_or bs (length_while p bs) 0) ≡ false) → length_while q bs ≡ length_while p bs
+  pub while_same : (bs : List ℕ) → (length_while p bs < length bs → q (get_or bs (length_while p bs) 0) ≡ false) → length_while q bs ≡ length_while p bs
   while_same [] ends = refl
   while_same (b ∷ bs) ends = elim (tell (p b)) [
     | inl passes ↦
@@ -81,25 +85,59 @@ word_fails (b ∷ bs) symbol letter within goes =
     ap (λ n. run_by (run_item (take n (b ∷ bs))) n) long
     ∙ ap (λ o. run_by o (suc (length_while is_run_byte bs))) (no_item b (take (length_while is_run_byte bs) bs) symbol letter other)
 
--- white space before other bytes
-front_blank : (b : ℕ) (bs : List ℕ) → is_blank b ≡ true → front (b ∷ bs) ≡ Gap 1
-front_blank b bs blank =
-    rw (
-      other_byte is_blank b left_parenthesis blank refl,
-      other_byte is_blank b right_parenthesis blank refl,
-      other_byte is_blank b semicolon blank refl,
-      other_byte is_blank b quote blank refl,
-      other_byte is_blank b bar blank refl,
-      blank,
-    ) refl
+-- what a text begins with, by the class of its first byte
+pub front_first : (text : List ℕ) (k : Class) → 0 < length text → class_of (get_or text 0 0) ≡ k → front text ≡ class_front k text
+front_first [] k some is = absurd (omega (arith, some))
+front_first (b ∷ bs) k some is = (told b).front bs ∙ ap (λ k. class_front k (b ∷ bs)) is
 
--- one byte of a text that is taken off by itself
+-- what stands at a place of a text
 module _ (bytes : List ℕ) (place : ℕ) (more : place < length bytes) where
-  pub lex_left : get_or bytes place 0 ≡ left_parenthesis → lex_at bytes place ≡ next (token bytes Left place (place + 1)) (lex_at bytes (place + 1))
-  lex_left is = lex_lexeme bytes place more Left 1 (ap front (drop_more bytes place 0 more) ∙ ap (λ b. front (b ∷ drop (place + 1) bytes)) is) (omega arith) (omega arith)
+  split : drop place bytes ≡ get_or bytes place 0 ∷ drop (place + 1) bytes
+  split = drop_more bytes place 0 more
 
-  pub lex_right : get_or bytes place 0 ≡ right_parenthesis → lex_at bytes place ≡ next (token bytes Right place (place + 1)) (lex_at bytes (place + 1))
-  lex_right is = lex_lexeme bytes place more Right 1 (ap front (drop_more bytes place 0 more) ∙ ap (λ b. front (b ∷ drop (place + 1) bytes)) is) (omega arith) (omega arith)
+  front_here : (k : Class) → class_of (get_or bytes place 0) ≡ k → front (drop place bytes) ≡ class_front k (get_or bytes place 0 ∷ drop (place + 1) bytes)
+  front_here k is = ap front split ∙ (told (get_or bytes place 0)).front (drop (place + 1) bytes) ∙ ap (λ k. class_front k (get_or bytes place 0 ∷ drop (place + 1) bytes)) is
 
-  pub lex_blank : is_blank (get_or bytes place 0) ≡ true → lex_at bytes place ≡ lex_at bytes (place + 1)
-  lex_blank is = lex_gap bytes place more 1 (ap front (drop_more bytes place 0 more) ∙ front_blank (get_or bytes place 0) (drop (place + 1) bytes) is) (omega arith) (omega arith)
+  pub lex_left : class_of (get_or bytes place 0) ≡ LeftClass → lex_at bytes place ≡ next (token bytes Left place (place + 1)) (lex_at bytes (place + 1))
+  lex_left is = lex_lexeme bytes place more Left 1 (front_here LeftClass is) (omega arith) (omega arith)
+
+  pub lex_right : class_of (get_or bytes place 0) ≡ RightClass → lex_at bytes place ≡ next (token bytes Right place (place + 1)) (lex_at bytes (place + 1))
+  lex_right is = lex_lexeme bytes place more Right 1 (front_here RightClass is) (omega arith) (omega arith)
+
+  pub lex_blank : class_of (get_or bytes place 0) ≡ Blank → lex_at bytes place ≡ lex_at bytes (place + 1)
+  lex_blank is = lex_gap bytes place more 1 (front_here Blank is) (omega arith) (omega arith)
+
+  -- the word that begins here
+  module _ (letter : class_of (get_or bytes place 0) ≡ Letter) (end : ℕ) (ends : end ≡ place + 1 + length_while is_symbol_byte (drop (place + 1) bytes)) (within : end ≤ length bytes) where
+    abbrev text : List ℕ
+    text = get_or bytes place 0 ∷ drop (place + 1) bytes
+
+    symbol : is_symbol_byte (get_or bytes place 0) ≡ true
+    symbol = (told (get_or bytes place 0)).symbol ∙ ap is_symbol_class letter
+
+    size : place + length_while is_symbol_byte text ≡ end
+    size = let long : length_while is_symbol_byte text ≡ suc (length_while is_symbol_byte (drop (place + 1) bytes)) = rw symbol refl in omega (arith, long, ends)
+
+    some : 0 < length_while is_symbol_byte text
+    some = omega (arith, size, ends)
+
+    whole : length text ≡ length bytes - place
+    whole = sym (ap length split) ∙ length-drop place bytes
+
+    byte_there : get_or text (length_while is_symbol_byte text) 0 ≡ get_or bytes end 0
+    byte_there = ap (λ xs. get_or xs (length_while is_symbol_byte text) 0) (sym split) ∙ get_or-drop place bytes (length_while is_symbol_byte text) 0 ∙ ap (λ n. get_or bytes n 0) size
+
+    begins : front (drop place bytes) ≡ run_front text
+    begins = front_here Letter letter
+
+    pub lex_word : (end < length bytes → is_run_byte (get_or bytes end 0) ≡ false) → lex_at bytes place ≡ next (token bytes Word place end) (lex_at bytes end)
+    lex_word stops =
+        lex_lexeme bytes place more Word (length_while is_symbol_byte text)
+        (begins ∙ word_run text symbol ((told (get_or bytes place 0)).letter letter) (λ goes. ap is_run_byte byte_there ∙ stops (omega (arith, goes, whole, size))))
+        some (omega (arith, size, within))
+        ∙ ap (λ n. next (token bytes Word place n) (lex_at bytes n)) size
+
+    pub lex_no_word : end < length bytes → is_run_byte (get_or bytes end 0) ≡ true → lex_at bytes place ≡ faulty (bad_token place)
+    lex_no_word goes runs =
+        lex_bad_token bytes place more
+        (begins ∙ word_fails text symbol ((told (get_or bytes place 0)).letter letter) (omega (arith, goes, whole, size)) (ap is_run_byte byte_there ∙ runs))

@@ -1,5 +1,5 @@
 -- The tokens of a text as they are collected from left to right.
-use Rattle.std.specs.Prelude.{◌≡◌, ℕ, suc, ◌+◌, ◌-◌, ◌<◌, ◌≤◌, ◌^◌, ◌⊎◌, false, ◌&&◌, List, [], ◌∷◌, ◌++◌, length, drop, map, Result, Ok, Err, ◌==◌, if◌then◌else◌, slice_index_or, slice_range}
+use Rattle.std.specs.Prelude.{◌≡◌, ℕ, Bool, suc, ◌+◌, ◌-◌, ◌<◌, ◌≤◌, ◌^◌, ◌⊎◌, true, false, ◌&&◌, List, [], ◌∷◌, ◌++◌, length, drop, map, Result, Ok, Err, ◌==◌, if◌then◌else◌, slice_index_or, slice_range}
 use Rattle.smt_lex.specs.declared.items.Item.{Item}
 use Rattle.smt_lex.specs.declared.items.Item.TheVariants.{Left, Right, Quoted}
 use Rattle.smt_lex.specs.declared.items.Until.{Until}
@@ -7,11 +7,9 @@ use Rattle.smt_lex.specs.declared.items.Until.TheVariants.{End, Exit}
 use Rattle.smt_lex.specs.declared.fronts.Front.{Front}
 use Rattle.smt_lex.specs.declared.fronts.Front.TheVariants.{Gap, Lexeme, BadByte}
 use Rattle.smt_lex.specs.declared.entries.Entry.{Entry}
-use Rattle.smt_lex.specs.declared.entries.Watch.{Watch}
-use Rattle.smt_lex.specs.declared.entries.Watch.TheVariants.{Never, Elsewhere, Opened, Named, Met}
-use Rattle.smt_lex.specs.Lex.{Token, Fault, Lexed, ended}
-use Rattle.smt_lex.specs.Forms.{is_left, is_right, is_exit_word, depth_after, balanced, first_tokens, begins_with_right, begins_with_name, to_exit}
-use Rattle.smt_lex.specs.Forest.{closing, form_length, IsBalanced, Source}
+use Rattle.smt_lex.specs.Lex.{Token, Fault, Lexed, ended, lex_at}
+use Rattle.smt_lex.specs.Forms.{is_left, is_right, is_exit_word, depth_after, balanced, first_tokens, begins_with_right, begins_with_name, to_exit, tokens_of}
+use Rattle.smt_lex.specs.Forest.{token_at, closing, form_length, IsBalanced, Source}
 
 -- the bytes begin with so much, and it isn't empty
 abbrev pub FitsIn : ℕ → Front → Type 0
@@ -25,8 +23,15 @@ FitsIn length _ = Unit {0}
 abbrev pub token : List ℕ → Item → ℕ → ℕ → Token
 token bytes item start end = record { item = item; start = start; text = slice_range bytes start end }
 
+abbrev pub entry_end : Entry → ℕ
+entry_end e = if is_left e.item then e.start + 1 else e.link
+
+-- the number of the token behind the form that begins at token i
+abbrev pub entry_after : Entry → ℕ → ℕ
+entry_after e i = if is_left e.item then e.link else i + 1
+
 abbrev pub token_of : List ℕ → Entry → Token
-token_of bytes e = token bytes e.item e.start e.end
+token_of bytes e = token bytes e.item e.start (entry_end e)
 
 abbrev pub tokens_in : List ℕ → List Entry → List Token
 tokens_in bytes es = map (token_of bytes) es
@@ -35,14 +40,19 @@ abbrev pub entry_items : List Entry → List Item
 entry_items es = map (λ e. e.item) es
 
 abbrev pub no_entry : Entry
-no_entry = record { start = 0; end = 0; after = 0; item = Right }
+no_entry = record { start = 0; link = 0; item = Right }
 
 abbrev pub entry_at : List Entry → ℕ → Entry
 entry_at es i = slice_index_or es i no_entry
 
-abbrev pub first_watch : Until → Watch
-first_watch End = Never
-first_watch Exit = Elsewhere
+-- How much of a form `(exit)` that stands in no other the last tokens are: that is of no matter, nothing of it, its
+-- `(`, its `(exit`, all of it.
+pub data Watch : Type 0 where
+  Never : Watch
+  Elsewhere : Watch
+  Opened : Watch
+  Named : Watch
+  Met : Watch
 
 -- how much of a form `(exit)` that stands in no other the last tokens are, after one more
 abbrev pub watch_after : Watch → ℕ → Item → List ℕ → Watch
@@ -59,6 +69,29 @@ left_of Elsewhere depth ts = to_exit depth ts
 left_of Opened depth ts = if begins_with_name ts then first_tokens 2 ts else to_exit depth ts
 left_of Named depth ts = if begins_with_right ts then first_tokens 1 ts else to_exit depth ts
 left_of Met depth ts = ended 0
+
+-- the text is examined up to a form `(exit)`
+abbrev pub is_exit : Until → Bool
+is_exit End = false
+is_exit Exit = true
+
+abbrev pub last_token : List Token → Token
+last_token ts = token_at ts (length ts - 1)
+
+-- the last two tokens are `(` and `exit`
+abbrev pub names_exit : List Token → Bool
+names_exit ts = is_left (token_at ts (length ts - 2)).item && is_exit_word (last_token ts).item (last_token ts).text
+
+-- what is watched where one list is open, by whether the last token is a `(`, and whether the last two are `(` and `exit`
+abbrev pub watch_by : Bool → Bool → Watch
+watch_by true names = Opened
+watch_by false true = Named
+watch_by false false = Elsewhere
+
+-- how much of a form `(exit)` the tokens end with, behind which so many lists are open
+abbrev pub watched : Until → ℕ → List Token → Watch
+watched End depth ts = Never
+watched Exit depth ts = if depth == 1 then watch_by (is_left (last_token ts).item) (names_exit ts) else Elsewhere
 
 -- so many lists are open
 abbrev pub AtTop : Watch → ℕ → Type 0
@@ -101,19 +134,19 @@ pub record Nests (es : List Entry) (lists : List ℕ) : Type 0 where
   pub below : (j : ℕ) → j < length lists → slice_index_or lists j 0 < length es
   pub lefts : (j : ℕ) → j < length lists → (entry_at es (slice_index_or lists j 0)).item ≡ Left
   pub behind : (j : ℕ) → j < length lists → ClosesBehind es (slice_index_or lists j 0) (length lists - suc j)
-  pub ends : (i : ℕ) → i < length es → IsOpen lists i ⊎ EndsAt es i (entry_at es i).after
+  pub ends : (i : ℕ) → i < length es → IsOpen lists i ⊎ EndsAt es i (entry_after (entry_at es i) i)
 
 -- an entry stands in the bytes before a place
 pub record Stands (place : ℕ) (e : Entry) : Type 0 where
-  pub some : e.start < e.end
-  pub within : e.end ≤ place
-  pub bars : e.item ≡ Quoted → suc e.start < e.end
+  pub some : e.start < entry_end e
+  pub within : entry_end e ≤ place
+  pub bars : e.item ≡ Quoted → suc e.start < entry_end e
 
 -- the entries stand one behind the other before a place
 pub record Spans (place : ℕ) (es : List Entry) : Type 0 where
   pub count : length es ≤ place
   pub stands : (i : ℕ) → i < length es → Stands place (entry_at es i)
-  pub order : (i j : ℕ) → i < j → j < length es → (entry_at es i).end ≤ (entry_at es j).start
+  pub order : (i j : ℕ) → i < j → j < length es → entry_end (entry_at es i) ≤ (entry_at es j).start
 
 -- an entry more, and what it opens or closes
 pub record Puts (item : Item) (start end : ℕ) (es fs : List Entry) (lists left : List ℕ) : Type 0 where
@@ -122,11 +155,12 @@ pub record Puts (item : Item) (start end : ℕ) (es fs : List Entry) (lists left
   pub nests : Nests fs left
   pub spans : Spans start es → Spans end fs
 
--- what a builder keeps at a place
-pub record IsBuilt (place : ℕ) (es : List Entry) (lists : List ℕ) (watch : Watch) : Type 0 where
+-- a builder at a place of a text
+pub record Going (until : Until) (bytes : List ℕ) (place : ℕ) (es : List Entry) (lists : List ℕ) : Type 0 where
+  pub within : place ≤ length bytes
   pub spans : Spans place es
   pub nests : Nests es lists
-  pub top : AtTop watch (length lists)
+  pub same : outcome bytes (watched until (length lists) (tokens_in bytes es)) es lists (lex_at bytes place) ≡ tokens_of until bytes
 
 -- what a forest keeps
 pub record IsForest (bytes : List ℕ) (es : List Entry) : Type 0 where

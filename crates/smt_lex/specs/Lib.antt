@@ -1,4 +1,5 @@
 pub mod Lexicon
+pub mod ByteClasses
 pub mod Names
 pub mod Lex
 pub mod Forms

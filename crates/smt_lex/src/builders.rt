@@ -1,222 +1,205 @@
 // The tokens of a text, as far as it was examined.
 
-ghost use Rattle.std.specs.Prelude.{◌≡◌, ◌≢◌, ◌==◌, ◌<◌, ◌≤◌, ◌+◌, ◌^◌, [], false, length, slice_index, IfOk, OnOk, IfErr, vec_len};
-ghost use Rattle.smt_lex.specs.Lex.{Lexed, next, lex_at, line_at};
-ghost use Rattle.smt_lex.specs.Lexicon.{left_parenthesis, right_parenthesis, is_blank};
-ghost use Rattle.smt_lex.specs.Forms.{tokens_of};
+ghost use Rattle.std.specs.Prelude.{◌≡◌, ◌≢◌, ◌<◌, ◌≤◌, ◌+◌, ◌^◌, ◌&&◌, ◌==◌, [], Ok, length, slice_index, IfOk, OnOk, IfErr, vec_len, vec_capacity};
+ghost use Rattle.smt_lex.specs.Lex.{line_at};
+ghost use Rattle.smt_lex.specs.Forms.{tokens_of, is_exit_word};
 ghost use Rattle.smt_lex.specs.Forest.{Refuses};
-ghost use Rattle.smt_lex.specs.Building.{IsBuilt, Nests, Spans, Puts, IsAtom, token, outcome, tokens_in};
+ghost use Rattle.smt_lex.specs.ByteClasses.{class_of};
+ghost use Rattle.smt_lex.specs.Building.{Going, Nests, Spans, Stands, Puts, IsAtom, is_exit, names_exit, token_of, tokens_in};
 
-use crate::classes::is_blank;
-use crate::entries::{Entry, Watch};
+use crate::classes::{Class, class_of, is_run_byte, symbols_end};
+use crate::entries::{Entry, is_left};
 use crate::faults::{LexFault, bad_byte, bad_token, open_text, unbalanced};
 use crate::fronts::{Front, front_of};
 use crate::items::{Item, Until};
-use std::alloc::{AllocError, Global};
+use std::alloc::Global;
 
-// The tokens so far, the numbers of the `(` of the lists that are open, and the watch for `(exit)`.
+// How many bytes are gone through after room was made for as many tokens.
+const STRETCH: usize = 4096;
+
+// The tokens of the text before a place, and the numbers of the `(` of the lists that are open.
 #[derive(Drop)]
 struct Builder {
+    place: usize,
     entries: Vec<Entry>,
     lists: Vec<u32>,
-    watch: Watch,
 }
 
 impl Builder {
-    // Takes what the text has at a place, and answers the place behind it.
-    fn step(&mut self, bytes: &[u8], place: usize) -> Result<usize, LexFault>
+    // Takes what the next bytes of the text begin.
+    fn take_stretch(&mut self, bytes: &[u8], until: Until) -> Result<(), LexFault>
         requires small { length bytes.now < 2 ^ 32 }
-        requires more { place < length bytes.now }
-        requires built { IsBuilt place self.old.entries.items self.old.lists.items self.old.watch }
-        requires met { self.old.watch ≢ Watch.Met }
-        ensures progress { IfOk result (λ behind. (place < behind) × (behind ≤ length bytes.now)) }
-        ensures built { IfOk result (λ behind. IsBuilt behind self.new.entries.items self.new.lists.items self.new.watch) }
-        ensures same { IfOk result (λ behind.
-            outcome bytes.now self.new.watch self.new.entries.items self.new.lists.items (lex_at bytes.now behind)
-            ≡ outcome bytes.now self.old.watch self.old.entries.items self.old.lists.items (lex_at bytes.now place)) }
-        ensures fault { IfErr result (Refuses bytes.now
-            (outcome bytes.now self.old.watch self.old.entries.items self.old.lists.items (lex_at bytes.now place))) }
+        requires more { self.old.place < length bytes.now }
+        requires going { Going until bytes.now self.old.place self.old.entries.items self.old.lists.items }
+        ensures progress { OnOk result (self.old.place < self.new.place) }
+        ensures going { OnOk result (Going until bytes.now self.new.place self.new.entries.items self.new.lists.items) }
+        ensures fault { IfErr result (Refuses bytes.now (tokens_of until bytes.now)) }
     {
-        match bytes[place] {
-            b'(' => {
-                self.add_left(bytes, place, place + 1)?;
-                Ok(place + 1)
+        let limit = bytes.len().min(self.place + STRETCH);
+        self.entries.reserve(limit - self.place)?;
+        self.lists.reserve(limit - self.place)?;
+        while self.place < limit {
+            match class_of(bytes[self.place]) {
+                Class::Blank => self.place += 1,
+                Class::Letter => {
+                    let end = symbols_end(bytes, self.place + 1);
+                    if end < bytes.len() && is_run_byte(bytes[end]) {
+                        return Err(bad_token(bytes, self.place));
+                    }
+                    self.add_atom(Item::Word, end);
+                }
+                Class::Left => self.add_left(),
+                Class::Right => {
+                    if self.lists.is_empty() {
+                        return Err(unbalanced(bytes, self.place));
+                    }
+                    self.take_right(bytes, until);
+                }
+                _ => self.take_other(bytes, until)?,
             }
-            b')' => {
-                self.add_right(bytes, place, place + 1)?;
-                Ok(place + 1)
-            }
-            byte if is_blank(byte) => Ok(place + 1),
-            _ => self.take(bytes, place),
         }
+        Ok(())
     }
 
-    // The same where neither a parenthesis nor white space stands there.
-    fn take(&mut self, bytes: &[u8], place: usize) -> Result<usize, LexFault>
+    // Takes what stands here, where that is no word, parenthesis or white space.
+    fn take_other(&mut self, bytes: &[u8], until: Until) -> Result<(), LexFault>
         requires small { length bytes.now < 2 ^ 32 }
-        requires more { place < length bytes.now }
-        requires left { (slice_index bytes.now place == left_parenthesis) ≡ false }
-        requires right { (slice_index bytes.now place == right_parenthesis) ≡ false }
-        requires blank { is_blank (slice_index bytes.now place) ≡ false }
-        requires built { IsBuilt place self.old.entries.items self.old.lists.items self.old.watch }
-        requires met { self.old.watch ≢ Watch.Met }
-        ensures progress { IfOk result (λ behind. (place < behind) × (behind ≤ length bytes.now)) }
-        ensures built { IfOk result (λ behind. IsBuilt behind self.new.entries.items self.new.lists.items self.new.watch) }
-        ensures same { IfOk result (λ behind.
-            outcome bytes.now self.new.watch self.new.entries.items self.new.lists.items (lex_at bytes.now behind)
-            ≡ outcome bytes.now self.old.watch self.old.entries.items self.old.lists.items (lex_at bytes.now place)) }
-        ensures fault { IfErr result (Refuses bytes.now
-            (outcome bytes.now self.old.watch self.old.entries.items self.old.lists.items (lex_at bytes.now place))) }
+        requires more { self.old.place < length bytes.now }
+        requires left { class_of (slice_index bytes.now self.old.place) ≢ Class.Left }
+        requires right { class_of (slice_index bytes.now self.old.place) ≢ Class.Right }
+        requires blank { class_of (slice_index bytes.now self.old.place) ≢ Class.Blank }
+        requires letter { class_of (slice_index bytes.now self.old.place) ≢ Class.Letter }
+        requires room { vec_len self.old.entries < vec_capacity self.old.entries }
+        requires going { Going until bytes.now self.old.place self.old.entries.items self.old.lists.items }
+        ensures progress { OnOk result (self.old.place < self.new.place) }
+        ensures going { OnOk result (Going until bytes.now self.new.place self.new.entries.items self.new.lists.items) }
+        ensures count { OnOk result (vec_len self.new.entries ≤ vec_len self.old.entries + 1) }
+        ensures capacity { OnOk result (vec_capacity self.new.entries ≡ vec_capacity self.old.entries) }
+        ensures lists { OnOk result (self.new.lists ≡ self.old.lists) }
+        ensures fault { IfErr result (Refuses bytes.now (tokens_of until bytes.now)) }
     {
+        let place = self.place;
         match front_of(&bytes[place..]) {
-            Front::Gap(length) => Ok(place + length),
-            Front::Lexeme(item, length) => {
-                self.add_atom(bytes, item, place, place + length)?;
-                Ok(place + length)
-            }
-            Front::BadByte(skipped) => Err(bad_byte(bytes, place + skipped)),
-            Front::BadToken => Err(bad_token(bytes, place)),
-            Front::OpenText => Err(open_text(bytes, place)),
+            Front::Gap(length) => self.place = place + length,
+            Front::Lexeme(item, length) => self.add_atom(item, place + length),
+            Front::BadByte(skipped) => return Err(bad_byte(bytes, place + skipped)),
+            Front::BadToken => return Err(bad_token(bytes, place)),
+            Front::OpenText => return Err(open_text(bytes, place)),
         }
+        Ok(())
     }
 
-    // Whether no list is open.
-    fn is_at_top(&self) -> bool
-        ensures { result ≡ (length self.now.lists.items == 0) }
-    {
-        self.lists.is_empty()
-    }
-
-    // Adds a token that is no parenthesis.
-    fn add_atom(
-        &mut self,
-        bytes: &[u8],
-        item: Item,
-        start: usize,
-        end: usize,
-    ) -> Result<(), LexFault>
+    // Takes the `)` that stands here. Behind a form `(exit)` that stands in no other, nothing is left to take.
+    fn take_right(&mut self, bytes: &[u8], until: Until)
         requires small { length bytes.now < 2 ^ 32 }
-        requires within { end ≤ length bytes.now }
-        requires some { start < end }
-        requires bars { item ≡ Item.Quoted → start + 1 < end }
-        requires atom { IsAtom item }
-        requires built { IsBuilt start self.old.entries.items self.old.lists.items self.old.watch }
-        requires met { self.old.watch ≢ Watch.Met }
-        ensures built { OnOk result (IsBuilt end self.new.entries.items self.new.lists.items self.new.watch) }
-        ensures same { (behind : Lexed) → OnOk result (
-            outcome bytes.now self.new.watch self.new.entries.items self.new.lists.items behind
-            ≡ outcome bytes.now self.old.watch self.old.entries.items self.old.lists.items (next (token bytes.now item start end) behind)) }
-        ensures fault { (behind : Lexed) → IfErr result (Refuses bytes.now
-            (outcome bytes.now self.old.watch self.old.entries.items self.old.lists.items (next (token bytes.now item start end) behind))) }
-    {
-        let watch = self.watch.after(self.lists.len(), item, &bytes[start..end]);
-        self.put_atom(item, start as u32, end as u32)?;
-        self.watch = watch;
-        Ok(())
-    }
-
-    // Adds a `(`.
-    fn add_left(&mut self, bytes: &[u8], start: usize, end: usize) -> Result<(), LexFault>
-        requires small { length bytes.now < 2 ^ 32 }
-        requires within { end ≤ length bytes.now }
-        requires some { start < end }
-        requires built { IsBuilt start self.old.entries.items self.old.lists.items self.old.watch }
-        requires met { self.old.watch ≢ Watch.Met }
-        ensures built { OnOk result (IsBuilt end self.new.entries.items self.new.lists.items self.new.watch) }
-        ensures same { (behind : Lexed) → OnOk result (
-            outcome bytes.now self.new.watch self.new.entries.items self.new.lists.items behind
-            ≡ outcome bytes.now self.old.watch self.old.entries.items self.old.lists.items (next (token bytes.now Item.Left start end) behind)) }
-        ensures fault { (behind : Lexed) → IfErr result (Refuses bytes.now
-            (outcome bytes.now self.old.watch self.old.entries.items self.old.lists.items (next (token bytes.now Item.Left start end) behind))) }
-    {
-        let watch = self
-            .watch
-            .after(self.lists.len(), Item::Left, &bytes[start..end]);
-        self.put_left(start as u32, end as u32)?;
-        self.watch = watch;
-        Ok(())
-    }
-
-    // Adds a `)`, unless no list is open.
-    fn add_right(&mut self, bytes: &[u8], start: usize, end: usize) -> Result<(), LexFault>
-        requires small { length bytes.now < 2 ^ 32 }
-        requires within { end ≤ length bytes.now }
-        requires some { start < end }
-        requires built { IsBuilt start self.old.entries.items self.old.lists.items self.old.watch }
-        requires met { self.old.watch ≢ Watch.Met }
-        ensures built { OnOk result (IsBuilt end self.new.entries.items self.new.lists.items self.new.watch) }
-        ensures same { (behind : Lexed) → OnOk result (
-            outcome bytes.now self.new.watch self.new.entries.items self.new.lists.items behind
-            ≡ outcome bytes.now self.old.watch self.old.entries.items self.old.lists.items (next (token bytes.now Item.Right start end) behind)) }
-        ensures fault { (behind : Lexed) → IfErr result (Refuses bytes.now
-            (outcome bytes.now self.old.watch self.old.entries.items self.old.lists.items (next (token bytes.now Item.Right start end) behind))) }
-    {
-        if self.is_at_top() {
-            return Err(unbalanced(bytes, start));
-        }
-        let watch = self
-            .watch
-            .after(self.lists.len(), Item::Right, &bytes[start..end]);
-        self.put_right(start as u32, end as u32)?;
-        self.watch = watch;
-        Ok(())
-    }
-
-    fn put_atom(&mut self, item: Item, start: u32, end: u32) -> Result<(), AllocError>
-        requires small { vec_len self.old.entries + 1 < 2 ^ 32 }
-        requires some { start < end }
-        requires bars { item ≡ Item.Quoted → start + 1 < end }
-        requires atom { IsAtom item }
-        requires nests { Nests self.old.entries.items self.old.lists.items }
-        ensures watch { self.new.watch ≡ self.old.watch }
-        ensures ok { OnOk result (Puts item start end self.old.entries.items self.new.entries.items self.old.lists.items self.new.lists.items) }
-    {
-        let after = self.entries.len() as u32 + 1;
-        self.entries.push(Entry {
-            start,
-            end,
-            after,
-            item,
-        })?;
-        Ok(())
-    }
-
-    fn put_left(&mut self, start: u32, end: u32) -> Result<(), AllocError>
-        requires small { vec_len self.old.entries + 1 < 2 ^ 32 }
-        requires some { start < end }
-        requires nests { Nests self.old.entries.items self.old.lists.items }
-        ensures watch { self.new.watch ≡ self.old.watch }
-        ensures ok { OnOk result (Puts Item.Left start end self.old.entries.items self.new.entries.items self.old.lists.items self.new.lists.items) }
-    {
-        let left = self.entries.len() as u32;
-        self.lists.push(left)?;
-        self.entries.push(Entry {
-            start,
-            end,
-            after: 0,
-            item: Item::Left,
-        })?;
-        Ok(())
-    }
-
-    fn put_right(&mut self, start: u32, end: u32) -> Result<(), AllocError>
-        requires small { vec_len self.old.entries + 1 < 2 ^ 32 }
-        requires some { start < end }
+        requires more { self.old.place < length bytes.now }
+        requires here { class_of (slice_index bytes.now self.old.place) ≡ Class.Right }
         requires closes { 0 < vec_len self.old.lists }
-        requires nests { Nests self.old.entries.items self.old.lists.items }
-        ensures watch { self.new.watch ≡ self.old.watch }
-        ensures ok { OnOk result (Puts Item.Right start end self.old.entries.items self.new.entries.items self.old.lists.items self.new.lists.items) }
+        requires room { vec_len self.old.entries < vec_capacity self.old.entries }
+        requires going { Going until bytes.now self.old.place self.old.entries.items self.old.lists.items }
+        ensures progress { self.old.place < self.new.place }
+        ensures going { Going until bytes.now self.new.place self.new.entries.items self.new.lists.items }
+        ensures count { vec_len self.new.entries ≡ vec_len self.old.entries + 1 }
+        ensures capacity { vec_capacity self.new.entries ≡ vec_capacity self.old.entries }
+        ensures fewer { vec_len self.new.lists ≤ vec_len self.old.lists }
+        ensures same_room { vec_capacity self.new.lists ≡ vec_capacity self.old.lists }
     {
-        let after = self.entries.len() as u32 + 1;
+        let is_exit = self.closes_exit(bytes, until);
+        self.add_right();
+        if is_exit {
+            self.place = bytes.len();
+        }
+    }
+
+    // Whether a `)` behind the last token ends a form `(exit)` up to which the text is examined.
+    fn closes_exit(&self, bytes: &[u8], until: Until) -> bool
+        requires spans { Spans (length bytes.now) self.now.entries.items }
+        ensures { result ≡ (length self.now.lists.items == 1 && (is_exit until && names_exit (tokens_in bytes.now self.now.entries.items))) }
+    {
+        self.lists.len() == 1 && self.names_exit(bytes, until)
+    }
+
+    // Whether the last two tokens are `(` and `exit`, and the text is examined up to `(exit)`.
+    fn names_exit(&self, bytes: &[u8], until: Until) -> bool
+        requires spans { Spans (length bytes.now) self.now.entries.items }
+        ensures { result ≡ (is_exit until && names_exit (tokens_in bytes.now self.now.entries.items)) }
+    {
+        let count = self.entries.len();
+        match until {
+            Until::End => false,
+            Until::Exit => {
+                count > 1
+                    && is_left(self.entries[count - 2].item)
+                    && is_exit_word(self.entries[count - 1], bytes)
+            }
+        }
+    }
+
+    fn add_atom(&mut self, item: Item, end: usize)
+        requires small { end < 2 ^ 32 }
+        requires some { self.old.place < end }
+        requires bars { item ≡ Item.Quoted → self.old.place + 1 < end }
+        requires atom { IsAtom item }
+        requires room { vec_len self.old.entries < vec_capacity self.old.entries }
+        requires nests { Nests self.old.entries.items self.old.lists.items }
+        ensures place { self.new.place ≡ end }
+        ensures puts { Puts item self.old.place end self.old.entries.items self.new.entries.items self.old.lists.items self.new.lists.items }
+        ensures count { vec_len self.new.entries ≡ vec_len self.old.entries + 1 }
+        ensures capacity { vec_capacity self.new.entries ≡ vec_capacity self.old.entries }
+        ensures lists { self.new.lists ≡ self.old.lists }
+    {
+        self.entries.push_reserved(Entry {
+            start: self.place as u32,
+            link: end as u32,
+            item,
+        });
+        self.place = end;
+    }
+
+    fn add_left(&mut self)
+        requires small { self.old.place + 1 < 2 ^ 32 }
+        requires fewer { vec_len self.old.entries ≤ self.old.place }
+        requires room { vec_len self.old.entries < vec_capacity self.old.entries }
+        requires list_room { vec_len self.old.lists < vec_capacity self.old.lists }
+        requires nests { Nests self.old.entries.items self.old.lists.items }
+        ensures place { self.new.place ≡ self.old.place + 1 }
+        ensures puts { Puts Item.Left self.old.place self.new.place self.old.entries.items self.new.entries.items self.old.lists.items self.new.lists.items }
+        ensures count { vec_len self.new.entries ≡ vec_len self.old.entries + 1 }
+        ensures capacity { vec_capacity self.new.entries ≡ vec_capacity self.old.entries }
+        ensures list_count { vec_len self.new.lists ≡ vec_len self.old.lists + 1 }
+        ensures list_capacity { vec_capacity self.new.lists ≡ vec_capacity self.old.lists }
+    {
+        self.lists.push_reserved(self.entries.len() as u32);
+        self.entries.push_reserved(Entry {
+            start: self.place as u32,
+            link: 0,
+            item: Item::Left,
+        });
+        self.place += 1;
+    }
+
+    fn add_right(&mut self)
+        requires small { self.old.place + 1 < 2 ^ 32 }
+        requires fewer { vec_len self.old.entries ≤ self.old.place }
+        requires closes { 0 < vec_len self.old.lists }
+        requires room { vec_len self.old.entries < vec_capacity self.old.entries }
+        requires nests { Nests self.old.entries.items self.old.lists.items }
+        ensures place { self.new.place ≡ self.old.place + 1 }
+        ensures puts { Puts Item.Right self.old.place self.new.place self.old.entries.items self.new.entries.items self.old.lists.items self.new.lists.items }
+        ensures count { vec_len self.new.entries ≡ vec_len self.old.entries + 1 }
+        ensures capacity { vec_capacity self.new.entries ≡ vec_capacity self.old.entries }
+        ensures list_count { vec_len self.new.lists + 1 ≡ vec_len self.old.lists }
+        ensures list_capacity { vec_capacity self.new.lists ≡ vec_capacity self.old.lists }
+    {
         let left = self.lists.pop().unwrap() as usize;
-        self.entries.push(Entry {
+        let start = self.place as u32;
+        self.entries.push_reserved(Entry {
             start,
-            end,
-            after,
+            link: start + 1,
             item: Item::Right,
-        })?;
-        self.entries[left].after = after;
-        Ok(())
+        });
+        self.entries[left].link = self.entries.len() as u32;
+        self.place += 1;
     }
 
     // The tokens, unless a list is still open at the end of the text.
@@ -225,15 +208,26 @@ impl Builder {
         ensures ok { IfOk result (λ entries. (entries.items ≡ self.entries.items) × (self.lists.items ≡ [])) }
         ensures fault { IfErr result (λ fault. (0 < vec_len self.lists) × (fault ≡ LexFault.Unbalanced (length bytes.now) (line_at bytes.now (length bytes.now)))) }
     {
-        if self.lists.is_empty() {
-            Ok(self.entries)
-        } else {
-            Err(unbalanced(bytes, bytes.len()))
+        if !self.lists.is_empty() {
+            return Err(unbalanced(bytes, bytes.len()));
         }
+        Ok(self.entries)
+    }
+}
+
+// Whether the token is the word `exit`.
+fn is_exit_word(entry: Entry, bytes: &[u8]) -> bool
+    requires stands { Stands (length bytes.now) entry }
+    ensures { result ≡ is_exit_word entry.item (token_of bytes.now entry).text }
+{
+    match entry.item {
+        Item::Word => &bytes[entry.start as usize..entry.end() as usize] == b"exit".as_slice(),
+        _ => false,
     }
 }
 
 /// The tokens of the text, as far as it is examined.
+#[inline(never)]
 pub(crate) fn tokens_of(alloc: Global, bytes: &[u8], until: Until) -> Result<Vec<Entry>, LexFault>
     requires { length bytes.now < 2 ^ 32 }
     ensures spans { IfOk result (λ entries. Spans (length bytes.now) entries.items) }
@@ -242,13 +236,12 @@ pub(crate) fn tokens_of(alloc: Global, bytes: &[u8], until: Until) -> Result<Vec
     ensures fault { IfErr result (Refuses bytes.now (tokens_of until bytes.now)) }
 {
     let mut builder = Builder {
+        place: 0,
         entries: Vec::new(alloc),
         lists: Vec::new(alloc),
-        watch: Watch::new(until),
     };
-    let mut place = 0;
-    while place < bytes.len() && !matches!(builder.watch, Watch::Met) {
-        place = builder.step(bytes, place)?;
+    while builder.place < bytes.len() {
+        builder.take_stretch(bytes, until)?;
     }
     builder.finish(bytes)
 }

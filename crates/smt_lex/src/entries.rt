@@ -1,33 +1,20 @@
-// The tokens of a text as they are kept, and the watch for `(exit)`.
+// The tokens of a text as they are kept.
 
-ghost use Rattle.std.specs.Prelude.{◌≡◌};
-ghost use Rattle.smt_lex.specs.Forms.{is_exit_word, is_left, is_right};
+ghost use Rattle.std.specs.Prelude.{◌≡◌, ◌<◌, ◌^◌};
+ghost use Rattle.smt_lex.specs.Forms.{is_left};
 
-use crate::items::{Item, Until};
+use crate::items::Item;
 
-/// A token, its first byte and the one behind it, and the number of the token behind the form that begins here.
+/// A token: its first byte, its kind, and its link. That is for a `(` the number of the token behind its list, and
+/// for any other token the byte behind it.
 #[derive(Clone, Copy)]
 pub(crate) struct Entry {
     pub(crate) start: u32,
-    pub(crate) end: u32,
-    pub(crate) after: u32,
+    pub(crate) link: u32,
     pub(crate) item: Item,
 }
 
-/// How much of a form `(exit)` that stands in no other the last tokens are.
-#[derive(Clone, Copy)]
-pub(crate) enum Watch {
-    /// It doesn't matter.
-    Never,
-    /// Nothing of it.
-    Elsewhere,
-    /// Its `(`.
-    Opened,
-    /// Its `(exit`.
-    Named,
-    /// All of it.
-    Met,
-}
+const _: () = prove!(size_of::<Entry>() <= 12);
 
 pub(crate) fn is_left(item: Item) -> bool
     ensures { result ≡ is_left item }
@@ -35,47 +22,30 @@ pub(crate) fn is_left(item: Item) -> bool
     matches!(item, Item::Left)
 }
 
-pub(crate) fn is_right(item: Item) -> bool
-    ensures { result ≡ is_right item }
-{
-    matches!(item, Item::Right)
-}
+impl Entry {
+    ghost use Rattle.smt_lex.specs.Building.{entry_end, entry_after};
 
-// Whether the token is the word `exit`.
-fn is_exit_word(item: Item, text: &[u8]) -> bool
-    ensures { result ≡ is_exit_word item text.now }
-{
-    match item {
-        Item::Word => text == b"exit".as_slice(),
-        _ => false,
-    }
-}
-
-const _: () = prove!(size_of::<Entry>() <= 16);
-
-impl Watch {
-    ghost use Rattle.smt_lex.specs.Building.{watch_after, first_watch};
-
-    /// The watch before the first token.
-    pub(crate) fn new(until: Until) -> Watch
-        ensures { result ≡ first_watch until }
+    /// The byte behind the token.
+    pub(crate) fn end(self) -> u32
+        requires { entry_end self < 2 ^ 32 }
+        ensures { result ≡ entry_end self }
     {
-        match until {
-            Until::End => Watch::Never,
-            Until::Exit => Watch::Elsewhere,
+        if is_left(self.item) {
+            self.start + 1
+        } else {
+            self.link
         }
     }
 
-    /// The watch behind one more token, before which so many lists were open.
-    pub(crate) fn after(self, depth: usize, item: Item, text: &[u8]) -> Watch
-        ensures { result ≡ watch_after self depth item text.now }
+    /// The number of the token behind the form that begins here, where this token has that number.
+    pub(crate) fn after(self, number: usize) -> usize
+        requires { number < 2 ^ 32 }
+        ensures { result ≡ entry_after self number }
     {
-        match self {
-            Watch::Elsewhere if is_left(item) && depth == 0 => Watch::Opened,
-            Watch::Opened if is_exit_word(item, text) => Watch::Named,
-            Watch::Named if is_right(item) => Watch::Met,
-            Watch::Opened | Watch::Named => Watch::Elsewhere,
-            _ => self,
+        if is_left(self.item) {
+            self.link as usize
+        } else {
+            number + 1
         }
     }
 }

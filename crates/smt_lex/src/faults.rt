@@ -57,6 +57,8 @@ pub fn line_of(bytes: &[u8], place: usize) -> u64
     line
 }
 
+#[cold]
+#[inline(never)]
 pub(crate) fn bad_byte(bytes: &[u8], place: usize) -> LexFault
     requires within { place ≤ length bytes.now }
     requires small { length bytes.now < 2 ^ 32 }
@@ -68,6 +70,8 @@ pub(crate) fn bad_byte(bytes: &[u8], place: usize) -> LexFault
     }
 }
 
+#[cold]
+#[inline(never)]
 pub(crate) fn bad_token(bytes: &[u8], place: usize) -> LexFault
     requires within { place ≤ length bytes.now }
     requires small { length bytes.now < 2 ^ 32 }
@@ -79,6 +83,8 @@ pub(crate) fn bad_token(bytes: &[u8], place: usize) -> LexFault
     }
 }
 
+#[cold]
+#[inline(never)]
 pub(crate) fn open_text(bytes: &[u8], place: usize) -> LexFault
     requires within { place ≤ length bytes.now }
     requires small { length bytes.now < 2 ^ 32 }
@@ -90,6 +96,8 @@ pub(crate) fn open_text(bytes: &[u8], place: usize) -> LexFault
     }
 }
 
+#[cold]
+#[inline(never)]
 pub(crate) fn unbalanced(bytes: &[u8], place: usize) -> LexFault
     requires within { place ≤ length bytes.now }
     requires small { length bytes.now < 2 ^ 32 }

@@ -78,7 +78,7 @@ impl Forest {
         let entry = self.entries[i];
         Span {
             start: entry.start,
-            end: entry.end,
+            end: entry.end(),
         }
     }
 
@@ -90,7 +90,7 @@ impl Forest {
         ensures bars { (token_at self.now.tokens i).item ≡ Item.Quoted → 2 ≤ length result.now }
     {
         let entry = self.entries[i];
-        &self.bytes[entry.start as usize..entry.end as usize]
+        &self.bytes[entry.start as usize..entry.end() as usize]
     }
 
     /// The number of the token behind the form that begins at token `i`; behind a `)` its own and one.
@@ -99,7 +99,7 @@ impl Forest {
         ensures behind { result ≡ after_at self.now.tokens i }
         ensures within { (i < result) × (result ≤ length self.now.tokens) }
     {
-        self.entries[i].after as usize
+        self.entries[i].after(i)
     }
 
     /// The symbol that token `i` is, without bars, and its bytes where it is none.

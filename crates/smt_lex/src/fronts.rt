@@ -1,13 +1,14 @@
 // What a text begins with.
 
-ghost use Rattle.std.specs.Prelude.{◌≡◌, ◌+◌, ◌<◌, ◌≤◌, ◌==◌, true, false, length, slice_index, IfSome};
-ghost use Rattle.std.specs.Char.{is_ascii_digit};
-ghost use Rattle.smt_lex.specs.Lexicon.{left_parenthesis, right_parenthesis, is_blank, is_symbol_byte, starts_as};
+ghost use Rattle.std.specs.Prelude.{◌≡◌, ◌≢◌, ◌+◌, ◌<◌, ◌≤◌, true, false, length, slice_index, slice_index_or, IfSome};
+ghost use Rattle.smt_lex.specs.ByteClasses.{class_of};
+ghost use Rattle.smt_lex.specs.Lexicon.{is_run_byte};
 ghost use Rattle.smt_lex.specs.Lex.{front, run_front, literal_front, literal_length, quoted_front};
 ghost use Rattle.smt_lex.specs.Building.{FitsIn, HasAtom};
 
 use crate::classes::{
-    begins_word, is_run_byte, length_until, line_length, run_length, symbol_length,
+    Class, binary_length, class_of, digits_length, hexadecimal_length, is_run_byte, length_until,
+    line_length, run_length,
 };
 use crate::items::Item;
 use crate::runs::run_item;
@@ -27,39 +28,71 @@ pub(crate) enum Front {
     OpenText,
 }
 
-/// What the text begins with, where that is no parenthesis and no white space.
+/// What the text begins with, where that is no word, parenthesis or white space.
+#[inline(never)]
 pub(crate) fn front_of(text: &[u8]) -> Front
     requires some { 0 < length text.now }
-    requires left { (slice_index text.now 0 == left_parenthesis) ≡ false }
-    requires right { (slice_index text.now 0 == right_parenthesis) ≡ false }
-    requires blank { is_blank (slice_index text.now 0) ≡ false }
+    requires left { class_of (slice_index text.now 0) ≢ Class.Left }
+    requires right { class_of (slice_index text.now 0) ≢ Class.Right }
+    requires blank { class_of (slice_index text.now 0) ≢ Class.Blank }
+    requires letter { class_of (slice_index text.now 0) ≢ Class.Letter }
     ensures within { FitsIn (length text.now) result }
     ensures atom { HasAtom result }
     ensures value { result ≡ front text.now }
 {
-    match text[0] {
-        byte if begins_word(byte) => word_front(text),
-        b';' => Front::Gap(1 + line_length(&text[1..])),
-        b'"' => literal_front(&text[1..]),
-        b'|' => quoted_front(&text[1..]),
-        byte if is_run_byte(byte) => run_front(text),
+    match class_of(text[0]) {
+        Class::Semicolon => Front::Gap(1 + line_length(&text[1..])),
+        Class::Quote => literal_front(&text[1..]),
+        Class::Bar => quoted_front(&text[1..]),
+        Class::Digit => digit_front(text),
+        Class::Hash => hash_front(text),
+        Class::Colon => run_front(text),
         _ => Front::BadByte(0),
     }
 }
 
-// What the run is that the text begins with, where its first byte is one that a word may begin with.
-fn word_front(text: &[u8]) -> Front
-    requires symbol { starts_as is_symbol_byte text.now ≡ true }
-    requires letter { starts_as is_ascii_digit text.now ≡ false }
+// What the run is that the text begins with, whose first byte is a digit.
+fn digit_front(text: &[u8]) -> Front
+    requires some { 0 < length text.now }
+    requires digit { class_of (slice_index text.now 0) ≡ Class.Digit }
     ensures within { FitsIn (length text.now) result }
     ensures atom { HasAtom result }
     ensures value { result ≡ run_front text.now }
 {
-    let length = symbol_length(text);
-    if length < text.len() && is_run_byte(text[length]) {
-        return Front::BadToken;
+    let length = digits_length(text);
+    if ends_run(text, length) && (length == 1 || text[0] != b'0') {
+        Front::Lexeme(Item::Numeral, length)
+    } else {
+        run_front(text)
     }
-    Front::Lexeme(Item::Word, length)
+}
+
+// What the run is that the text begins with, whose first byte is a `#`.
+fn hash_front(text: &[u8]) -> Front
+    ensures within { FitsIn (length text.now) result }
+    ensures atom { HasAtom result }
+    ensures value { result ≡ run_front text.now }
+{
+    if text.starts_with(b"#x") {
+        let length = 2 + hexadecimal_length(&text[2..]);
+        if length > 2 && ends_run(text, length) {
+            return Front::Lexeme(Item::Hex, length);
+        }
+    } else if text.starts_with(b"#b") {
+        let length = 2 + binary_length(&text[2..]);
+        if length > 2 && ends_run(text, length) {
+            return Front::Lexeme(Item::Bin, length);
+        }
+    }
+    run_front(text)
+}
+
+// Whether a run that goes up to here ends here.
+fn ends_run(text: &[u8], at: usize) -> bool
+    requires { at ≤ length text.now }
+    ensures ends { result ≡ true → at < length text.now → is_run_byte (slice_index_or text.now at 0) ≡ false }
+{
+    at == text.len() || !is_run_byte(text[at])
 }
 
 // What the run is that the text begins with.

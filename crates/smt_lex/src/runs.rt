@@ -5,7 +5,7 @@ ghost use Rattle.std.specs.Char.{is_ascii_digit, is_ascii_hexdigit};
 ghost use Rattle.smt_lex.specs.Lexicon.{hash, is_word, is_numeral, is_keyword, is_decimal, is_hexadecimal, is_binary, is_some_of, is_symbol_byte, is_binary_digit, starts_as, run_item};
 ghost use Rattle.smt_lex.specs.Building.{IsAtom};
 
-use crate::classes::{digits_length, is_symbol_byte};
+use crate::classes::{digits_length, is_binary_digit, is_symbol_byte};
 use crate::items::Item;
 
 /// The token that the run is, or None where it is none.
@@ -143,10 +143,4 @@ fn is_binary_digits(text: &[u8]) -> bool
         }
     }
     !text.is_empty()
-}
-
-fn is_binary_digit(byte: u8) -> bool
-    ensures { result ≡ is_binary_digit byte }
-{
-    byte == b'0' || byte == b'1'
 }

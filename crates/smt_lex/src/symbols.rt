@@ -2,7 +2,7 @@
 
 ghost use Rattle.std.specs.Prelude.{◌≡◌, [], ◌∷◌, ◌++◌, map, IfOk, OnOk, OnErr};
 ghost use Rattle.smt_lex.specs.Lexicon.{bar};
-ghost use Rattle.smt_lex.specs.Names.{is_among, is_syntax_word, is_command_word, is_reserved, is_simple, IsName, printed_symbol};
+ghost use Rattle.smt_lex.specs.Names.{is_among, is_command_word, is_reserved, is_simple, IsName, printed_symbol};
 ghost use Rattle.smt_lex.specs.Lex.{IsOneSymbol};
 
 use crate::runs::is_word;
@@ -43,6 +43,13 @@ static COMMANDS_WITH_R: [&[u8]; 2] = [b"reset", b"reset-assertions"];
 
 static COMMANDS_WITH_S: [&[u8]; 3] = [b"set-info", b"set-logic", b"set-option"];
 
+// The reserved words that begin with each letter, where some belong to the syntax and some name commands.
+static RESERVED_WITH_A: [&[u8]; 2] = [b"as", b"assert"];
+
+static RESERVED_WITH_E: [&[u8]; 3] = [b"exists", b"echo", b"exit"];
+
+static RESERVED_WITH_P: [&[u8]; 3] = [b"par", b"pop", b"push"];
+
 // Whether the name is a symbol without bars.
 fn is_simple(name: &[u8]) -> bool
     ensures { result ≡ is_simple name.now }
@@ -54,13 +61,6 @@ fn is_simple(name: &[u8]) -> bool
 pub fn is_reserved(word: &[u8]) -> bool
     ensures { result ≡ is_reserved word.now }
 {
-    is_syntax_word(word) || is_command_word(word)
-}
-
-// Whether the word belongs to the syntax: no two of its words begin alike.
-fn is_syntax_word(word: &[u8]) -> bool
-    ensures { result ≡ is_syntax_word word.now }
-{
     let [first, ..] = word else { return false };
     match *first {
         b'!' => word == b"!".as_slice(),
@@ -70,12 +70,17 @@ fn is_syntax_word(word: &[u8]) -> bool
         b'N' => word == b"NUMERAL".as_slice(),
         b'S' => word == b"STRING".as_slice(),
         b'_' => word == b"_".as_slice(),
-        b'a' => word == b"as".as_slice(),
-        b'e' => word == b"exists".as_slice(),
+        b'a' => is_among(&RESERVED_WITH_A, word),
+        b'c' => is_among(&COMMANDS_WITH_C, word),
+        b'd' => is_among(&COMMANDS_WITH_D, word),
+        b'e' => is_among(&RESERVED_WITH_E, word),
         b'f' => word == b"forall".as_slice(),
+        b'g' => is_among(&COMMANDS_WITH_G, word),
         b'l' => word == b"let".as_slice(),
         b'm' => word == b"match".as_slice(),
-        b'p' => word == b"par".as_slice(),
+        b'p' => is_among(&RESERVED_WITH_P, word),
+        b'r' => is_among(&COMMANDS_WITH_R, word),
+        b's' => is_among(&COMMANDS_WITH_S, word),
         _ => false,
     }
 }

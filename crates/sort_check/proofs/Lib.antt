@@ -1,5 +1,4 @@
 pub mod Answering
-pub mod Begun
 pub mod Folding
 pub mod Growing
 pub mod Linking
@@ -7,6 +6,8 @@ pub mod Names
 pub mod Nodes
 pub mod Pairs
 pub mod Passing
+pub mod Placing
 pub mod Repeating
 pub mod Theory
+pub mod Twos
 pub mod Widths

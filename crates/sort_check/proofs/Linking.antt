@@ -140,8 +140,8 @@ length-neighbours : (two : Term → Term → Term) (t : Term) (ts : List Term) �
 length-neighbours two t [] = refl
 length-neighbours two t (u ∷ ts) = ap suc (length-neighbours two u ts)
 
-pub some_links : (old new : Formulas) (o : Op) (turned : Bool) (first : NodeId) (rest links : List NodeId) → 0 < length rest → trees_at new links ≡ neighbours (linked turned o) (tree old first) (trees_at old rest) → 0 < length links
-some_links old new o turned first rest links some terms =
+pub more_links : (old new : Formulas) (o : Op) (turned : Bool) (first : NodeId) (rest links : List NodeId) → 1 < length rest → trees_at new links ≡ neighbours (linked turned o) (tree old first) (trees_at old rest) → 1 < length links
+more_links old new o turned first rest links more terms =
     let a = length-map links (tree_in new.trees) in
     let b = length-neighbours (linked turned o) (tree old first) (trees_at old rest) in
     let c = length-map rest (tree_in old.trees) in
@@ -182,16 +182,16 @@ module _ (t : Formulas) (o : Op) (ks : List NodeId) (link : is_link (shape o) �
   unfolding rank written_rank written_arity written_places written_in_range written_result
   exchanged_rank = pair_over t o (trees_at t ks) (link_pair (shape o) link) ∙ turned_rank (shape o) (kid_sorts t ks) link
 
-pub record TwoKids (t : Formulas) (o : Op) (ks : List NodeId) (d : NodeId) : Type 0 where
+pub record TwoKids (t : Formulas) (o : Op) (ks : List NodeId) (d : NodeId) (r : Sort) : Type 0 where
   pub number : length ks ≡ 2
-  pub ranked : IsOk (rank_pair o (node_sort t (get_or ks 1 d)) (node_sort t (get_or ks 0 d)))
+  pub ranked : rank_pair o (node_sort t (get_or ks 1 d)) (node_sort t (get_or ks 0 d)) ≡ Ok r
   pub built : apply_to_both term_algebra o (tree t (get_or ks 1 d)) (tree t (get_or ks 0 d)) ≡ build term_algebra (exchanged o) (trees_at t ks)
 
-pub two_kids : (t : Formulas) (o : Op) (ks : List NodeId) (d : NodeId) (r : Sort) → is_link (shape o) ≡ true → Ok r ≡ rank_over t o (trees_at t ks) → TwoKids t o ks d
+pub two_kids : (t : Formulas) (o : Op) (ks : List NodeId) (d : NodeId) (r : Sort) → is_link (shape o) ≡ true → Ok r ≡ rank_over t o (trees_at t ks) → TwoKids t o ks d r
 unfolding build
 two_kids t o ks d r link is = by ks (sym (is ∙ pair_over t o (trees_at t ks) (link_pair (shape o) link)))
   where
-    by : (ks : List NodeId) → rank (op o) (kid_sorts t ks) ≡ Ok r → TwoKids t o ks d
+    by : (ks : List NodeId) → rank (op o) (kid_sorts t ks) ≡ Ok r → TwoKids t o ks d r
     by [] e = let known = link_is o [] r link e in absurd (let none : [] ≡ known.sort ∷ known.sort ∷ [] = known.both in cc)
     by (k ∷ []) e = let known = link_is o (kid_sorts t (k ∷ [])) r link e in absurd (let one : kid_sorts t (k ∷ []) ≡ known.sort ∷ known.sort ∷ [] = known.both in cc)
     by (k ∷ l ∷ []) e =
@@ -199,7 +199,7 @@ two_kids t o ks d r link is = by ks (sym (is ∙ pair_over t o (trees_at t ks) (
         let lists : node_sort t k ∷ node_sort t l ∷ [] ≡ known.sort ∷ known.sort ∷ [] = known.both in
         let left : node_sort t k ≡ known.sort = cc in
         let right : node_sort t l ≡ known.sort = cc in
-        record { number = refl; ranked = is_ok ((λ i. rank_pair o (right i) (left i)) ∙ sym (λ i. rank_pair o (left i) (right i)) ∙ e); built = refl }
+        record { number = refl; ranked = (λ i. rank_pair o (right i) (left i)) ∙ sym (λ i. rank_pair o (left i) (right i)) ∙ e; built = refl }
     by (k ∷ l ∷ m ∷ ks) e =
         let known = link_is o (kid_sorts t (k ∷ l ∷ m ∷ ks)) r link e in
         absurd (let many : kid_sorts t (k ∷ l ∷ m ∷ ks) ≡ known.sort ∷ known.sort ∷ [] = known.both in let count = ap length many in omega arith)
@@ -209,6 +209,6 @@ two_kids t o ks d r link is = by ks (sym (is ∙ pair_over t o (trees_at t ks) (
 pub two_or_more : (t : Formulas) (o : Op) (ks : List NodeId) → alike_fault (shape o) (kid_sorts t ks) ≡ None → 2 ≤ length ks
 two_or_more t o ks none = let count = length-kid_sorts t ks in let two = alike_two (shape o) (kid_sorts t ks) none in omega arith
 
-pub some_rest : (ks : List NodeId) → 2 ≤ length ks → 0 < length (take (length ks - 1) (drop 1 ks))
-some_rest [] two = absurd (omega arith)
-some_rest (k ∷ ks) two = subst (λ (l : List NodeId). 0 < length l) (sym (take_rest (k ∷ ks) 1)) (omega arith)
+pub more_rest : (ks : List NodeId) → 3 ≤ length ks → 1 < length (take (length ks - 1) (drop 1 ks))
+more_rest [] three = absurd (omega arith)
+more_rest (k ∷ ks) three = subst (λ (l : List NodeId). 1 < length l) (sym (take_rest (k ∷ ks) 1)) (omega arith)

@@ -102,6 +102,9 @@ module _ (t : Formulas) (o : Op) (k l : NodeId) (ranked : IsOk (rank_pair o (nod
   pair_kind : kind o ≡ theory o
   pair_kind = let ok = ok_value (rank_pair o (node_sort t k) (node_sort t l)) ranked in ranked_theory o (node_sort t k ∷ node_sort t l ∷ []) ok.0 ok.1
 
+  pub pair_rank : rank_over t o (trees_at t (k ∷ l ∷ [])) ≡ rank_pair o (node_sort t k) (node_sort t l)
+  pair_rank = ap (λ q. kind_rank t.symbols t.sorts q (trees_at t (k ∷ l ∷ []))) pair_kind
+
   pub pair_makes : IsNode t k → IsNode t l → Makes t o (k ∷ l ∷ [])
   pair_makes left right = record {
     kids = two_nodes t k l left right;

@@ -144,8 +144,3 @@ unfolding kind
 and_term t [] not = refl
 and_term t (k ∷ []) not = absurd (not refl)
 and_term t (k ∷ l ∷ ks) not = refl
-
-pub and_itself : (t : Formulas) (ks : List NodeId) (d : NodeId) → length ks ≡ 1 → tree t (get_or ks 0 d) ≡ itself_or_join term_algebra And (trees_at t ks)
-and_itself t [] d one = absurd (omega arith)
-and_itself t (k ∷ []) d one = refl
-and_itself t (k ∷ l ∷ ks) d one = absurd (omega arith)

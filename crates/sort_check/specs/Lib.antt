@@ -1,3 +1,4 @@
 pub mod Forms
 pub mod Making
 pub mod Operands
+pub mod Slots

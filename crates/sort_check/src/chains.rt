@@ -1,6 +1,6 @@
 //! Chains: conjunctions of an operator over neighbours.
 
-ghost use Rattle.std.specs.Prelude.{◌≡◌, ◌<◌, [], ◌∷◌, length, All, IfOk, IsTrue};
+ghost use Rattle.std.specs.Prelude.{◌≡◌, ◌≢◌, ◌<◌, [], ◌∷◌, length, All, IfOk, IsTrue};
 ghost use Rattle.smt_terms.specs.Rank.{shape};
 ghost use Rattle.smt_terms.specs.Sorts.{bool};
 ghost use Rattle.smt_terms.specs.declared.op.Op.TheVariants.{And};
@@ -12,7 +12,7 @@ ghost use Rattle.sort_check.specs.Operands.{linked, chained, IsOfSort, TakesEach
 
 use crate::alike::alike;
 use crate::fault::MakeFault;
-use crate::making::pair;
+use crate::making::{node, pair, pair_of_sort};
 use smt_terms::{NodeId, Op};
 use std::alloc::{AllocError, Global};
 use term_table::Table;
@@ -29,10 +29,43 @@ pub fn chain(
     requires apt { IsTrue (is_link (shape op)) }
     ensures { Builds table.old table.new (chained exchanged op) kids.now result }
 {
+    if kids.len() == 2 {
+        return only_link(table, op, exchanged, kids);
+    }
+    long_chain(alloc, table, op, exchanged, kids)
+}
+
+// The same, for other numbers of operands. Never inlined, so that its caller, which mostly has two, can be.
+#[inline(never)]
+fn long_chain(
+    alloc: Global,
+    table: &mut Table,
+    op: Op,
+    exchanged: bool,
+    kids: &[NodeId],
+) -> Result<NodeId, MakeFault>
+    requires kids { AreNodes table.old kids.now }
+    requires apt { IsTrue (is_link (shape op)) }
+    requires other { length kids.now ≢ 2 }
+    ensures { Builds table.old table.new (chained exchanged op) kids.now result }
+{
     alike(table, op, kids)?;
     let links = links(alloc, table, op, exchanged, kids[0], &kids[1..])?;
     let node = conjunction(table, &links)?;
     Ok(node)
+}
+
+// The application to two operands.
+fn only_link(table: &mut Table, op: Op, turned: bool, kids: &[NodeId]) -> Result<NodeId, MakeFault>
+    requires kids { AreNodes table.old kids.now }
+    requires apt { IsTrue (is_link (shape op)) }
+    requires two { length kids.now ≡ 2 }
+    ensures { Builds table.old table.new (chained turned op) kids.now result }
+{
+    if turned {
+        return exchanged(table, op, kids);
+    }
+    node(table, op, kids)
 }
 
 /// The operator over two operands, exchanged.
@@ -41,8 +74,8 @@ pub fn exchanged(table: &mut Table, op: Op, kids: &[NodeId]) -> Result<NodeId, M
     requires apt { IsTrue (is_link (shape op)) }
     ensures { Builds table.old table.new (exchanged op) kids.now result }
 {
-    table.rank(op, kids)?;
-    let node = pair(table, op, kids[1], kids[0])?;
+    let sort = table.rank(op, kids)?;
+    let node = pair_of_sort(table, op, kids[1], kids[0], sort)?;
     Ok(node)
 }
 
@@ -89,17 +122,14 @@ fn link(
     }
 }
 
-// The conjunction; one operand stands for itself.
+// The conjunction of two or more.
 fn conjunction(table: &mut Table, kids: &[NodeId]) -> Result<NodeId, AllocError>
     requires truths { All (λ k. IsOfSort table.old k bool) kids.now }
-    requires some { 0 < length kids.now }
+    requires several { 1 < length kids.now }
     ensures node { IfOk result (λ k. IsNode table.new k) }
     ensures term { IfOk result (λ k. tree table.new k ≡ itself_or_join term_algebra And (trees_at table.old kids.now)) }
     ensures extends { Extends table.old table.new }
 {
-    if kids.len() == 1 {
-        return Ok(kids[0]);
-    }
     let node = table.intern(Op::And, kids)?;
     Ok(node)
 }

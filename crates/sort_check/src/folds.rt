@@ -10,7 +10,7 @@ ghost use Rattle.sort_check.specs.Operands.{TakesEach};
 
 use crate::alike::alike;
 use crate::fault::MakeFault;
-use crate::making::pair;
+use crate::making::{node, pair};
 use smt_terms::{NodeId, Op};
 use std::alloc::AllocError;
 use term_table::Table;
@@ -21,9 +21,22 @@ pub fn left_associative(table: &mut Table, op: Op, kids: &[NodeId]) -> Result<No
     requires apt { IsTrue (is_fold (shape op)) }
     ensures { Builds table.old table.new (left_associative op) kids.now result }
 {
+    if kids.len() == 2 {
+        return node(table, op, kids);
+    }
+    left_fold(table, op, kids)
+}
+
+// The same, for any number of operands. Never inlined, so that its caller, which mostly has two, can be.
+#[inline(never)]
+fn left_fold(table: &mut Table, op: Op, kids: &[NodeId]) -> Result<NodeId, MakeFault>
+    requires kids { AreNodes table.old kids.now }
+    requires apt { IsTrue (is_fold (shape op)) }
+    ensures { Builds table.old table.new (left_associative op) kids.now result }
+{
     alike(table, op, kids)?;
-    let node = from_left(table, op, kids[0], &kids[1..])?;
-    Ok(node)
+    let all = from_left(table, op, kids[0], &kids[1..])?;
+    Ok(all)
 }
 
 /// A right associative operator over its operands.
@@ -32,9 +45,22 @@ pub fn right_associative(table: &mut Table, op: Op, kids: &[NodeId]) -> Result<N
     requires apt { IsTrue (is_fold (shape op)) }
     ensures { Builds table.old table.new (right_associative op) kids.now result }
 {
+    if kids.len() == 2 {
+        return node(table, op, kids);
+    }
+    right_fold(table, op, kids)
+}
+
+// The same, for any number of operands. Never inlined, so that its caller, which mostly has two, can be.
+#[inline(never)]
+fn right_fold(table: &mut Table, op: Op, kids: &[NodeId]) -> Result<NodeId, MakeFault>
+    requires kids { AreNodes table.old kids.now }
+    requires apt { IsTrue (is_fold (shape op)) }
+    ensures { Builds table.old table.new (right_associative op) kids.now result }
+{
     alike(table, op, kids)?;
-    let node = from_right(table, op, kids)?;
-    Ok(node)
+    let all = from_right(table, op, kids)?;
+    Ok(all)
 }
 
 fn from_left(

@@ -1,8 +1,10 @@
 //! The written operators by their names and indices.
 
-ghost use Rattle.std.specs.Prelude.{◌≡◌, ℕ, List, slice_index_or, length, IfSome, option_map, ◌<◌, ◌^◌, All, map, IsSome, IsTrue, Some};
-ghost use Rattle.smt_terms.specs.Written.{operator_named, named_in, at_indices, written_named};
+ghost use Rattle.std.specs.Prelude.{◌≡◌, ℕ, List, length, IfSome, ◌<◌, ◌^◌, All, map, IsSome, IsTrue, Some};
+ghost use Rattle.smt_terms.specs.Equal.{name_eq};
+ghost use Rattle.smt_terms.specs.Written.{operator_named, at_indices};
 ghost use Rattle.sort_check.specs.Forms.{form_seen, found, written_seen, is_apt, is_apt_at, index_count};
+ghost use Rattle.sort_check.specs.Slots.{slot, place_by, named_at};
 
 use crate::written::Form::{
     Divisible, Extract, Repeat, RotateLeft, RotateRight, SignExtend, WithoutIndex, ZeroExtend,
@@ -63,125 +65,77 @@ pub enum Form {
     Extract,
 }
 
-// The written operators: those whose names begin with each sign or letter, and with `bv` and each letter.
-const WITH_STAR: [(&[u8], Form); 1] = [(b"*", WithoutIndex(OverAll(Op::Mul)))];
-
-const WITH_PLUS: [(&[u8], Form); 1] = [(b"+", WithoutIndex(OverAll(Op::Add)))];
-
-const WITH_MINUS: [(&[u8], Form); 1] = [(b"-", WithoutIndex(Subtraction))];
-
-const WITH_LESS: [(&[u8], Form); 2] = [
-    (b"<=", WithoutIndex(Chainable(Op::Le))),
-    (b"<", WithoutIndex(Chainable(Op::Lt))),
-];
-
-const WITH_EQUALS: [(&[u8], Form); 2] = [
+// The written operators, in the order of the theories.
+static OPERATORS: [(&[u8], Form); 56] = [
+    (b"not", WithoutIndex(Plain(Op::Not))),
+    (b"and", WithoutIndex(OverAll(Op::And))),
+    (b"or", WithoutIndex(OverAll(Op::Or))),
+    (b"xor", WithoutIndex(LeftAssociative(Op::Xor))),
     (b"=>", WithoutIndex(RightAssociative(Op::Implies))),
     (b"=", WithoutIndex(Chainable(Op::Equal))),
-];
-
-const WITH_GREATER: [(&[u8], Form); 2] = [
+    (b"distinct", WithoutIndex(Plain(Op::Distinct))),
+    (b"ite", WithoutIndex(Plain(Op::Ite))),
+    (b"-", WithoutIndex(Subtraction)),
+    (b"+", WithoutIndex(OverAll(Op::Add))),
+    (b"*", WithoutIndex(OverAll(Op::Mul))),
+    (b"div", WithoutIndex(LeftAssociative(Op::Div))),
+    (b"mod", WithoutIndex(Plain(Op::Mod))),
+    (b"abs", WithoutIndex(Plain(Op::Abs))),
+    (b"<=", WithoutIndex(Chainable(Op::Le))),
+    (b"<", WithoutIndex(Chainable(Op::Lt))),
     (b">=", WithoutIndex(ChainableExchanged(Op::Le))),
     (b">", WithoutIndex(ChainableExchanged(Op::Lt))),
-];
-
-const WITH_A: [(&[u8], Form); 2] = [
-    (b"and", WithoutIndex(OverAll(Op::And))),
-    (b"abs", WithoutIndex(Plain(Op::Abs))),
-];
-
-const WITH_C: [(&[u8], Form); 1] = [(b"concat", WithoutIndex(Plain(Op::Concat)))];
-
-const WITH_D: [(&[u8], Form); 3] = [
-    (b"distinct", WithoutIndex(Plain(Op::Distinct))),
-    (b"div", WithoutIndex(LeftAssociative(Op::Div))),
     (b"divisible", Divisible),
-];
-
-const WITH_E: [(&[u8], Form); 1] = [(b"extract", Extract)];
-
-const WITH_I: [(&[u8], Form); 1] = [(b"ite", WithoutIndex(Plain(Op::Ite)))];
-
-const WITH_M: [(&[u8], Form); 1] = [(b"mod", WithoutIndex(Plain(Op::Mod)))];
-
-const WITH_N: [(&[u8], Form); 1] = [(b"not", WithoutIndex(Plain(Op::Not)))];
-
-const WITH_O: [(&[u8], Form); 1] = [(b"or", WithoutIndex(OverAll(Op::Or)))];
-
-const WITH_R: [(&[u8], Form); 3] = [
-    (b"repeat", Repeat),
-    (b"rotate_left", RotateLeft),
-    (b"rotate_right", RotateRight),
-];
-
-const WITH_S: [(&[u8], Form); 3] = [
-    (b"sign_extend", SignExtend),
-    (b"select", WithoutIndex(Plain(Op::Select))),
-    (b"store", WithoutIndex(Plain(Op::Store))),
-];
-
-const WITH_X: [(&[u8], Form); 1] = [(b"xor", WithoutIndex(LeftAssociative(Op::Xor)))];
-
-const WITH_Z: [(&[u8], Form); 1] = [(b"zero_extend", ZeroExtend)];
-
-const WITH_BVA: [(&[u8], Form); 3] = [
-    (b"bvand", WithoutIndex(LeftAssociative(Op::BvAnd))),
-    (b"bvadd", WithoutIndex(LeftAssociative(Op::BvAdd))),
-    (b"bvashr", WithoutIndex(Plain(Op::BvAshr))),
-];
-
-const WITH_BVC: [(&[u8], Form); 1] = [(b"bvcomp", WithoutIndex(Plain(Op::BvComp)))];
-
-const WITH_BVL: [(&[u8], Form); 1] = [(b"bvlshr", WithoutIndex(Plain(Op::BvLshr)))];
-
-const WITH_BVM: [(&[u8], Form); 1] = [(b"bvmul", WithoutIndex(LeftAssociative(Op::BvMul)))];
-
-const WITH_BVN: [(&[u8], Form); 4] = [
+    (b"concat", WithoutIndex(Plain(Op::Concat))),
+    (b"extract", Extract),
     (b"bvnot", WithoutIndex(Plain(Op::BvNot))),
     (b"bvneg", WithoutIndex(Plain(Op::BvNeg))),
+    (b"bvand", WithoutIndex(LeftAssociative(Op::BvAnd))),
+    (b"bvor", WithoutIndex(LeftAssociative(Op::BvOr))),
+    (b"bvxor", WithoutIndex(LeftAssociative(Op::BvXor))),
+    (b"bvadd", WithoutIndex(LeftAssociative(Op::BvAdd))),
+    (b"bvmul", WithoutIndex(LeftAssociative(Op::BvMul))),
     (b"bvnand", WithoutIndex(Complemented(Op::BvAnd))),
     (b"bvnor", WithoutIndex(Complemented(Op::BvOr))),
-];
-
-const WITH_BVO: [(&[u8], Form); 1] = [(b"bvor", WithoutIndex(LeftAssociative(Op::BvOr)))];
-
-const WITH_BVS: [(&[u8], Form); 9] = [
+    (b"bvxnor", WithoutIndex(Complemented(Op::BvXor))),
     (b"bvsub", WithoutIndex(Plain(Op::BvSub))),
+    (b"bvudiv", WithoutIndex(Plain(Op::BvUdiv))),
+    (b"bvurem", WithoutIndex(Plain(Op::BvUrem))),
     (b"bvsdiv", WithoutIndex(Plain(Op::BvSdiv))),
     (b"bvsrem", WithoutIndex(Plain(Op::BvSrem))),
     (b"bvsmod", WithoutIndex(Plain(Op::BvSmod))),
     (b"bvshl", WithoutIndex(Plain(Op::BvShl))),
-    (b"bvslt", WithoutIndex(Plain(Op::BvSlt))),
-    (b"bvsle", WithoutIndex(Plain(Op::BvSle))),
-    (b"bvsgt", WithoutIndex(Exchanged(Op::BvSlt))),
-    (b"bvsge", WithoutIndex(Exchanged(Op::BvSle))),
-];
-
-const WITH_BVU: [(&[u8], Form); 6] = [
-    (b"bvudiv", WithoutIndex(Plain(Op::BvUdiv))),
-    (b"bvurem", WithoutIndex(Plain(Op::BvUrem))),
+    (b"bvlshr", WithoutIndex(Plain(Op::BvLshr))),
+    (b"bvashr", WithoutIndex(Plain(Op::BvAshr))),
+    (b"bvcomp", WithoutIndex(Plain(Op::BvComp))),
     (b"bvult", WithoutIndex(Plain(Op::BvUlt))),
     (b"bvule", WithoutIndex(Plain(Op::BvUle))),
+    (b"bvslt", WithoutIndex(Plain(Op::BvSlt))),
+    (b"bvsle", WithoutIndex(Plain(Op::BvSle))),
     (b"bvugt", WithoutIndex(Exchanged(Op::BvUlt))),
     (b"bvuge", WithoutIndex(Exchanged(Op::BvUle))),
+    (b"bvsgt", WithoutIndex(Exchanged(Op::BvSlt))),
+    (b"bvsge", WithoutIndex(Exchanged(Op::BvSle))),
+    (b"repeat", Repeat),
+    (b"zero_extend", ZeroExtend),
+    (b"sign_extend", SignExtend),
+    (b"rotate_left", RotateLeft),
+    (b"rotate_right", RotateRight),
+    (b"select", WithoutIndex(Plain(Op::Select))),
+    (b"store", WithoutIndex(Plain(Op::Store))),
 ];
 
-const WITH_BVX: [(&[u8], Form); 2] = [
-    (b"bvxor", WithoutIndex(LeftAssociative(Op::BvXor))),
-    (b"bvxnor", WithoutIndex(Complemented(Op::BvXor))),
-];
+// How many slots the names go to.
+const SLOTS: usize = 128;
 
-// The form of this name.
-fn form_in(operators: &[(&[u8], Form)], name: &[u8]) -> Option<Form>
-    ensures { found result ≡ named_in (map (λ other. (other.0.now, form_seen other.1)) operators.now) name.now }
-{
-    for (other, form) in operators {
-        if *other == name {
-            return Some(*form);
-        }
-    }
-    None
-}
+// At each slot the place of the only operator whose name goes there, or 0 if there is none.
+static PLACES: [u8; SLOTS] = [
+    32, 0, 0, 0, 0, 0, 0, 29, 0, 0, 0, 0, 6, 0, 0, 4, 35, 0, 47, 21, 0, 25, 0, 43, 0, 0, 50, 0, 0,
+    11, 0, 3, 0, 0, 15, 0, 8, 0, 0, 0, 52, 0, 0, 0, 0, 0, 0, 19, 0, 0, 0, 13, 31, 0, 18, 0, 48, 0,
+    0, 22, 0, 44, 10, 30, 0, 0, 0, 0, 5, 0, 33, 0, 45, 26, 34, 39, 0, 41, 27, 0, 1, 12, 0, 23, 53,
+    0, 0, 55, 0, 0, 0, 0, 28, 0, 0, 0, 9, 0, 0, 37, 36, 49, 17, 0, 0, 0, 0, 0, 0, 14, 46, 16, 0,
+    51, 0, 42, 38, 2, 0, 7, 24, 0, 40, 54, 0, 20, 0, 0,
+];
 
 /// The form of the written operator of this name, and None exactly where there is no operator of this name. It takes no
 /// memory.
@@ -189,57 +143,65 @@ pub fn form_named(name: &[u8]) -> Option<Form>
     ensures named { found result ≡ operator_named name.now }
     ensures apt { IfSome result (λ form. IsTrue (is_apt_at (form_seen form))) }
 {
-    form_by_byte(name)
+    form_by_slot(name)
 }
 
-fn form_by_byte(name: &[u8]) -> Option<Form>
+fn form_by_slot(name: &[u8]) -> Option<Form>
     ensures { found result ≡ operator_named name.now }
 {
-    let [first, ..] = name else { return None };
-    match *first {
-        b'b' => vector_form(name),
-        b'*' => form_in(&WITH_STAR, name),
-        b'+' => form_in(&WITH_PLUS, name),
-        b'-' => form_in(&WITH_MINUS, name),
-        b'<' => form_in(&WITH_LESS, name),
-        b'=' => form_in(&WITH_EQUALS, name),
-        b'>' => form_in(&WITH_GREATER, name),
-        b'a' => form_in(&WITH_A, name),
-        b'c' => form_in(&WITH_C, name),
-        b'd' => form_in(&WITH_D, name),
-        b'e' => form_in(&WITH_E, name),
-        b'i' => form_in(&WITH_I, name),
-        b'm' => form_in(&WITH_M, name),
-        b'n' => form_in(&WITH_N, name),
-        b'o' => form_in(&WITH_O, name),
-        b'r' => form_in(&WITH_R, name),
-        b's' => form_in(&WITH_S, name),
-        b'x' => form_in(&WITH_X, name),
-        b'z' => form_in(&WITH_Z, name),
-        _ => None,
-    }
-}
-
-// The form of this name, which begins with a `b`.
-fn vector_form(name: &[u8]) -> Option<Form>
-    requires { slice_index_or name.now 0 0 ≡ 98 }
-    ensures { found result ≡ operator_named name.now }
-{
-    let [_, _, third, ..] = name else {
+    if name.is_empty() {
         return None;
-    };
-    match *third {
-        b'a' => form_in(&WITH_BVA, name),
-        b'c' => form_in(&WITH_BVC, name),
-        b'l' => form_in(&WITH_BVL, name),
-        b'm' => form_in(&WITH_BVM, name),
-        b'n' => form_in(&WITH_BVN, name),
-        b'o' => form_in(&WITH_BVO, name),
-        b's' => form_in(&WITH_BVS, name),
-        b'u' => form_in(&WITH_BVU, name),
-        b'x' => form_in(&WITH_BVX, name),
-        _ => None,
     }
+    form_at(&OPERATORS, place(name), name)
+}
+
+// The form at this place, if it has this name.
+fn form_at(operators: &[(&[u8], Form)], place: usize, name: &[u8]) -> Option<Form>
+    requires { place < length operators.now }
+    ensures { found result ≡ named_at (map (λ other. (other.0.now, form_seen other.1)) operators.now) place name.now }
+{
+    let (other, form) = &operators[place];
+    if !are_equal(other, name) {
+        return None;
+    }
+    Some(*form)
+}
+
+// Whether the names are equal. They are short, so that one byte after the other is sooner compared than by `==`.
+fn are_equal(a: &[u8], b: &[u8]) -> bool
+    ensures { result ≡ name_eq a.now b.now }
+{
+    if a.len() != b.len() {
+        return false;
+    }
+    for (k, byte) in a.iter().enumerate() {
+        if *byte != b[k] {
+            return false;
+        }
+    }
+    true
+}
+
+// The place of the only operator that can have this name.
+fn place(name: &[u8]) -> usize
+    requires { 0 < length name.now }
+    ensures place { result ≡ place_by PLACES name.now }
+    ensures within { result < 56 }
+{
+    PLACES[slot(name)] as usize
+}
+
+// The slot of a name. The factors were searched for, so that no two operators have one slot.
+fn slot(name: &[u8]) -> usize
+    requires { 0 < length name.now }
+    ensures slot { result ≡ slot name.now }
+    ensures within { result < 128 }
+{
+    let len = name.len();
+    let last = name[len - 1] as usize;
+    let last_but_one = name[len.saturating_sub(2)] as usize;
+    let third = name[(len - 1).min(2)] as usize;
+    (6 * last + last_but_one + 27 * third + 42 * (len % SLOTS)) % SLOTS
 }
 
 impl Form {

@@ -1,14 +1,14 @@
 //! How nodes are hashed.
 
 ghost use Rattle.std.specs.Prelude.{◌≡◌};
-ghost use Rattle.term_table.specs.Hashing.{ranked, written, finished};
+ghost use Rattle.term_table.specs.Hashing.{initial, counted, ranked, written, finished};
 
-use std::hash::{FoldHasher, Hasher};
+use std::hash::{BuildHasher, FoldHasher, Hasher};
 
 /// Numbers that differ in their last five bits alone are neighbours.
 const BLOCK: u64 = 32;
 
-/// Numbers that are less than this apart count by how far they are apart.
+/// Numbers that are at most this apart count by how far they are apart.
 const NEAR: u64 = 4096;
 
 /// The bits of a hash that tell neighbours apart: the tag, and which of four groups of an index table.
@@ -23,26 +23,52 @@ const TOGETHER: u64 = 0x00FF_FFFC;
 /// looks for neighbours first in the same four groups, which lie side by side in memory, so nodes that are made one after
 /// the other over one another are found without a walk through all of the table. Of one operator and as many operands
 /// only a few dozen nodes are neighbours, so that no four groups are first for many.
-#[derive(Clone, Copy, Default)]
+#[derive(Clone, Copy)]
 pub(crate) struct NodeHasher {
-    /// All that was written.
-    whole: FoldHasher,
-    /// The same, but for the greatest number and for the order of numbers.
+    /// All that was written, but for the greatest number, which goes in last.
     rest: FoldHasher,
     greatest: u64,
+}
+
+/// What makes the hashers of a map whose keys are nodes.
+#[derive(Clone, Copy)]
+pub(crate) struct BuildNodeHasher;
+
+impl BuildHasher for BuildNodeHasher {
+    type Hasher = NodeHasher;
+
+    ghost build_hasher = { λ _. initial };
+
+    fn build_hasher(&self) -> NodeHasher {
+        NodeHasher {
+            rest: FoldHasher::default(),
+            greatest: 0,
+        }
+    }
 }
 
 impl NodeHasher {
     fn rank(&mut self, number: u64)
         ensures { self.new ≡ ranked self.old number }
     {
-        let least = self.greatest.min(number);
-        let most = self.greatest.max(number);
-        let apart = most - least;
-        self.rest
-            .write_u64(if apart < NEAR { apart } else { least });
-        self.greatest = most;
+        self.rest.write_u64(counted(self.greatest, number));
+        self.greatest = self.greatest.max(number);
     }
+}
+
+// How a number counts behind the greatest so far: by its place among those that are near it, or else by the lesser of the
+// two, each in a range of its own.
+fn counted(greatest: u64, number: u64) -> u64
+    ensures { result ≡ counted greatest number }
+{
+    let place = number.wrapping_add(NEAR).wrapping_sub(greatest);
+    if place < 2 * NEAR {
+        return place;
+    }
+    if greatest < number {
+        return greatest.wrapping_add(2 * NEAR);
+    }
+    !number
 }
 
 impl Hasher for NodeHasher {
@@ -53,11 +79,12 @@ impl Hasher for NodeHasher {
     fn finish(&self) -> u64 {
         let mut block = self.rest;
         block.write_u64(self.greatest / BLOCK);
-        self.whole.finish() & APART | block.finish() & TOGETHER
+        let mut whole = block;
+        whole.write_u64(self.greatest);
+        whole.finish() & APART | block.finish() & TOGETHER
     }
 
     fn write(&mut self, bytes: &[u8]) {
-        self.whole.write(bytes);
         match <[u8; 8]>::try_from(bytes) {
             Ok(number) => self.rank(u64::from_le_bytes(number)),
             Err(_) => self.rest.write(bytes),

@@ -196,6 +196,7 @@ impl Table {
     }
 
     // Quantifiers bind constants of sort Bool or of a bit-vector sort, each of another name.
+    #[inline(never)]
     fn binder(&self, kids: &[NodeId]) -> Result<SortId, RankFault>
         requires { AreNodes self.now kids.now }
         ensures rank { rank_seen self.now.sorts result ≡ rank_quantifier (trees_at self.now kids.now) (kid_sorts self.now kids.now) }
@@ -313,6 +314,7 @@ impl Table {
         }
     }
 
+    #[inline(never)]
     fn distinctness(&self, kids: &[NodeId]) -> Result<SortId, RankFault>
         requires { AreNodes self.now kids.now }
         ensures rank { rank_seen self.now.sorts result ≡ shape_rank distinctness (kid_sorts self.now kids.now) }
@@ -448,6 +450,7 @@ impl Table {
         }
     }
 
+    #[inline(never)]
     fn selection(&self, kids: &[NodeId]) -> Result<SortId, RankFault>
         requires { AreNodes self.now kids.now }
         ensures rank { rank_seen self.now.sorts result ≡ shape_rank selection (kid_sorts self.now kids.now) }
@@ -463,6 +466,7 @@ impl Table {
         }
     }
 
+    #[inline(never)]
     fn storing(&self, kids: &[NodeId]) -> Result<SortId, RankFault>
         requires { AreNodes self.now kids.now }
         ensures rank { rank_seen self.now.sorts result ≡ shape_rank storing (kid_sorts self.now kids.now) }
@@ -481,6 +485,7 @@ impl Table {
         }
     }
 
+    #[inline(never)]
     fn filling(&self, kids: &[NodeId], to: SortId) -> Result<SortId, RankFault>
         requires kids { AreNodes self.now kids.now }
         requires to { IsSortId self.now.sorts to }
@@ -547,6 +552,7 @@ impl Table {
         ensures rank { rank_seen self.now.sorts result ≡ rank_over self.now op (trees_at self.now kids.now) }
         ensures sorts { IsRankOver self.now.sorts result }
     {
+        // The rare ones stand out of line, so that the others have few registers to save.
         match op {
             Op::Truth(_) => self.uniform(kids, 0, BOOL, BOOL),
             Op::Whole(n) => self.whole_number(kids, n),

@@ -6,26 +6,74 @@ ghost use Rattle.smt_terms.specs.Made.{minus};
 ghost use Rattle.smt_terms.specs.Rank.{sort_of, is_array};
 ghost use Rattle.smt_values.specs.SortIds.{sort_at, IsSortId, IsPlain, AddsSort};
 
-use crate::hashing::NodeHasher;
+use crate::hashing::BuildNodeHasher;
 use indexmap::{IndexMap, IndexSet};
 use smallvec::SmallVec;
 use smt_terms::{BuildNameHasher, NodeId};
 use smt_values::{Op, SortId, SortTable, SymId};
 use std::alloc::{AllocError, Global};
-use std::hash::BuildHasherDefault;
+use std::hash::{Hash, Hasher};
 use std::marker::Model;
 
 /// A node: its operator and its operands.
-#[derive(Debug, PartialEq, Eq, Hash, Drop)]
+#[derive(Debug, Drop)]
 struct Node {
     op: Op,
     kids: SmallVec<NodeId, 4>,
 }
 
+impl PartialEq for Node {
+    ghost use Rattle.term_table.specs.SameNodes.{are_same, partial_sameness};
+
+    ghost eq = { are_same };
+
+    ghost laws = { partial_sameness };
+
+    // Out of line, as most nodes that are looked up meet none that may be the same.
+    #[inline(never)]
+    fn eq(&self, other: &Node) -> bool {
+        self.op == other.op && self.kids == other.kids
+    }
+}
+
+impl Eq for Node {
+    ghost use Rattle.term_table.specs.SameNodes.{sameness};
+
+    ghost laws = { sameness };
+}
+
+impl Hash for Node {
+    ghost use Rattle.term_table.specs.Hashing.{node_writes, node_writes_alike};
+
+    ghost hash_input = { node_writes };
+
+    ghost respects_eq = { node_writes_alike };
+
+    fn hash<H: Hasher>(&self, state: &mut H) {
+        self.op.hash(state);
+        NodeId::hash_slice(self.kids.as_slice(), state);
+    }
+}
+
+// These operands as a node holds them. At most four take no memory.
+fn operands(alloc: Global, kids: &[NodeId]) -> Result<SmallVec<NodeId, 4>, AllocError>
+    ensures items { IfOk result (λ list. list.items ≡ kids.now) }
+    ensures few { length kids.now ≤ 4 → IsOk result }
+{
+    let none = NodeId(0);
+    match kids {
+        [] => Ok(SmallVec::new(alloc)),
+        [a] => Ok(SmallVec::from_buf_and_len(alloc, [*a, none, none, none], 1)),
+        [a, b] => Ok(SmallVec::from_buf_and_len(alloc, [*a, *b, none, none], 2)),
+        [a, b, c] => Ok(SmallVec::from_buf_and_len(alloc, [*a, *b, *c, none], 3)),
+        _ => SmallVec::from_slice(alloc, kids),
+    }
+}
+
 /// A symbol: its name and its rank.
 #[derive(Debug, PartialEq, Eq, Hash, Drop)]
 struct Entry {
-    name: Vec<u8>,
+    name: SmallVec<u8, 24>,
     args: Vec<SortId>,
     to: SortId,
 }
@@ -38,7 +86,7 @@ pub struct Table {
     alloc: Global,
     sorts: SortTable,
     symbols: IndexSet<Entry, BuildNameHasher>,
-    nodes: IndexMap<Node, SortId, BuildHasherDefault<NodeHasher>>,
+    nodes: IndexMap<Node, SortId, BuildNodeHasher>,
 }
 
 impl Model for Table {
@@ -71,7 +119,7 @@ impl Table {
             alloc,
             sorts: SortTable::new(alloc),
             symbols: IndexSet::with_hasher(alloc, BuildNameHasher::new()),
-            nodes: IndexMap::with_hasher(alloc, BuildHasherDefault::new()),
+            nodes: IndexMap::with_hasher(alloc, BuildNodeHasher),
         }
     }
 
@@ -141,7 +189,7 @@ impl Table {
     {
         let node = Node {
             op,
-            kids: SmallVec::from_slice(self.alloc, kids)?,
+            kids: operands(self.alloc, kids)?,
         };
         Ok(self.place(&node))
     }
@@ -195,7 +243,7 @@ impl Table {
     {
         let node = Node {
             op,
-            kids: SmallVec::from_slice(self.alloc, kids)?,
+            kids: operands(self.alloc, kids)?,
         };
         let id = self.intern_node(node, sort)?;
         Ok(id)
@@ -245,7 +293,7 @@ impl Table {
         let sort = self.rank(op, kids).unwrap();
         let node = Node {
             op,
-            kids: SmallVec::from_slice(self.alloc, kids).unwrap(),
+            kids: operands(self.alloc, kids).unwrap(),
         };
         self.intern_node(node, sort).unwrap()
     }
@@ -320,7 +368,7 @@ impl Table {
         ensures err { OnErr result (self.new ≡ self.old) }
     {
         let entry = Entry {
-            name: Vec::from_slice(self.alloc, name)?,
+            name: SmallVec::from_slice(self.alloc, name)?,
             args: Vec::from_slice(self.alloc, args)?,
             to,
         };

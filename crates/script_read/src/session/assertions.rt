@@ -16,17 +16,17 @@ use crate::places::fault;
 use crate::scripts::Command;
 use crate::session::Session;
 use crate::terms::read_term;
+use crate::terms::term_reader::TermReader;
 use smt_lex::Forest;
-use std::alloc::Global;
 use term_table::Table;
 
 /// `(assert term)`, whose term begins at token `i`.
-pub fn assert_term(
-    alloc: Global,
+pub fn assert_term<'a>(
+    reader: &mut TermReader<'a>,
     table: &mut Table,
-    forest: &Forest,
+    forest: &'a Forest,
     i: usize,
-    session: &mut Session,
+    session: &mut Session<'a>,
 ) -> Result<Command, ReadFault>
     requires read { IsRead forest.now }
     requires form { IsForm forest.now.tokens i }
@@ -39,8 +39,8 @@ pub fn assert_term(
     ensures asserted { session.new.asserted ≤ session.old.asserted + 1 }
     ensures grows { GrowsTo table.old table.new }
 {
-    let locals = Locals::new(alloc);
-    let id = read_term(alloc, table, forest, i, &mut session.sofar, locals, None)?;
+    let locals = Locals::new(reader.alloc);
+    let id = read_term(reader, table, forest, i, &mut session.sofar, locals, None)?;
     if !has_sort(table, id, BOOL) {
         return Err(fault(forest, i, Cause::WrongSort).into());
     }

@@ -27,6 +27,7 @@ use crate::session::Session;
 use crate::session::new_names::check_new_name;
 use crate::sorts::read_sort;
 use crate::terms::read_term;
+use crate::terms::term_reader::TermReader;
 use smt_lex::Forest;
 use smt_terms::SortId;
 use std::alloc::{AllocError, Global};
@@ -41,15 +42,15 @@ pub struct Header {
 }
 
 /// `(define-fun name (parameter ..) sort body)`
-pub fn define_symbol(
-    alloc: Global,
+pub fn define_symbol<'a>(
+    reader: &mut TermReader<'a>,
     table: &mut Table,
-    forest: &Forest,
+    forest: &'a Forest,
     name: usize,
     parameters: usize,
     sort: usize,
     body: usize,
-    session: &mut Session,
+    session: &mut Session<'a>,
 ) -> Result<(), ReadFault>
     requires read { IsRead forest.now }
     requires text { SparesText forest.now.tokens session.old.sofar.fresh }
@@ -64,8 +65,9 @@ pub fn define_symbol(
     ensures grows { GrowsTo table.old table.new }
 {
     check_new_name(forest, name, &session.sofar.scope)?;
+    let alloc = reader.alloc;
     let header = read_header(alloc, table, forest, parameters, sort, &session.sofar.scope)?;
-    define_body(alloc, table, forest, name, body, &header, session)?;
+    define_body(reader, table, forest, name, body, &header, session)?;
     Ok(())
 }
 
@@ -93,14 +95,14 @@ fn read_header(
 }
 
 // Reads the body of a definition below its parameters, and gives the name that definition.
-fn define_body(
-    alloc: Global,
+fn define_body<'a>(
+    reader: &mut TermReader<'a>,
     table: &mut Table,
-    forest: &Forest,
+    forest: &'a Forest,
     name: usize,
     body: usize,
     header: &Header,
-    session: &mut Session,
+    session: &mut Session<'a>,
 ) -> Result<(), ReadFault>
     requires read { IsRead forest.now }
     requires text { SparesText forest.now.tokens session.old.sofar.fresh }
@@ -116,10 +118,11 @@ fn define_body(
     ensures asserted { session.new.asserted ≡ session.old.asserted }
     ensures grows { GrowsTo table.old table.new }
 {
+    let alloc = reader.alloc;
     let constants = parameter_constants(alloc, table, &header.parameters)?;
     let locals = bind_parameters(alloc, forest, &header.parameters, &constants)?;
     let node = read_term(
-        alloc,
+        reader,
         table,
         forest,
         body,

@@ -21,12 +21,12 @@ use std::alloc::Global;
 use term_table::Table;
 
 /// `(declare-sort name arity)`
-pub fn declare_sort(
+pub fn declare_sort<'a>(
     table: &mut Table,
-    forest: &Forest,
+    forest: &'a Forest,
     name: usize,
     arity: usize,
-    session: &mut Session,
+    session: &mut Session<'a>,
 ) -> Result<Command, ReadFault>
     requires read { IsRead forest.now }
     requires name { IsNameAt forest.now.tokens name }
@@ -48,14 +48,14 @@ pub fn declare_sort(
 }
 
 /// `(define-sort name () sort)`
-pub fn define_sort(
+pub fn define_sort<'a>(
     alloc: Global,
     table: &mut Table,
-    forest: &Forest,
+    forest: &'a Forest,
     name: usize,
     parameters: usize,
     sort: usize,
-    session: &mut Session,
+    session: &mut Session<'a>,
 ) -> Result<(), ReadFault>
     requires read { IsRead forest.now }
     requires name { IsNameAt forest.now.tokens name }

@@ -28,14 +28,14 @@ use std::alloc::{AllocError, Global};
 use term_table::Table;
 
 /// `(declare-fun name (argument ..) sort)`, and `(declare-const name sort)` without a list of arguments.
-pub fn declare_symbol(
+pub fn declare_symbol<'a>(
     alloc: Global,
     table: &mut Table,
-    forest: &Forest,
+    forest: &'a Forest,
     name: usize,
     arguments: Option<usize>,
     sort: usize,
-    session: &mut Session,
+    session: &mut Session<'a>,
 ) -> Result<Command, ReadFault>
     requires read { IsRead forest.now }
     requires text { SparesText forest.now.tokens session.old.sofar.fresh }

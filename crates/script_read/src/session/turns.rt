@@ -23,17 +23,17 @@ use crate::session::options::{check, reset, reset_assertions, set_globals};
 use crate::session::sort_names::{declare_sort, define_sort};
 use crate::session::symbols::declare_symbol;
 use crate::shapes::{Outline, outline_of};
+use crate::terms::term_reader::TermReader;
 use smt_lex::Forest;
-use std::alloc::Global;
 use term_table::Table;
 
 /// Reads the command that begins at token `i`, and answers it; None where it is a definition, which leaves no command.
-pub fn read_command(
-    alloc: Global,
+pub fn read_command<'a>(
+    reader: &mut TermReader<'a>,
     table: &mut Table,
-    forest: &Forest,
+    forest: &'a Forest,
     i: usize,
-    session: &mut Session,
+    session: &mut Session<'a>,
 ) -> Result<Option<Command>, ReadFault>
     requires read { IsRead forest.now }
     requires form { IsForm forest.now.tokens i }
@@ -47,18 +47,18 @@ pub fn read_command(
     ensures grows { GrowsTo table.old table.new }
 {
     let outline = outline_of(forest, i)?;
-    let command = take_outline(alloc, table, forest, i, outline, session)?;
+    let command = take_outline(reader, table, forest, i, outline, session)?;
     Ok(command)
 }
 
 // The command of this outline, which begins at token `i`.
-fn take_outline(
-    alloc: Global,
+fn take_outline<'a>(
+    reader: &mut TermReader<'a>,
     table: &mut Table,
-    forest: &Forest,
+    forest: &'a Forest,
     i: usize,
     outline: Outline,
-    session: &mut Session,
+    session: &mut Session<'a>,
 ) -> Result<Option<Command>, ReadFault>
     requires read { IsRead forest.now }
     requires form { IsForm forest.now.tokens i }
@@ -72,6 +72,7 @@ fn take_outline(
     ensures asserted { session.new.asserted ≤ session.old.asserted + 1 }
     ensures grows { GrowsTo table.old table.new }
 {
+    let alloc = reader.alloc;
     match outline {
         Outline::Passing => Ok(Some(Command::Passed(form_text(alloc, forest, i)?))),
         Outline::GlobalOption(value) => Ok(Some(set_globals(forest, i, value, session)?)),
@@ -101,10 +102,10 @@ fn take_outline(
             sort,
             body,
         } => {
-            define_symbol(alloc, table, forest, name, parameters, sort, body, session)?;
+            define_symbol(reader, table, forest, name, parameters, sort, body, session)?;
             Ok(None)
         }
-        Outline::Assertion(term) => Ok(Some(assert_term(alloc, table, forest, term, session)?)),
+        Outline::Assertion(term) => Ok(Some(assert_term(reader, table, forest, term, session)?)),
         Outline::Checking => Ok(Some(check(session))),
         Outline::Assuming(literals) => Ok(Some(assume(alloc, table, forest, literals, session)?)),
         Outline::Pushing(levels) => Ok(Some(push(forest, i, levels, session)?)),

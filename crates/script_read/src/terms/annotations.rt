@@ -33,14 +33,14 @@ use std::alloc::{AllocError, Global};
 use term_table::Table;
 use term_walk::free_symbols;
 
-impl TermReader<'_> {
+impl<'a> TermReader<'a> {
     ghost use Rattle.script_read.specs.declared.sofar.Sofar.{Sofar as SofarSeen};
     ghost use Rattle.script_read.specs.Waiting.{Going, GoingBack, Stepped, SomeGoing, SomeGoingBack, Keeps, left_of, left_behind, Opens};
 
     /// Begins the term of the annotation of token `list`.
     pub fn open_annotation(
         &mut self,
-        forest: &Forest,
+        forest: &'a Forest,
         list: usize,
         first: usize,
     ) -> Result<Next, ReadFault>
@@ -60,8 +60,8 @@ impl TermReader<'_> {
     pub fn resume_annotated(
         &mut self,
         table: &Table,
-        forest: &Forest,
-        sofar: &mut Sofar,
+        forest: &'a Forest,
+        sofar: &mut Sofar<'a>,
         frame: Annotation,
         node: NodeId,
         behind: usize,
@@ -91,11 +91,11 @@ impl TermReader<'_> {
 }
 
 // Gives a term the names that its annotation has. A term with a name has no quantified name and no parameter free.
-fn give_names(
+fn give_names<'a>(
     alloc: Global,
     table: &Table,
-    forest: &Forest,
-    scope: &mut Scope,
+    forest: &'a Forest,
+    scope: &mut Scope<'a>,
     locals: &Locals,
     defines: Option<usize>,
     frame: Annotation,

@@ -1,12 +1,12 @@
 //! The head of an application is read.
 
-ghost use Rattle.std.specs.Prelude.{◌≡◌, ◌≤◌, ℕ, List, length, IsTrue, None, Some};
+ghost use Rattle.std.specs.Prelude.{◌≡◌, ◌≤◌, ℕ, List, [], length, IsTrue, None, Some};
 ghost use Rattle.smt_lex.specs.Lex.{Token};
 ghost use Rattle.smt_lex.specs.Names.{Name};
 ghost use Rattle.smt_lex.specs.Forest.{token_at};
-ghost use Rattle.smt_lex.specs.Forms.{Forms, atom, node};
+ghost use Rattle.smt_lex.specs.Forms.{Forms, atom, node, none};
 ghost use Rattle.smt_terms.specs.Fresh.{Supply};
-ghost use Rattle.smt_terms.specs.Written.{at_indices};
+ghost use Rattle.smt_terms.specs.Written.{at_indices, operator_named};
 ghost use Rattle.sort_check.specs.Forms.{form_seen, is_apt_at};
 ghost use Rattle.term_table.specs.Formulas.{Formulas};
 ghost use Rattle.term_walk.specs.Walking.{GrowsTo};
@@ -16,7 +16,7 @@ ghost use Rattle.script_read.specs.Reading.{ReadBinding, ReadLocal, entry_of};
 ghost use Rattle.script_read.specs.Bound.{ShowsLocals, name_at};
 ghost use Rattle.script_read.specs.Known.{Scoping, Shows, AreScopedSorts, find};
 ghost use Rattle.script_read.specs.TermClauses.{SomeKnown};
-ghost use Rattle.script_read.specs.Waiting.{ReadsCallee};
+ghost use Rattle.script_read.specs.Waiting.{World, ReadsCallee};
 ghost use Rattle.script_read.specs.Places.{IsRead, IsForm, form_from, forms_from};
 
 use crate::causes::Cause;
@@ -24,7 +24,7 @@ use crate::faults::{Fault, ReadFault};
 use crate::lists::{Few, few_from};
 use crate::locals::Locals;
 use crate::names::{is_bit_vector_constant, is_real_name, is_theory_name, takes_no_index};
-use crate::places::{bad_form, begins, inside, is_symbol, is_word, place_of};
+use crate::places::{bad_form, begins, inside, is_name, is_symbol, is_word, place_of};
 use crate::scopes::{Entry, Scope};
 use crate::sorts::read_sort;
 use crate::terms::callees::Callee;
@@ -67,10 +67,30 @@ fn token_callee(
     requires token { form_from forest.now.tokens i ≡ atom (token_at forest.now.tokens i) }
     ensures { (t : Formulas) (supply : Supply) (live : List ReadBinding) (bound : List ReadLocal) → Shows t supply scope.now live → ShowsLocals t supply locals.now bound → ReadsCallee forest.now.tokens (world_of t supply scope.now) (callee_of bound (form_from forest.now.tokens i) live) result }
 {
+    if !is_name(forest, i) {
+        return Err(ReadFault::Refused(bad_form(forest, i)));
+    }
+    let name = forest.name(i);
+    let place = place_of(forest, i);
+    // no reserved word is the name of an operator
+    if let Some(form) = form_named(name) {
+        return plain_callee(form, place);
+    }
     if !is_symbol(forest, i) {
         return Err(ReadFault::Refused(bad_form(forest, i)));
     }
-    named_callee(forest, i, i, &Indices::none(alloc), scope, locals)
+    other_callee(name, &Indices::none(alloc), place, scope, locals)
+}
+
+// The written operator of this form, without an index.
+fn plain_callee(form: Form, place: u32) -> Result<Callee, ReadFault>
+    requires { IsTrue (is_apt_at (form_seen form)) }
+    ensures { (ts : List Token) (w : World) → ReadsCallee ts w (written_at place none (at_indices (form_seen form) [])) result }
+{
+    match form {
+        Form::WithoutIndex(operator) => Ok(Callee::Written(operator)),
+        _ => Err(refused(Cause::BadForm, place)),
+    }
 }
 
 // What the list of token `i` calls, whose forms begin at token `first`.
@@ -174,12 +194,26 @@ fn named_callee(
     if let Some(form) = form_named(text) {
         return written_callee(form, indices, place);
     }
-    if locals.find(text).is_some() {
+    other_callee(text, indices, place, scope, locals)
+}
+
+// What a symbol calls that names no operator, with these indices, where the head begins at this place.
+fn other_callee(
+    name: &[u8],
+    indices: &Indices,
+    place: u32,
+    scope: &Scope,
+    locals: &Locals,
+) -> Result<Callee, ReadFault>
+    requires { operator_named name.now ≡ None }
+    ensures { (ts : List Token) (t : Formulas) (supply : Supply) (live : List ReadBinding) (bound : List ReadLocal) (fs : Forms) (ns : List ℕ) → Shows t supply scope.now live → ShowsLocals t supply locals.now bound → AreIndices fs ns indices.now → ReadsCallee ts (world_of t supply scope.now) (named_head bound live place name.now fs ns) result }
+{
+    if locals.find(name).is_some() {
         return Err(refused(Cause::UnknownName, place));
     }
-    match scope.find(text) {
+    match scope.find(name) {
         Some(entry) => live_callee(entry, indices, place),
-        None => theory_callee(text, indices, place),
+        None => theory_callee(name, indices, place),
     }
 }
 

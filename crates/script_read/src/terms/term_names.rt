@@ -23,9 +23,9 @@ use smt_lex::Forest;
 use smt_terms::NodeId;
 
 /// Gives a term the names that the attributes of its annotation have, and tells whether there is one.
-pub fn name_term(
-    forest: &Forest,
-    scope: &mut Scope,
+pub fn name_term<'a>(
+    forest: &'a Forest,
+    scope: &mut Scope<'a>,
     defines: Option<usize>,
     frame: Annotation,
     node: NodeId,

@@ -1,7 +1,7 @@
 //! The machine that reads a term: it goes through the tokens from left to right, and what waits for a term stands on a stack
 //! of its own. At each step what is left to do gives the term, or the refusal, of the whole.
 
-ghost use Rattle.std.specs.Prelude.{◌≡◌, ◌<◌, false, length, IfOk, IfSome, Result, Some};
+ghost use Rattle.std.specs.Prelude.{◌≡◌, ◌<◌, [], false, length, IfOk, IfSome, Result, Some};
 ghost use Rattle.smt_lex.specs.Forms.{atom};
 ghost use Rattle.smt_lex.specs.Forest.{token_at};
 ghost use Rattle.smt_terms.specs.Term.{Term};
@@ -23,9 +23,10 @@ use crate::terms::vectors::read_vector;
 use smt_lex::Forest;
 use smt_terms::NodeId;
 use std::alloc::Global;
+use std::mem::replace;
 use term_table::Table;
 
-/// A term under way.
+/// A term under way. What its stacks took of memory is kept for the next term.
 #[derive(Drop)]
 pub struct TermReader<'a> {
     pub alloc: Global,
@@ -42,12 +43,37 @@ pub struct TermReader<'a> {
 impl<'a> TermReader<'a> {
     ghost use Rattle.script_read.specs.Waiting.{Going, GoingBack, Stepped, SomeGoing, SomeGoingBack, Keeps, left_of, left_behind, is_call};
 
+    /// No term is under way. It takes no memory.
+    pub fn new(alloc: Global) -> TermReader<'a> {
+        TermReader {
+            alloc,
+            defines: None,
+            locals: Locals::new(alloc),
+            frames: Vec::new(alloc),
+            operands: Vec::new(alloc),
+            callees: Vec::new(alloc),
+        }
+    }
+
+    /// Gives up what is under way, and begins below these local bindings. It takes no memory.
+    pub fn begin(&mut self, locals: Locals<'a>, defines: Option<usize>)
+        ensures frames { self.new.frames.items ≡ [] }
+        ensures locals { self.new.locals ≡ locals.entry }
+        ensures defines { self.new.defines ≡ defines }
+    {
+        self.defines = defines;
+        drop(replace(&mut self.locals, locals));
+        self.frames.clear();
+        self.operands.clear();
+        self.callees.clear();
+    }
+
     /// Begins the form of token `i`.
     pub fn open(
         &mut self,
         table: &mut Table,
         forest: &'a Forest,
-        sofar: &mut Sofar,
+        sofar: &mut Sofar<'a>,
         i: usize,
     ) -> Result<Next, ReadFault>
         requires read { IsRead forest.now }
@@ -67,7 +93,7 @@ impl<'a> TermReader<'a> {
         &mut self,
         table: &mut Table,
         forest: &'a Forest,
-        sofar: &mut Sofar,
+        sofar: &mut Sofar<'a>,
         i: usize,
     ) -> Result<Next, ReadFault>
         requires read { IsRead forest.now }
@@ -88,7 +114,7 @@ impl<'a> TermReader<'a> {
         &mut self,
         table: &mut Table,
         forest: &'a Forest,
-        sofar: &mut Sofar,
+        sofar: &mut Sofar<'a>,
         list: usize,
         first: usize,
     ) -> Result<Next, ReadFault>
@@ -125,7 +151,7 @@ impl<'a> TermReader<'a> {
         &mut self,
         table: &mut Table,
         forest: &'a Forest,
-        sofar: &mut Sofar,
+        sofar: &mut Sofar<'a>,
         frame: Frame<'a>,
         node: NodeId,
         behind: usize,
@@ -155,7 +181,7 @@ impl<'a> TermReader<'a> {
         &mut self,
         table: &mut Table,
         forest: &'a Forest,
-        sofar: &mut Sofar,
+        sofar: &mut Sofar<'a>,
         i: usize,
     ) -> Result<NodeId, ReadFault>
         requires read { IsRead forest.now }

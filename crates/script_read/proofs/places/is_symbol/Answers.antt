@@ -18,13 +18,13 @@ pub returns-in-Word-clause-yes : goal.returns-in-Word-clause-yes
 returns-in-Word-clause-yes c holds =
     symbol_here c.args.forest.now.tokens c.args.i c.requires
     ∙ symbol_word (token_at c.args.forest.now.tokens c.args.i) (sym c.item.ensures ∙ c.in-Word.is)
-    ∙ chosen c.is_reserved.result _ None _ (c.is_reserved.ensures ∙ ap is_reserved c.text.ensures.text) holds
+    ∙ chosen c.is_reserved_word.result _ None _ (c.is_reserved_word.ensures ∙ ap is_reserved c.text.ensures.text) holds
 
 pub returns-in-Word-clause-no : goal.returns-in-Word-clause-no
 returns-in-Word-clause-no c fails =
     symbol_here c.args.forest.now.tokens c.args.i c.requires
     ∙ symbol_word (token_at c.args.forest.now.tokens c.args.i) (sym c.item.ensures ∙ c.in-Word.is)
-    ∙ refused c.is_reserved.result _ None _ (c.is_reserved.ensures ∙ ap is_reserved c.text.ensures.text) fails
+    ∙ refused c.is_reserved_word.result _ None _ (c.is_reserved_word.ensures ∙ ap is_reserved c.text.ensures.text) fails
 
 pub returns-in-Quoted-clause-yes : goal.returns-in-Quoted-clause-yes
 returns-in-Quoted-clause-yes c holds =

@@ -7,8 +7,8 @@ use Rattle.script_read.specs.Steps.{StandsAt}
 use Rattle.script_read.proofs.ReaderSteps.{Going}
 use Rattle.script_read.proofs.reader.read_commands.Given as goal
 
-abbrev pub invariant-loop-alloc : goal.invariant-loop-alloc
-invariant-loop-alloc l = record {
+abbrev pub invariant-loop-next : goal.invariant-loop-next
+invariant-loop-next l = record {
   within : l.at ≤ length l.forest.tokens;
   count : l.read ≤ l.at;
   asserted : l.session.asserted ≤ l.read;
@@ -18,5 +18,5 @@ invariant-loop-alloc l = record {
   going : (s : Standing) → StandsAt l.fn.table l.fn.session s → Going l.table l.session l.commands l.forest.tokens l.read l.at (read_commands 1 (forms_from l.forest.tokens 0) s);
 }
 
-abbrev pub decreases-loop-alloc : goal.decreases-loop-alloc
-decreases-loop-alloc l = length l.forest.tokens - l.at
+abbrev pub decreases-loop-next : goal.decreases-loop-next
+decreases-loop-next l = length l.forest.tokens - l.at

@@ -1,12 +1,9 @@
--- The table is held against the definition at each of the 256 bytes, by computing.
-use Rattle.std.proofs.Common.{◌≡◌, ℕ, ◌<◌, true, List, get_or, nat_eq, not, refl, arith}
-use Rattle.std.proofs.lemmas.Bool.{agree_below, agree_below_at}
-use Rattle.smt_lex.specs.declared.classes.TheConstants.{CLASSES}
-use Rattle.smt_lex.specs.Lexicon.{is_symbol_byte}
+use Rattle.std.proofs.Common.{sym, ◌∙◌, ap}
+use Rattle.smt_lex.proofs.ClassFacts.{told, is_symbol_class, symbol_by, no_symbol_by}
 use Rattle.smt_lex.proofs.classes.is_symbol_byte.Goals as goal
 
-from_table : (table : List ℕ) (b : ℕ) → b < 256 → agree_below (λ k. not (nat_eq (get_or table k 0) 44)) is_symbol_byte 256 ≡ true → not (nat_eq (get_or table b 0) 44) ≡ is_symbol_byte b
-from_table table b below agree = agree_below_at (λ k. not (nat_eq (get_or table k 0) 44)) is_symbol_byte 256 b agree below
+pub returns-in-Letter : goal.returns-in-Letter
+returns-in-Letter c = sym ((told c.args.byte).symbol ∙ ap is_symbol_class (sym c.class_of.ensures) ∙ symbol_by c.class_of.result c.in-Letter.is)
 
-pub returns : goal.returns
-returns c = from_table CLASSES c.args.byte (omega arith) refl
+pub returns-in_default : goal.returns-in_default
+returns-in_default c = sym ((told c.args.byte).symbol ∙ ap is_symbol_class (sym c.class_of.ensures) ∙ no_symbol_by c.class_of.result c.in_default.not-Letter c.in_default.not-Digit)

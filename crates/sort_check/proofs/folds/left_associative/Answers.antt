@@ -1,30 +1,20 @@
-use Rattle.std.proofs.Common.{Result, Err, sym, ap, ◌∙◌, subst}
-use Rattle.std.proofs.lemmas.Result.{err_from_is_err_and}
-use Rattle.smt_terms.specs.declared.ids.NodeId.{NodeId}
+use Rattle.smt_terms.specs.Rank.{shape}
 use Rattle.smt_terms.specs.Written.{left_associative}
-use Rattle.sort_check.specs.declared.fault.MakeFault.{MakeFault}
-use Rattle.sort_check.specs.Making.{Builds}
-use Rattle.sort_check.proofs.Answering.{refused_builds, memory_builds, made_builds, left_ranked, left_refused, some_kids}
-use Rattle.sort_check.proofs.Folding.{left_built}
+use Rattle.sort_check.proofs.Answering.{fold_pair}
+use Rattle.sort_check.proofs.Pairs.{pair_numbers}
+use Rattle.sort_check.proofs.Passing.{make_builds}
+use Rattle.sort_check.proofs.Twos.{pair_other, left_rank, left_term}
 use Rattle.sort_check.proofs.folds.left_associative.Goals as goal
 
-pub returns-in_err-alike : goal.returns-in_err-alike
-returns-in_err-alike c =
-    let p = err_from_is_err_and c.from_residual.result c.from_residual.ensures.1 in
-    let t = c.args.table.now in
-    subst (λ (r : Result NodeId MakeFault). Builds t t (left_associative c.args.op) c.args.kids.now r) (sym (p.1 ∙ ap Err p.2))
-    (refused_builds t (left_associative c.args.op) c.args.kids.now _ (left_refused c.args.op _ _ c.in_err-alike.ensures.fault) c.in_err-alike.ensures.sorts)
+pub node-requires-clause-other : goal.node-requires-clause-other
+node-requires-clause-other c = pair_other c.args.op (fold_pair (shape c.args.op) c.requires.apt)
 
-pub returns-in_err-node : goal.returns-in_err-node
-returns-in_err-node c =
-    let p = err_from_is_err_and c.from_residual-in_err-node.result c.from_residual-in_err-node.ensures.1 in
-    let t = c.args.table.now in
-    subst (λ (r : Result NodeId MakeFault). Builds t c.from_left.new.table (left_associative c.args.op) c.args.kids.now r) (sym (p.1 ∙ ap Err p.2))
-    (memory_builds t c.from_left.new.table (left_associative c.args.op) c.args.kids.now
-    (left_ranked t c.args.op c.args.kids.now c.requires.apt c.in_ok-alike.ensures.fault c.in_ok-alike.ensures.takes) c.from_left.ensures.extends)
+pub node-requires-clause-numbers : goal.node-requires-clause-numbers
+node-requires-clause-numbers c = pair_numbers c.args.table.now c.args.op (fold_pair (shape c.args.op) c.requires.apt)
 
-pub returns : goal.returns
-returns c =
-    made_builds c.args.table.now c.from_left.new.table (left_associative c.args.op) c.args.kids.now c.in_ok-node.node
-    (left_ranked c.args.table.now c.args.op c.args.kids.now c.requires.apt c.in_ok-alike.ensures.fault c.in_ok-alike.ensures.takes) c.in_ok-node.ensures.node
-    (c.in_ok-node.ensures.term ∙ left_built c.args.table.now c.args.op c.args.kids.now _ (some_kids c.args.table.now c.args.op c.args.kids.now c.requires.apt c.in_ok-alike.ensures.fault c.in_ok-alike.ensures.takes)) c.in_ok-node.ensures.extends
+pub returns-then-kids-eq2 : goal.returns-then-kids-eq2
+returns-then-kids-eq2 c =
+    let t = c.args.table.now in
+    make_builds t c.node.new.table (left_associative c.args.op) c.args.kids.now c.node.result _ (left_rank t c.args.op c.requires.apt c.args.kids.now c.if-kids-eq2.true)
+    c.node.ensures.rank c.node.ensures.node c.node.ensures.grows c.node.ensures.symbols c.node.ensures.sorts c.node.ensures.err c.args.op
+    (λ _. left_term t c.args.op c.requires.apt c.args.kids.now c.if-kids-eq2.true) c.node.ensures.term

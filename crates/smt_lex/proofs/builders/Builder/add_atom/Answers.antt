@@ -1,17 +1,7 @@
-use Rattle.std.proofs.Common.{◌∙◌, ap, length, eqb}
-use Rattle.std.specs.Prelude.{◌&&◌, slice_range}
-use Rattle.smt_lex.specs.Building.{outcome, token, watch_after}
-use Rattle.smt_lex.proofs.Outcomes.{outcome_next}
+use Rattle.smt_lex.proofs.Putting.{puts_atom}
 use Rattle.smt_lex.proofs.builders.Builder.add_atom.Goals as goal
 
-pub returns-clause-same : goal.returns-clause-same
-returns-clause-same c behind =
-    let bytes = c.args.bytes.now in
-    let before = c.args.self.now in
-    let after = c.put_atom.new.self in
-    let put = c.in_ok-put_atom.ensures.ok in
-    ap (λ w. outcome bytes w after.entries.items after.lists.items behind)
-    (c.after-watch.ensures ∙ ap (λ n. watch_after before.watch n c.args.item (slice_range bytes c.args.start c.args.end)) (c.len.ensures ∙ before.lists.ok.0))
-    ∙ outcome_next bytes before.watch before.entries.items after.entries.items before.lists.items after.lists.items
-    (token bytes c.args.item c.args.start c.args.end) behind c.requires.met c.requires.built.top
-    (ap (λ b. b && eqb (length before.lists.items) 0) c.requires.atom.1) (put.tokens bytes) put.depth
+pub returns-clause-puts : goal.returns-clause-puts
+returns-clause-puts c =
+    puts_atom c.args.item c.args.self.now.place c.args.end c.args.self.now.entries.items c.push_reserved.new.self.items c.args.self.now.lists.items
+    c.requires.atom c.requires.some c.requires.bars c.requires.nests c.push_reserved.ensures.items
