@@ -7,7 +7,7 @@ use Rattle.smt_terms.specs.Models.{Graph}
 use Rattle.smt_terms.specs.Sorts.{Name, Sort, int, free_sort, Symbol, Variable}
 use Rattle.script_read.specs.Commands.{Signature}
 use Rattle.script_read.specs.Outlines.{list_in}
-use Rattle.script_read.specs.Parts.{place_of, symbol_in, word_in, is_name, numeral_in}
+use Rattle.script_terms.specs.Parts.{place_of, symbol_in, word_in, is_name, numeral_in}
 use Rattle.models.specs.Refusals.{model_form, model_sort, model_twice}
 use Rattle.models.specs.Reading.{Reading, ◌>>=◌, gives, refuses}
 use Rattle.models.specs.ValueForms.{is_sort_form, value_in}

@@ -10,8 +10,8 @@ use Rattle.smt_terms.specs.Operators.{first_value}
 use Rattle.smt_terms.specs.Sorts.{Name, Sort, int, Symbol}
 use Rattle.smt_terms.specs.Values.{Sizes, number, default_value}
 use Rattle.script_read.specs.Commands.{Signature}
-use Rattle.script_read.specs.Parts.{place_of, word_in, is_name}
-use Rattle.script_read.specs.Refusals.{and_then}
+use Rattle.script_terms.specs.Parts.{place_of, word_in, is_name}
+use Rattle.script_terms.specs.Refusals.{and_then}
 use Rattle.script_read.specs.Script.{fault_place}
 use Rattle.models.specs.Refusals.{Refused, model_form, at, Unmodelled, unread, refused}
 use Rattle.models.specs.Reading.{sizes}

@@ -7,7 +7,7 @@ use Rattle.smt_terms.specs.Equal.{name_eq, sort_eq}
 use Rattle.smt_terms.specs.Models.{Row, Graph}
 use Rattle.smt_terms.specs.Sorts.{Name, Sort, bool, Variable}
 use Rattle.smt_terms.specs.Values.{Value, truth, Sizes, all_same}
-use Rattle.script_read.specs.Parts.{place_of, symbol_in, is_name}
+use Rattle.script_terms.specs.Parts.{place_of, symbol_in, is_name}
 use Rattle.models.specs.Refusals.{not_a_table}
 use Rattle.models.specs.Reading.{Reading, ◌>>=◌, gives, refuses}
 use Rattle.models.specs.ValueForms.{value_in}

@@ -11,8 +11,8 @@ use Rattle.smt_terms.specs.Equal.{name_eq, sort_eq}
 use Rattle.smt_terms.specs.Sorts.{Name, Sort, bool, int, bit_vector, array, free_sort}
 use Rattle.smt_terms.specs.Val.{within_range}
 use Rattle.smt_terms.specs.Values.{Value, truth, whole, bits, table, no_pairs, store}
-use Rattle.script_read.specs.Heads.{is_vector_name}
-use Rattle.script_read.specs.Parts.{symbol_in, word_in, is_name, numeral_in, constant_by, vector_number}
+use Rattle.script_terms.specs.Heads.{is_vector_name}
+use Rattle.script_terms.specs.Parts.{symbol_in, word_in, is_name, numeral_in, constant_by, vector_number}
 use Rattle.script_read.specs.Script.{truth_named}
 use Rattle.term_table.specs.WrittenForms.{sort_form}
 use Rattle.models.specs.Refusals.{Refused, model_sort, not_a_table, model_number, at, where_so}

@@ -14,7 +14,7 @@ use Rattle.smt_terms.proofs.Keeping.{not_minus}
 use Rattle.smt_terms.proofs.Tests.{both_true, and_true}
 use Rattle.script_read.specs.Commands.{Command, check, check_assuming, State, start, after, Point, with_point, points_from, points, nth_point, at_point, symbols_of_state, literals}
 use Rattle.script_read.specs.Printable.{is_live_constant, is_live_literal}
-use Rattle.script_read.specs.Read.{is_of_sort, has_sort}
+use Rattle.script_terms.specs.Read.{is_of_sort, has_sort}
 
 -- ---- literals by commands
 

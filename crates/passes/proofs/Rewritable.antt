@@ -11,7 +11,7 @@ use Rattle.smt_terms.proofs.Tests.{both_true}
 use Rattle.normal_forms.proofs.Inside.{in-left, in-right}
 use Rattle.script_read.specs.Commands.{Command, passed, declare_sort, declare, assert, check, check_assuming, push, pop, reset, reset_assertions, globals, exit, State, start, after}
 use Rattle.script_read.specs.Laws.{names_in_command}
-use Rattle.script_read.specs.Read.{has_sort}
+use Rattle.script_terms.specs.Read.{has_sort}
 use Rattle.script_read.specs.Printable.{is_printable_term, may_stand, fixes, may_be_followed, printable_from}
 use Rattle.passes.specs.Laws.{IsReady}
 use Rattle.passes.specs.Behind.{IsRewritable, AreRewritable}

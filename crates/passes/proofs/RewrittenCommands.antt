@@ -15,7 +15,7 @@ use Rattle.script_read.specs.declared.scripts.Command.{Command}
 use Rattle.script_read.specs.declared.scripts.Command.TheVariants.{Passed, DeclareSort, Declare, Assert, Check, CheckAssuming, Push, Pop, Reset, ResetAssertions, Globals, Exit}
 use Rattle.script_read.specs.CommandLists.{command_of, commands_of, IsCommandOf, AreCommandsOf}
 use Rattle.script_read.specs.Commands.{Command as CommandOf, assert}
-use Rattle.script_read.proofs.Grown.{none_later}
+use Rattle.script_terms.proofs.Grown.{none_later}
 use Rattle.passes.specs.Assertion.{assertion_of}
 use Rattle.passes.specs.Behind.{Form, IsRewritable, AreRewritable}
 use Rattle.script_read.proofs.CommandsStay.{commands_within, commands_stay}

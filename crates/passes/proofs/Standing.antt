@@ -11,7 +11,7 @@ use Rattle.smt_terms.proofs.Equal.{Decides-symbol_eq}
 use Rattle.smt_terms.proofs.Tests.{both_true, and_true, either_true, left_true, right_true}
 use Rattle.script_read.specs.Commands.{State, assert, sorts_of_state, symbols_of_state}
 use Rattle.script_read.specs.Printable.{sort_is_live, all_within, is_usable, symbols_are_live, is_printable_term, may_stand}
-use Rattle.script_read.specs.Read.{is_of_sort, has_sort}
+use Rattle.script_terms.specs.Read.{is_of_sort, has_sort}
 use Rattle.script_read.proofs.LiveSorts.{drawn_usable}
 use Rattle.passes.proofs.Assertions.{Kept}
 use Rattle.passes.proofs.Outlines.{DeclareTheSame}

@@ -21,10 +21,10 @@ use Rattle.smt_terms.proofs.Sorted.{sort_of-apply}
 use Rattle.smt_terms.proofs.Tests.{left_true, right_true}
 use Rattle.script_read.specs.Laws.{denoted}
 use Rattle.script_read.specs.Mean.{Denoted, Meaning, bound_to, with_bound, with_all, denoted_as, mean_bindings, with_locals}
-use Rattle.script_read.specs.Read.{local_constants}
-use Rattle.script_read.specs.Reading.{ReadLocal, lets_as, quantified_as, parameter_as, ReadBinding, Sofar, as_local, term_among, term_or, bound_as, constant_as}
+use Rattle.script_terms.specs.Read.{local_constants}
+use Rattle.script_terms.specs.Reading.{ReadLocal, lets_as, quantified_as, parameter_as, ReadBinding, Sofar, as_local, term_among, term_or, bound_as, constant_as}
 use Rattle.script_read.proofs.Fitting.{Unassigned, LiveFits, BoundFits, Agrees, pairs_denoted, LetsMean, ConstantSound, LocalsSound, Sound, Moves}
-use Rattle.script_read.proofs.NameFacts.{spared_later}
+use Rattle.script_terms.proofs.NameFacts.{spared_later}
 
 -- ---- states
 

@@ -5,16 +5,16 @@ use Rattle.smt_lex.specs.Lex.{Fault}
 use Rattle.smt_lex.specs.Forms.{Form, Forms, none, ◌⨾◌, forms_to_exit}
 use Rattle.smt_terms.specs.Fresh.{Supply}
 use Rattle.smt_terms.specs.Term.{Term}
-use Rattle.script_read.specs.Refusals.{Refused, and_then, mapped}
+use Rattle.script_terms.specs.Refusals.{Refused, and_then, mapped}
 use Rattle.smt_lex.specs.FormText.{form_text}
-use Rattle.script_read.specs.Parts.{place_of}
+use Rattle.script_terms.specs.Parts.{place_of}
 use Rattle.script_read.specs.Commands.{Command, with_asserted}
 use Rattle.script_read.specs.Laws.{blank, bare, SameCommands}
 use Rattle.script_read.specs.Mean.{accepted_or}
 use Rattle.script_read.specs.Outlines.{Outline, outline}
 use Rattle.script_read.specs.Scenes.{Asserted, Scene, seen_or_none, seen_command, commands_seen, first_scene}
 use Rattle.script_read.specs.Script.{Standing, Step, step, read_command, Numbered, numbered, behind, read_commands, first_standing, commands_or_refusal, read_forms}
-use Rattle.script_read.proofs.Outcomes.{and_then_ok, mapped_ok, ok_same}
+use Rattle.script_terms.proofs.Outcomes.{and_then_ok, mapped_ok, ok_same}
 use Rattle.script_read.proofs.Shown.{scene_of, Shows, step_shows}
 
 outlined_shows : (f : Form) (s : Standing) (o : Result Outline Refused) → Shows (and_then (step (place_of f) (form_text f) s) o) (seen_or_none (form_text f) (scene_of s) o)

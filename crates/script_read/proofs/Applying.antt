@@ -1,75 +1,29 @@
 -- Applications of what heads call to operands that were read.
-use Rattle.std.proofs.Common.{◌≡◌, ◌∙◌, sym, ap, subst, refl, ℕ, List, [], ◌∷◌, map, Result, Ok, Err}
+use Rattle.std.proofs.Common.{◌≡◌, ◌∙◌, ap, subst, refl, ℕ, List, [], ◌∷◌, map, Result, Ok, Err}
 use Rattle.smt_lex.specs.Names.{Name}
-use Rattle.smt_terms.specs.declared.op.Op.TheVariants.{Whole, Neg}
-use Rattle.smt_terms.specs.Free.{name_among}
-use Rattle.smt_terms.specs.Fresh.{Supply}
-use Rattle.smt_terms.specs.Made.{minus, made}
 use Rattle.smt_terms.specs.Models.{Model, symbol_value}
 use Rattle.smt_terms.specs.Operators.{first_value}
 use Rattle.smt_terms.specs.Rank.{Fault, rank, sort_over}
 use Rattle.smt_terms.specs.Sorts.{Sort, Symbol, Variable}
 use Rattle.smt_terms.specs.Subst.{expand}
 use Rattle.smt_terms.specs.SubstLaws.{names_within, names_within_each, GivesNone, Later}
-use Rattle.smt_terms.specs.Term.{Head, op, symbol, const_array, Term, apply, Terms, none, ◌⨾◌, terms, over}
+use Rattle.smt_terms.specs.Term.{symbol, const_array, Term, terms, over}
 use Rattle.smt_terms.specs.Val.{Env, vals}
 use Rattle.smt_terms.specs.Values.{table, no_pairs}
-use Rattle.smt_terms.specs.Written.{Algebra, Written, written_rank, build}
-use Rattle.smt_terms.proofs.Cuts.{name_among-append}
-use Rattle.smt_terms.proofs.Tests.{left_true, right_true}
-use Rattle.script_read.specs.declared.causes.Cause.TheVariants.{WrongArity}
-use Rattle.script_read.specs.Heads.{Callee, written, array_of_sort, called, defined, operandless, term_width, term_algebra, operand_sorts, where_ranked, parameters_from, expanded, rank_of_arguments, applied}
+use Rattle.smt_terms.specs.Written.{written_rank, build}
+use Rattle.script_terms.specs.declared.causes.Cause.TheVariants.{WrongArity}
+use Rattle.script_terms.specs.Heads.{Callee, written, array_of_sort, called, defined, operandless, term_algebra, operand_sorts, where_ranked, parameters_from, expanded, rank_of_arguments, applied}
 use Rattle.script_read.specs.Laws.{denoted}
 use Rattle.script_read.specs.Mean.{Denoted, values_of, sorts_denoted}
-use Rattle.script_read.specs.Reading.{Sofar, beside}
-use Rattle.script_read.specs.Refusals.{Refused, at}
-use Rattle.script_read.proofs.Builds.{builds, sorts_of_denoted, values_of_denoted, written_meaning}
+use Rattle.script_terms.specs.Reading.{Sofar, beside}
+use Rattle.script_terms.specs.Refusals.{Refused, at}
+use Rattle.script_read.proofs.BuiltValues.{sorts_of_denoted, values_of_denoted, written_meaning}
 use Rattle.script_read.proofs.Calling.{CalleeMeans, CalleeSound}
 use Rattle.script_read.proofs.Expanding.{Expanded, expansion}
 use Rattle.script_read.proofs.Fitting.{Unassigned, Sound}
-use Rattle.script_read.proofs.NameFacts.{spared_first, spared_none, spared_both}
-use Rattle.script_read.proofs.Outcomes.{ok_same}
-
--- ---- names of what is built
-
-minus_named : (s : Supply) (t : Term) → GivesNone s (names_within (apply (op Neg) (t ⨾ none))) → GivesNone s (names_within (minus t))
-minus_named s (apply (op (Whole n)) none) given = spared_none s
-minus_named s t given = given
-
-made_named : (s : Supply) (h : Head) (ts : Terms) → GivesNone s (names_within (apply h ts)) → GivesNone s (names_within (made h ts))
-made_named s (op Neg) (t ⨾ none) given = minus_named s t given
-made_named s h ts given = given
-
--- terms of whose names the supply gives none
-abbrev SparedTerm : Supply → Type 0
-SparedTerm s = (t : Term) × GivesNone s (names_within t)
-
-abbrev plain_terms : (s : Supply) → List (SparedTerm s) → List Term
-plain_terms s xs = map (λ x. x.0) xs
-
-spared_each : (s : Supply) (xs : List (SparedTerm s)) → GivesNone s (names_within_each (terms (plain_terms s xs)))
-spared_each s [] = spared_none s
-spared_each s (x ∷ xs) = spared_both s (names_within x.0) (names_within_each (terms (plain_terms s xs))) x.1 (spared_each s xs)
-
-with_names : (s : Supply) (ts : List Term) → GivesNone s (names_within_each (terms ts)) → (xs : List (SparedTerm s)) × (plain_terms s xs ≡ ts)
-with_names s [] given = ([], refl)
-with_names s (t ∷ ts) given =
-    let rest = with_names s ts (λ n h. given n (name_among-append (names_within t) (names_within_each (terms ts)) n ∙ right_true (name_among (names_within t) n) (name_among (names_within_each (terms ts)) n) h)) in
-    ((t, λ n h. given n (name_among-append (names_within t) (names_within_each (terms ts)) n ∙ left_true (name_among (names_within t) n) (name_among (names_within_each (terms ts)) n) h)) ∷ rest.0, ap (λ us. t ∷ us) rest.1)
-
-spared_algebra : (s : Supply) → Algebra (SparedTerm s)
-spared_algebra s = record {
-  make = λ o xs. (made (op o) (terms (plain_terms s xs)), made_named s (op o) (terms (plain_terms s xs)) (spared_each s xs));
-  width_in = λ x. term_width x.0;
-}
-
-pub build_spared : (s : Supply) (w : Written) (ts : List Term) → GivesNone s (names_within_each (terms ts)) → GivesNone s (names_within (build term_algebra w ts))
-unfolding spared_algebra
-build_spared s w ts given =
-    let found = with_names s ts given in
-    let same : build term_algebra w (plain_terms s found.0) ≡ (build (spared_algebra s) w found.0).0 = builds (spared_algebra s) term_algebra (λ x. x.0) (record { applications = λ o xs. refl; widths = λ x. refl }) w found.0 in
-    subst (λ us. GivesNone s (names_within (build term_algebra w us))) found.1
-    (subst (λ t. GivesNone s (names_within t)) (sym same) (build (spared_algebra s) w found.0).1)
+use Rattle.script_terms.proofs.NameFacts.{spared_first}
+use Rattle.script_terms.proofs.Outcomes.{ok_same}
+use Rattle.script_terms.proofs.BuiltNames.{build_spared}
 
 -- ---- results
 

@@ -7,16 +7,16 @@ use Rattle.smt_terms.specs.Fresh.{Supply}
 use Rattle.smt_terms.specs.Sorts.{bool}
 use Rattle.smt_terms.specs.Term.{Term}
 use Rattle.term_table.specs.Formulas.{Formulas, tree}
-use Rattle.script_read.specs.declared.causes.Cause.TheVariants.{WrongSort}
+use Rattle.script_terms.specs.declared.causes.Cause.TheVariants.{WrongSort}
 use Rattle.script_read.specs.declared.scripts.Command.TheVariants.{Assert}
 use Rattle.script_read.specs.declared.session.Session.{Session}
-use Rattle.script_read.specs.Bound.{LocalNames, locals_shown, IsLocal, AreLocals, HaveOwnNames, ShowsLocals}
+use Rattle.script_terms.specs.Bound.{LocalNames, locals_shown, IsLocal, AreLocals, HaveOwnNames, ShowsLocals}
 use Rattle.script_read.specs.Commands.{assert}
-use Rattle.script_read.specs.Known.{Scoping, IsOwnName, Gives}
-use Rattle.script_read.specs.Parts.{place_of}
-use Rattle.script_read.specs.Read.{has_sort, read}
-use Rattle.script_read.specs.Reading.{Sofar}
-use Rattle.script_read.specs.Refusals.{Refused, at, unless, mapped}
+use Rattle.script_terms.specs.Known.{Scoping, IsOwnName, Gives}
+use Rattle.script_terms.specs.Parts.{place_of}
+use Rattle.script_terms.specs.Read.{has_sort, read}
+use Rattle.script_terms.specs.Reading.{Sofar}
+use Rattle.script_terms.specs.Refusals.{Refused, at, unless, mapped}
 use Rattle.script_read.specs.Script.{Standing, Step, live_of, no_context, asserted_with, of_sort, asserts}
 use Rattle.script_read.specs.Steps.{StandsAt, Steps}
 

@@ -7,19 +7,19 @@ use Rattle.smt_terms.specs.Fresh.{Supply}
 use Rattle.smt_terms.specs.Rank.{Fault as RankFault}
 use Rattle.smt_terms.specs.Sorts.{Sort, bool, Variable}
 use Rattle.smt_terms.specs.Term.{Term, quantified}
-use Rattle.script_read.specs.declared.causes.Cause.{Cause}
-use Rattle.script_read.specs.declared.causes.Cause.TheVariants.{WrongSort, BadForm, Redeclared, ReservedName}
-use Rattle.script_read.specs.Refusals.{Refused, unless, mapped}
-use Rattle.script_read.specs.Parts.{Opening, let_word, quantifier_word, annotation_word, index_word, head, opening, symbol_in, are_attributes, named_parts, place_of}
-use Rattle.script_read.specs.Heads.{Callee, written, array_of_sort, called, defined, operandless, expanded, applied, callee_of, atom_term, vector_constant}
+use Rattle.script_terms.specs.declared.causes.Cause.{Cause}
+use Rattle.script_terms.specs.declared.causes.Cause.TheVariants.{WrongSort, BadForm, Redeclared, ReservedName}
+use Rattle.script_terms.specs.Refusals.{Refused, unless, mapped}
+use Rattle.script_terms.specs.Parts.{Opening, let_word, quantifier_word, annotation_word, index_word, head, opening, symbol_in, are_attributes, named_parts, place_of}
+use Rattle.script_terms.specs.Heads.{Callee, written, array_of_sort, called, defined, operandless, expanded, applied, callee_of, atom_term, vector_constant}
 use Rattle.script_read.specs.Laws.{LeadsTo}
 use Rattle.script_read.specs.Mean.{accepted_or, quantified_variables}
-use Rattle.script_read.specs.Read.{Context, with_local, is_empty, let_name, below_quantifier, renamed, draws_names, has_sort, quantified_over, read, read_list, read_bindings, read_all, is_given, term_name, term_names, term_name_in, mentions_local, annotated, with_quantified, constant_names, name_drawn_if, is_taken}
-use Rattle.script_read.specs.Reading.{ReadLocal, lets_as, as_local, ReadBinding, named_as, as_bindings, Sofar, Reading, continued, ◌>>=◌, gives, refused_if, beside, by_live, binds, live_sorts}
+use Rattle.script_terms.specs.Read.{Context, with_local, is_empty, let_name, below_quantifier, renamed, draws_names, has_sort, quantified_over, read, read_list, read_bindings, read_all, is_given, term_name, term_names, term_name_in, mentions_local, annotated, with_quantified, constant_names, name_drawn_if, is_taken}
+use Rattle.script_terms.specs.Reading.{ReadLocal, lets_as, as_local, ReadBinding, named_as, as_bindings, Sofar, Reading, continued, ◌>>=◌, gives, refused_if, beside, by_live, binds, live_sorts}
 use Rattle.script_read.specs.Scenes.{names_among, with_names, quantified_locals, naming, naming_list, naming_parts, naming_all}
-use Rattle.script_read.specs.Scope.{let_names, Binding, live_sort}
-use Rattle.script_read.specs.Variables.{quantifier_binder, variables_in}
-use Rattle.script_read.proofs.Outcomes.{and_then_ok, mapped_ok}
+use Rattle.script_terms.specs.Scope.{let_names, Binding, live_sort}
+use Rattle.script_terms.specs.Variables.{quantifier_binder, variables_in}
+use Rattle.script_terms.proofs.Outcomes.{and_then_ok, mapped_ok}
 
 -- ---- readings one behind the other
 

@@ -18,18 +18,18 @@ use Rattle.smt_terms.specs.Term.{op, Term, apply, none as no_terms, constant}
 use Rattle.smt_terms.specs.Val.{Env}
 use Rattle.smt_terms.specs.Written.{Written, Indexed, operator_named, at_indices, written_named, build}
 use Rattle.smt_terms.proofs.Equal.{name_same}
-use Rattle.script_read.specs.declared.causes.Cause.TheVariants.{WrongArity, WidthLimit, BadForm, UnknownName, NumberLimit, RealSort}
-use Rattle.script_read.specs.Heads.{real_names, theory_symbol, constant_or_refused, live_symbol, symbol_term, token_constant, other_atom, name_or_other, atom_by, atom_term, Callee, written, array_of_sort, called, defined, operandless, indices_within, written_at, takes_no_index, constant_head, theory_head, live_head, indexed_head, filling_head, list_head, atom_head, callee_of}
+use Rattle.script_terms.specs.declared.causes.Cause.TheVariants.{WrongArity, WidthLimit, BadForm, UnknownName, NumberLimit, RealSort}
+use Rattle.script_terms.specs.Heads.{real_names, theory_symbol, constant_or_refused, live_symbol, symbol_term, token_constant, other_atom, name_or_other, atom_by, atom_term, Callee, written, array_of_sort, called, defined, operandless, indices_within, written_at, takes_no_index, constant_head, theory_head, live_head, indexed_head, filling_head, list_head, atom_head, callee_of}
 use Rattle.script_read.specs.Laws.{denoted}
 use Rattle.script_read.specs.Mean.{Denoted, Meaning, over_op, over_symbol, over_array, value_algebra, over_written, denoted_or, truth_of, over_constant, live_or, symbol_means, symbol_or_nothing, token_means, array_of, named_means, list_head_means, symbol_head_means, head_means, mean}
-use Rattle.script_read.specs.Parts.{place_of, symbol_in, word_in, is_name, numeral_in, numerals_in, constant_by, greatest_number}
-use Rattle.script_read.specs.Reading.{ReadLocal, ReadBinding, Sofar, live_sorts, Entry, symbol_entry, definition_entry, term_entry, entry_of, bound_as}
-use Rattle.script_read.specs.Refusals.{Refused, at, mapped}
-use Rattle.script_read.specs.SortForms.{sort_in}
+use Rattle.script_terms.specs.Parts.{place_of, symbol_in, word_in, is_name, numeral_in, numerals_in, constant_by, greatest_number}
+use Rattle.script_terms.specs.Reading.{ReadLocal, ReadBinding, Sofar, live_sorts, Entry, symbol_entry, definition_entry, term_entry, entry_of, bound_as}
+use Rattle.script_terms.specs.Refusals.{Refused, at, mapped}
+use Rattle.script_terms.specs.SortForms.{sort_in}
 use Rattle.script_read.proofs.Fitting.{Unassigned, Given, EntryMeans, Agrees, EntrySound, LocalsSound, Sound}
-use Rattle.script_read.proofs.NameFacts.{operator_reserved, true_reserved, false_reserved, spared_first, spared_none}
-use Rattle.script_read.proofs.Outcomes.{mapped_ok, ok_same}
-use Rattle.script_read.proofs.SortFacts.{unless_passed}
+use Rattle.script_terms.proofs.NameFacts.{operator_reserved, true_reserved, false_reserved, spared_first, spared_none}
+use Rattle.script_terms.proofs.Outcomes.{mapped_ok, ok_same}
+use Rattle.script_terms.proofs.SortFacts.{unless_passed}
 
 -- ---- atoms
 

@@ -20,8 +20,8 @@ use Rattle.smt_terms.proofs.Ranked.{rank-takes}
 use Rattle.smt_terms.proofs.SubstClear.{made_clear, subst-hides_nothing}
 use Rattle.smt_terms.proofs.SubstFree.{subst-leaves_free}
 use Rattle.smt_terms.proofs.Tests.{and_true, both_true, either_true, left_true, right_true, contrary}
-use Rattle.script_read.specs.Heads.{term_width, term_algebra, operand_sorts, parameters_from, rank_of_arguments}
-use Rattle.script_read.proofs.Builds.{builds}
+use Rattle.script_terms.specs.Heads.{term_width, term_algebra, operand_sorts, parameters_from, rank_of_arguments}
+use Rattle.script_terms.proofs.Builds.{builds}
 use Rattle.script_read.proofs.Expanding.{Arguments, arguments_sound, free_spared, unwrapped}
 use Rattle.script_read.proofs.Fitting.{have_sorts}
 

@@ -18,24 +18,25 @@ use Rattle.smt_terms.proofs.Among.{is_among-without}
 use Rattle.smt_terms.proofs.ClearTerms.{clear_wider, constants-append, constants-reverse, Apart, apart_front}
 use Rattle.smt_terms.proofs.Equal.{Decides-symbol_eq, name_same, symbol_itself}
 use Rattle.smt_terms.proofs.Tests.{both_true, either_true, left_true, right_true, not_true, contrary}
-use Rattle.script_read.specs.declared.causes.Cause.TheVariants.{WrongSort, BadForm}
-use Rattle.script_read.specs.Heads.{atom_term, vector_constant, Callee, written, array_of_sort, called, defined, operandless, callee_of, term_algebra, operand_sorts, where_ranked, parameters_from, expanded, rank_of_arguments, applied}
+use Rattle.script_terms.specs.declared.causes.Cause.TheVariants.{WrongSort, BadForm}
+use Rattle.script_terms.specs.Heads.{atom_term, vector_constant, Callee, written, array_of_sort, called, defined, operandless, callee_of, term_algebra, operand_sorts, where_ranked, parameters_from, expanded, rank_of_arguments, applied}
 use Rattle.script_read.specs.Mean.{mean}
-use Rattle.script_read.specs.Parts.{Opening, let_word, quantifier_word, annotation_word, index_word, head, opening, place_of, symbol_in, are_attributes, named_parts}
-use Rattle.script_read.specs.Read.{Context, with_local, is_empty, let_name, constant_names, is_taken, draws_names, with_quantified, below_quantifier, renamed, has_sort, quantified_over, term_names, local_constants, mentions_local, annotated, read, read_list, read_bindings, read_all}
-use Rattle.script_read.specs.Reading.{ReadLocal, lets_as, quantified_as, ReadBinding, sort_known, function_known, definition_as, named_as, level_known, Sofar, Entry, symbol_entry, definition_entry, term_entry, entry_of, live_sorts, term_among, term_or, bound_as, constant_as, Reading, ◌>>=◌, gives, by_live, binds}
-use Rattle.script_read.specs.Refusals.{unless}
-use Rattle.script_read.specs.Scope.{or_later}
-use Rattle.script_read.specs.Variables.{quantifier_binder, variables_in}
+use Rattle.script_terms.specs.Parts.{Opening, let_word, quantifier_word, annotation_word, index_word, head, opening, place_of, symbol_in, are_attributes, named_parts}
+use Rattle.script_terms.specs.Read.{Context, with_local, is_empty, let_name, constant_names, is_taken, draws_names, with_quantified, below_quantifier, renamed, has_sort, quantified_over, term_names, local_constants, mentions_local, annotated, read, read_list, read_bindings, read_all}
+use Rattle.script_terms.specs.Reading.{ReadLocal, lets_as, quantified_as, ReadBinding, sort_known, function_known, definition_as, named_as, level_known, Sofar, Entry, symbol_entry, definition_entry, term_entry, entry_of, live_sorts, term_among, term_or, bound_as, constant_as, Reading, ◌>>=◌, gives, by_live, binds}
+use Rattle.script_terms.specs.Refusals.{unless}
+use Rattle.script_terms.specs.Scope.{or_later}
+use Rattle.script_terms.specs.Variables.{quantifier_binder, variables_in}
 use Rattle.script_read.proofs.Agreeing.{variable_as, moves_both}
 use Rattle.script_read.proofs.Calling.{CalleeSound, callee_read}
 use Rattle.script_read.proofs.ClearBuilt.{ClearTerm, ClearEach, clear_more, in_left, in_right, in_either, each_clear, none_clear, number_clear, head_clear, symbol_clear, constant_clear, build_clear, expand_clear}
-use Rattle.script_read.proofs.Fitting.{Within, AllWithin, declared_of, Sound, Moves, Reads, ReadsAll, ReadsBindings, Ready}
-use Rattle.script_read.proofs.NameFacts.{spared_later, spared_both}
+use Rattle.script_terms.proofs.NameFacts.{Within, AllWithin}
+use Rattle.script_read.proofs.Fitting.{declared_of, Sound, Moves, Reads, ReadsAll, ReadsBindings, Ready}
+use Rattle.script_terms.proofs.NameFacts.{spared_later, spared_both}
 use Rattle.script_read.proofs.Naming.{none_of}
-use Rattle.script_read.proofs.Outcomes.{ok_same}
+use Rattle.script_terms.proofs.Outcomes.{ok_same}
 use Rattle.script_read.proofs.Quantifying.{Known, Renames, renames}
-use Rattle.script_read.proofs.SortFacts.{VariablesRead, variables_read, unless_passed}
+use Rattle.script_terms.proofs.SortFacts.{VariablesRead, variables_read, unless_passed}
 use Rattle.script_read.proofs.Sources.{entry_alone, AtomSource, of_constant, of_local, of_entry, atom_source, entry_called, CalleeSource, of_operator, of_sort_form, of_nothing, of_live, callee_source}
 use Rattle.script_read.proofs.TermsMean.{OnOk, then_on, on_rule, on_last, on_unless, on_given, on_refused, on_both, moves_supply, ready_later, ready_let, untaken, callee_later, vector_source, form_reads, bindings_read, all_read}
 

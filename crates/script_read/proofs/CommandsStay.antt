@@ -7,7 +7,7 @@ use Rattle.script_read.specs.declared.scripts.Command.{Command}
 use Rattle.script_read.specs.declared.scripts.Command.TheVariants.{Passed, DeclareSort, Declare, Assert, Check, CheckAssuming, Push, Pop, Reset, ResetAssertions, Globals, Exit}
 use Rattle.script_read.specs.CommandLists.{free_name, command_of, commands_of, IsCommandOf, AreCommandsOf}
 use Rattle.script_read.specs.Commands.{declare_sort, declare, assert, check_assuming}
-use Rattle.script_read.proofs.Grown.{same_map, node_stays, tree_stays, nodes_stay, trees_stay, symbol_within, symbol_stays, sort_within, sort_stays}
+use Rattle.script_terms.proofs.Grown.{same_map, node_stays, tree_stays, nodes_stay, trees_stay, symbol_within, symbol_stays, sort_within, sort_stays}
 
 module _ (t u : Formulas) (grows : GrowsTo t u) where
   pub command_within : (c : Command) → IsCommandOf t c → IsCommandOf u c

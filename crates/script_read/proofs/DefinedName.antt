@@ -9,17 +9,17 @@ use Rattle.smt_terms.specs.Rank.{Fault as RankFault}
 use Rattle.smt_terms.specs.Sorts.{Sort, bool, Variable}
 use Rattle.smt_terms.specs.Term.{Term, quantified}
 use Rattle.smt_terms.proofs.Tests.{both_false}
-use Rattle.script_read.specs.declared.causes.Cause.{Cause}
-use Rattle.script_read.specs.declared.causes.Cause.TheVariants.{WrongSort, BadForm, Redeclared, ReservedName}
-use Rattle.script_read.specs.Refusals.{Refused, unless, mapped}
-use Rattle.script_read.specs.Parts.{Opening, let_word, quantifier_word, annotation_word, index_word, head, opening, symbol_in, are_attributes, named_parts, place_of}
-use Rattle.script_read.specs.Heads.{Callee, written, array_of_sort, called, defined, operandless, expanded, applied, callee_of, atom_term, vector_constant}
-use Rattle.script_read.specs.Read.{Context, with_local, is_empty, let_name, below_quantifier, renamed, draws_names, has_sort, quantified_over, read, read_list, read_bindings, read_all, is_the, is_given, term_name, term_name_in, term_names, mentions_local, annotated, constant_names, is_taken}
-use Rattle.script_read.specs.Reading.{lets_as, ReadBinding, named_as, Sofar, term_entry, entry_of, Reading, continued, ◌>>=◌, gives, refused_if, beside, by_live, binds, live_sorts}
-use Rattle.script_read.specs.Scope.{or_later}
-use Rattle.script_read.specs.Variables.{quantifier_binder, variables_in}
-use Rattle.script_read.proofs.Outcomes.{and_then_ok, mapped_ok, ok_same}
-use Rattle.script_read.proofs.SortFacts.{unless_passed}
+use Rattle.script_terms.specs.declared.causes.Cause.{Cause}
+use Rattle.script_terms.specs.declared.causes.Cause.TheVariants.{WrongSort, BadForm, Redeclared, ReservedName}
+use Rattle.script_terms.specs.Refusals.{Refused, unless, mapped}
+use Rattle.script_terms.specs.Parts.{Opening, let_word, quantifier_word, annotation_word, index_word, head, opening, symbol_in, are_attributes, named_parts, place_of}
+use Rattle.script_terms.specs.Heads.{Callee, written, array_of_sort, called, defined, operandless, expanded, applied, callee_of, atom_term, vector_constant}
+use Rattle.script_terms.specs.Read.{Context, with_local, is_empty, let_name, below_quantifier, renamed, draws_names, has_sort, quantified_over, read, read_list, read_bindings, read_all, is_the, is_given, term_name, term_name_in, term_names, mentions_local, annotated, constant_names, is_taken}
+use Rattle.script_terms.specs.Reading.{lets_as, ReadBinding, named_as, Sofar, term_entry, entry_of, Reading, continued, ◌>>=◌, gives, refused_if, beside, by_live, binds, live_sorts}
+use Rattle.script_terms.specs.Scope.{or_later}
+use Rattle.script_terms.specs.Variables.{quantifier_binder, variables_in}
+use Rattle.script_terms.proofs.Outcomes.{and_then_ok, mapped_ok, ok_same}
+use Rattle.script_terms.proofs.SortFacts.{unless_passed}
 
 module _ (n : Name) where
   -- ---- names of an annotation

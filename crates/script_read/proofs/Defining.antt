@@ -15,17 +15,17 @@ use Rattle.smt_terms.specs.Val.{Env}
 use Rattle.smt_terms.proofs.Agree.{SameAt}
 use Rattle.smt_terms.proofs.Equal.{Decides-symbol_eq, name_same, name_itself, symbol_itself}
 use Rattle.smt_terms.proofs.Tests.{and_true, both_false, either_true, left_true, right_true, both_true, contrary}
-use Rattle.script_read.specs.Heads.{parameters_from}
+use Rattle.script_terms.specs.Heads.{parameters_from}
 use Rattle.script_read.specs.Laws.{denoted}
 use Rattle.script_read.specs.Mean.{Denoted, Meaning, with_bound, with_all, denoted_as, with_arguments}
-use Rattle.script_read.specs.Read.{local_constants}
-use Rattle.script_read.specs.Reading.{ReadLocal, parameter_as, ReadBinding, Sofar, term_among, term_or, bound_as, constant_as}
-use Rattle.script_read.specs.Scope.{or_later}
+use Rattle.script_terms.specs.Read.{local_constants}
+use Rattle.script_terms.specs.Reading.{ReadLocal, parameter_as, ReadBinding, Sofar, term_among, term_or, bound_as, constant_as}
+use Rattle.script_terms.specs.Scope.{or_later}
 use Rattle.script_read.specs.Script.{parameters_read}
 use Rattle.script_read.proofs.Agreeing.{variable_denotes, pairs_bound}
 use Rattle.script_read.proofs.Fitting.{Given, LiveFits, BoundFits, Agrees, pairs_denoted, LetsMean, Origin, drawn, quantified, internal, ConstantSound, LocalsSound, have_sorts, Sound, Ready}
-use Rattle.script_read.proofs.NameFacts.{name_turned, parameter_reserved, parameter_never, spared_first, spared_none}
-use Rattle.script_read.proofs.SortFacts.{VariablesSound, earlier_apart}
+use Rattle.script_terms.proofs.NameFacts.{name_turned, parameter_reserved, parameter_never, spared_first, spared_none}
+use Rattle.script_terms.proofs.SortFacts.{VariablesSound, earlier_apart}
 
 pub variables_fine : (ns earlier : List Name) (xs : List Variable) → VariablesSound ns earlier xs → have_sorts xs ≡ true
 variables_fine ns earlier [] sound = refl

@@ -14,28 +14,28 @@ use Rattle.smt_values.specs.SortIds.{sort_at}
 use Rattle.term_table.specs.Formulas.{Formulas, tree, symbol_at, IsSymbol}
 use Rattle.term_subst.specs.declared.maps.Definition.{Definition}
 use Rattle.term_walk.specs.Walking.{GrowsTo}
-use Rattle.script_read.specs.declared.binders.SortedName.{SortedName}
-use Rattle.script_read.specs.declared.causes.Cause.TheVariants.{WrongSort}
-use Rattle.script_read.specs.declared.locals.Constant.{Constant}
-use Rattle.script_read.specs.declared.locals.Local.TheVariants.{Parameter}
+use Rattle.script_terms.specs.declared.binders.SortedName.{SortedName}
+use Rattle.script_terms.specs.declared.causes.Cause.TheVariants.{WrongSort}
+use Rattle.script_terms.specs.declared.locals.Constant.{Constant}
+use Rattle.script_terms.specs.declared.locals.Local.TheVariants.{Parameter}
 use Rattle.script_read.specs.declared.session.Session.{Session}
-use Rattle.script_read.specs.BinderClauses.{IsSortedName, AreSortedNames}
-use Rattle.script_read.specs.Bound.{LocalNames, LocalMeant, parameter_meant, local_meant, locals_shown, IsLocal, ShowsLocals, name_at, variable_seen, variables_seen, symbols_seen}
-use Rattle.script_read.specs.Heads.{parameters_from}
-use Rattle.script_read.specs.Known.{Scoping, find, with_definition, Shows, IsSpared, IsDefinition, Gives, parameter_sorts, parameters_of, IsConstant, IsOwnName}
+use Rattle.script_terms.specs.BinderClauses.{IsSortedName, AreSortedNames}
+use Rattle.script_terms.specs.Bound.{LocalNames, LocalMeant, parameter_meant, local_meant, locals_shown, IsLocal, ShowsLocals, name_at, variable_seen, variables_seen, symbols_seen}
+use Rattle.script_terms.specs.Heads.{parameters_from}
+use Rattle.script_terms.specs.Known.{Scoping, find, with_definition, Shows, IsSpared, IsDefinition, Gives, parameter_sorts, parameters_of, IsConstant, IsOwnName}
 use Rattle.script_read.specs.Outlines.{At}
-use Rattle.script_read.specs.Parts.{place_of}
-use Rattle.script_read.specs.Read.{Context, has_sort, read}
-use Rattle.script_read.specs.Reading.{ReadLocal, parameter_as, ReadBinding, definition_as, Sofar, live_sorts, entry_of}
-use Rattle.script_read.specs.Refusals.{Refused, at, and_then, unless, mapped}
+use Rattle.script_terms.specs.Parts.{place_of}
+use Rattle.script_terms.specs.Read.{Context, has_sort, read}
+use Rattle.script_terms.specs.Reading.{ReadLocal, parameter_as, ReadBinding, definition_as, Sofar, live_sorts, entry_of}
+use Rattle.script_terms.specs.Refusals.{Refused, at, and_then, unless, mapped}
 use Rattle.script_read.specs.Script.{Standing, Step, live_of, declarable, parameters_read, body_context, begun_after, defined_with, of_sort, read_body, defines_symbol}
-use Rattle.script_read.specs.SortForms.{Sorts, sort_in}
+use Rattle.script_terms.specs.SortForms.{Sorts, sort_in}
 use Rattle.script_read.specs.Steps.{StandsAt, Steps, header_in}
-use Rattle.script_read.specs.Variables.{definition_binder, variables_in}
+use Rattle.script_terms.specs.Variables.{definition_binder, variables_in}
 use Rattle.script_read.proofs.DefinedName.{body_free}
-use Rattle.script_read.proofs.Grown.{same_map, symbol_within, symbol_stays, sort_stays}
+use Rattle.script_terms.proofs.Grown.{same_map, symbol_within, symbol_stays, sort_stays}
 use Rattle.script_read.proofs.NewNames.{declarable_passed}
-use Rattle.script_read.proofs.Showing.{entry_found, entry_meant, shows_definition}
+use Rattle.script_terms.proofs.Showing.{entry_found, entry_meant, shows_definition}
 
 -- ---- the header
 

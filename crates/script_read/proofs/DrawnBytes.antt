@@ -13,8 +13,8 @@ use Rattle.smt_lex.specs.Names.{Name, is_reserved, is_among}
 use Rattle.smt_lex.specs.Forest.{Source, IsScanned, token_at, end_of}
 use Rattle.term_subst.specs.Names.{begins_as_drawn}
 use Rattle.script_read.specs.DrawnNames.{drawn_among}
-use Rattle.script_read.specs.Places.{forms_from}
-use Rattle.script_read.specs.Script.{with_name, names_with_all}
+use Rattle.script_terms.specs.Places.{forms_from}
+use Rattle.script_terms.specs.TextNames.{with_name, names_with_all}
 use Rattle.script_read.proofs.TextNames.{holds_of_names}
 
 -- ---- in a part, and so in the whole

@@ -20,11 +20,11 @@ use Rattle.smt_terms.proofs.Sorted.{sorted}
 use Rattle.smt_terms.proofs.Substitution.{symbols-spared, subst-keeps_meaning, subst-gives_later}
 use Rattle.smt_terms.proofs.SubstNames.{subst-spares_names}
 use Rattle.smt_terms.proofs.Tests.{both_true, either_true, left_true, right_true, contrary}
-use Rattle.script_read.specs.Heads.{operand_sorts, parameters_from, rank_of_arguments}
+use Rattle.script_terms.specs.Heads.{operand_sorts, parameters_from, rank_of_arguments}
 use Rattle.script_read.specs.Laws.{denoted}
 use Rattle.script_read.proofs.Agreeing.{variable_sort}
 use Rattle.script_read.proofs.Fitting.{Unassigned, Given, have_sorts}
-use Rattle.script_read.proofs.NameFacts.{parameter_reserved, parameters_apart}
+use Rattle.script_terms.proofs.NameFacts.{parameter_reserved, parameters_apart}
 
 -- ---- names that are free in a term
 

@@ -4,8 +4,7 @@ use Rattle.std.proofs.Common.{◌≡◌, ℕ, suc, Bool, true, false, List, [], 
 use Rattle.std.specs.Prelude.{⊤, option_map}
 use Rattle.std.specs.List.{list_all}
 use Rattle.smt_lex.specs.Names.{Name, is_among as is_among_names, is_theory_name, is_reserved_for_declaring}
-use Rattle.smt_lex.specs.Lex.{symbol_of}
-use Rattle.smt_lex.specs.Forms.{Form, atom, node, Forms, none, ◌⨾◌}
+use Rattle.smt_lex.specs.Forms.{Forms}
 use Rattle.smt_terms.specs.Sorts.{Sort, Symbol, Variable}
 use Rattle.smt_terms.specs.Term.{Term, terms}
 use Rattle.smt_terms.specs.Free.{is_among, name_among}
@@ -18,20 +17,8 @@ use Rattle.smt_terms.specs.Val.{Env}
 use Rattle.smt_terms.proofs.Agree.{SameAt}
 use Rattle.script_read.specs.Laws.{denoted}
 use Rattle.script_read.specs.Mean.{Denoted, Meaning, over_symbol, mean, mean_all, mean_bindings, with_locals, with_arguments, meaning}
-use Rattle.script_read.specs.Read.{local_constants}
-use Rattle.script_read.specs.Reading.{ReadLocal, lets_as, quantified_as, parameter_as, ReadBinding, sort_known, function_known, definition_as, named_as, level_known, Sofar, as_local, as_bindings, live_sorts, Entry, symbol_entry, definition_entry, term_entry, entry_of, term_among, bound_as, is_quantified}
-
--- ---- forms and the names of a text
-
-abbrev mutual
-  -- each symbol of the form is among these names
-  pub Within : List Name → Form → Type 0
-  Within ns (atom t) = (n : Name) → symbol_of t ≡ Some n → name_among ns n ≡ true
-  Within ns (node place fs) = AllWithin ns fs
-
-  pub AllWithin : List Name → Forms → Type 0
-  AllWithin ns none = ⊤
-  AllWithin ns (f ⨾ fs) = Within ns f × AllWithin ns fs
+use Rattle.script_terms.specs.Read.{local_constants}
+use Rattle.script_terms.specs.Reading.{ReadLocal, lets_as, quantified_as, parameter_as, ReadBinding, sort_known, function_known, definition_as, named_as, level_known, Sofar, as_local, as_bindings, live_sorts, Entry, symbol_entry, definition_entry, term_entry, entry_of, term_among, bound_as, is_quantified}
 
 -- ---- live names
 

@@ -5,20 +5,20 @@ use Rattle.std.proofs.lemmas.Bool.Decides.{nat_tests}
 use Rattle.smt_lex.specs.Lex.{Token}
 use Rattle.smt_lex.specs.Forest.{token_at}
 use Rattle.term_table.specs.Formulas.{Formulas}
-use Rattle.script_read.specs.declared.causes.Cause.TheVariants.{NumberLimit, PopTooFar}
+use Rattle.script_terms.specs.declared.causes.Cause.TheVariants.{NumberLimit, PopTooFar}
 use Rattle.script_read.specs.declared.scripts.Command.TheVariants.{Push, Pop}
 use Rattle.script_read.specs.declared.session.Session.{Session}
 use Rattle.script_read.specs.Commands.{push, pop}
-use Rattle.script_read.specs.Known.{Scoping, is_mark, levels_in, Shows}
-use Rattle.script_read.specs.Places.{capped}
-use Rattle.script_read.specs.Reading.{level_known, is_level_known}
-use Rattle.script_read.specs.Refusals.{at, unless}
-use Rattle.script_read.specs.Scope.{opened, popped}
+use Rattle.script_terms.specs.Known.{Scoping, is_mark, levels_in, Shows}
+use Rattle.script_terms.specs.Places.{capped}
+use Rattle.script_terms.specs.Reading.{level_known, is_level_known}
+use Rattle.script_terms.specs.Refusals.{at, unless}
+use Rattle.script_terms.specs.Scope.{opened, popped}
 use Rattle.script_read.specs.Script.{Standing, Step, live_of, begun_with, most_levels, open_levels, place_or, pushed_unless, pushes, pops}
 use Rattle.script_read.specs.ShapeClauses.{counted_at}
 use Rattle.script_read.specs.Steps.{StandsAt, Steps}
 use Rattle.script_read.proofs.SessionSteps.{begun_at, stands_begun}
-use Rattle.script_read.proofs.Showing.{levels_found, shows_opened, shows_popped}
+use Rattle.script_terms.proofs.Showing.{levels_found, shows_opened, shows_popped}
 
 -- where the number of levels stands, or the command
 pub place_of_levels : (ts : List Token) (levels : Option ℕ) (i : ℕ) → (token_at ts (unwrap_or levels i)).start ≡ place_or (option_map (counted_at ts) levels) (token_at ts i).start

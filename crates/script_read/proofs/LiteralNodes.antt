@@ -1,53 +1,38 @@
 -- Literals of `check-sat-assuming`, as a scope and a table have them.
-use Rattle.std.proofs.Common.{◌≡◌, ◌≢◌, Bool, true, false, cond, List, [], ◌∷◌, ◌++◌, All, Option, Some, None, option_map, Result, Ok, Err, append_assoc, append-nil, refl, ap, sym, ◌∙◌, subst}
+use Rattle.std.proofs.Common.{◌≡◌, ◌≢◌, cond, List, [], ◌∷◌, ◌++◌, Option, Some, None, option_map, Result, Ok, Err, append_assoc, append-nil, refl, ap, sym, ◌∙◌, subst}
 use Rattle.std.specs.Prelude.{codes}
-use Rattle.std.proofs.lemmas.List.Elements.{All-head, All-tail, All-push}
+use Rattle.std.proofs.lemmas.List.Elements.{All-push}
 use Rattle.std.proofs.lemmas.List.{map-append}
 use Rattle.smt_lex.specs.Forms.{Form, atom, node, Forms, none, ◌⨾◌}
 use Rattle.smt_lex.specs.Names.{Name}
 use Rattle.smt_terms.specs.declared.ids.NodeId.{NodeId}
 use Rattle.smt_terms.specs.Connectives.{negated}
-use Rattle.smt_terms.specs.Equal.{name_eq}
 use Rattle.smt_terms.specs.Fresh.{Supply}
 use Rattle.smt_terms.specs.Sorts.{Sort, Symbol}
 use Rattle.smt_terms.specs.Term.{Term}
-use Rattle.smt_terms.proofs.Equal.{name_same}
 use Rattle.term_table.specs.Formulas.{Formulas, symbol_at, tree, trees_at, IsNode, AreNodes}
 use Rattle.term_table.specs.declared.lists.Nodes.{Nodes}
 use Rattle.term_walk.specs.Walking.{GrowsTo}
 use Rattle.term_subst.specs.declared.maps.Definition.{Definition}
-use Rattle.script_read.specs.declared.causes.Cause.TheVariants.{BadForm}
-use Rattle.script_read.specs.declared.locals.Constant.{Constant}
-use Rattle.script_read.specs.declared.scopes.Entry.{Entry}
-use Rattle.script_read.specs.declared.scopes.Entry.TheVariants.{Symbol as SymbolEntry, Constant as ConstantEntry, Definition as DefinitionEntry, Term as TermEntry}
+use Rattle.script_terms.specs.declared.causes.Cause.TheVariants.{BadForm}
+use Rattle.script_terms.specs.declared.locals.Constant.{Constant}
+use Rattle.script_terms.specs.declared.scopes.Entry.{Entry}
+use Rattle.script_terms.specs.declared.scopes.Entry.TheVariants.{Symbol as SymbolEntry, Constant as ConstantEntry, Definition as DefinitionEntry, Term as TermEntry}
 use Rattle.script_read.specs.declared.scripts.Command.TheVariants.{CheckAssuming}
 use Rattle.script_read.specs.declared.session.Session.{Session}
 use Rattle.script_read.specs.Commands.{check_assuming}
-use Rattle.script_read.specs.Known.{Scoped, Scoping, find, meant_by, IsConstant, IsEntry, IsScopedEntry, Shows}
+use Rattle.script_terms.specs.Known.{Scoping, find, meant_by, IsConstant, IsEntry, Shows}
 use Rattle.script_read.specs.LiteralClauses.{constant_of_entry}
-use Rattle.script_read.specs.Parts.{place_of, symbol_in, is_name}
-use Rattle.script_read.specs.Places.{pair_in}
-use Rattle.script_read.specs.Reading.{ReadBinding, Entry as LiveEntry, symbol_entry, definition_entry, term_entry, entry_of}
-use Rattle.script_read.specs.Refusals.{Refused, and_then, mapped, given}
-use Rattle.script_read.specs.Scope.{or_later}
+use Rattle.script_terms.specs.Parts.{place_of, symbol_in, is_name}
+use Rattle.script_terms.specs.Places.{pair_in}
+use Rattle.script_terms.specs.Reading.{ReadBinding, Entry as LiveEntry, symbol_entry, definition_entry, term_entry, entry_of}
+use Rattle.script_terms.specs.Refusals.{Refused, and_then, mapped, given}
 use Rattle.script_read.specs.Script.{Standing, live_of, begun_with, boolean_constant, constant_entry, declared_constant, literal, literals_in, assumes}
 use Rattle.script_read.specs.Steps.{StandsAt, Steps}
-use Rattle.script_read.proofs.Grown.{nodes_stay, trees_stay}
+use Rattle.script_terms.proofs.Grown.{nodes_stay, trees_stay}
 use Rattle.script_read.proofs.SessionSteps.{stands_grown, begun_at, stands_begun}
-use Rattle.script_read.proofs.Showing.{entry_found, entry_meant}
-
--- ---- what a name stands for is of the table
-
-module _ (t : Formulas) (supply : Supply) (ds : List Definition) (n : Name) (e : Entry) where
-  found_first : (m : Name) (d : Entry) (b : Bool) (later : Option Entry) → name_eq m n ≡ b → or_later b d later ≡ Some e → IsEntry t supply ds m d → (later ≡ Some e → IsEntry t supply ds n e) → IsEntry t supply ds n e
-  found_first m d true later same found is below = let here : d ≡ e = cc in subst (λ x. IsEntry t supply ds n x) here (subst (λ k. IsEntry t supply ds k d) (name_same m n same) is)
-  found_first m d false later same found is below = below found
-
-  pub entry_is : (bs : List (Scoped Entry)) → All (IsScopedEntry t supply ds) bs → find bs n ≡ Some e → IsEntry t supply ds n e
-  entry_is [] all found = absurd (cc)
-  entry_is (None ∷ bs) all found = entry_is bs (All-tail (IsScopedEntry t supply ds) None bs all) found
-  entry_is (Some p ∷ bs) all found =
-      found_first p.0 p.1 (name_eq p.0 n) (find bs n) refl found (All-head (IsScopedEntry t supply ds) (Some p) bs all) (λ h. entry_is bs (All-tail (IsScopedEntry t supply ds) (Some p) bs all) h)
+use Rattle.script_terms.proofs.Showing.{entry_found, entry_meant}
+use Rattle.script_terms.proofs.ScopeNames.{entry_is}
 
 -- ---- constants that are declared
 

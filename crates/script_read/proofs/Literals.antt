@@ -18,10 +18,10 @@ use Rattle.smt_terms.specs.Written.{plain, operator_named, written_named, build}
 use Rattle.smt_terms.proofs.Equal.{Decides-sort_eq, name_same}
 use Rattle.script_read.specs.Laws.{denoted}
 use Rattle.script_read.specs.Mean.{Denoted, Meaning, over_written, denoted_or, over_constant, truth_of, live_or, symbol_means, symbol_or_nothing, token_means, symbol_head_means, head_means, mean, mean_list, meaning}
-use Rattle.script_read.specs.Parts.{symbol_in, word_by, word_in, is_name, constant_by, head, opening, opening_word}
-use Rattle.script_read.specs.Reading.{Sofar, as_bindings, Entry, symbol_entry, entry_of}
+use Rattle.script_terms.specs.Parts.{symbol_in, word_by, word_in, is_name, constant_by, head, opening, opening_word}
+use Rattle.script_terms.specs.Reading.{Sofar, as_bindings, Entry, symbol_entry, entry_of}
 use Rattle.script_read.specs.Script.{boolean_constant, constant_entry, declared_constant, literal}
-use Rattle.script_read.proofs.Builds.{written_meaning}
+use Rattle.script_read.proofs.BuiltValues.{written_meaning}
 use Rattle.script_read.proofs.Fitting.{Sound}
 use Rattle.script_read.proofs.Naming.{meaning_bound}
 

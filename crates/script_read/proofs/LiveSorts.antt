@@ -15,16 +15,16 @@ use Rattle.smt_terms.specs.Numeral.{digits_before, numeral}
 use Rattle.smt_terms.specs.Rank.{most_bits, is_array}
 use Rattle.smt_terms.specs.Sorts.{Sort, bool, int, bit_vector, array, free_sort, Variable}
 use Rattle.smt_terms.proofs.Tests.{and_true, both_true}
-use Rattle.script_read.specs.declared.causes.Cause.TheVariants.{QuantifiedSort, ReservedName, Redeclared, WidthLimit, BadIndex, IndexSort, BadForm, RealSort, SortArity}
-use Rattle.script_read.specs.Parts.{place_of, symbol_in, word_in, is_name, numeral_in}
+use Rattle.script_terms.specs.declared.causes.Cause.TheVariants.{QuantifiedSort, ReservedName, Redeclared, WidthLimit, BadIndex, IndexSort, BadForm, RealSort, SortArity}
+use Rattle.script_terms.specs.Parts.{place_of, symbol_in, word_in, is_name, numeral_in}
 use Rattle.script_read.specs.Printable.{is_writable, is_usable, sort_is_live}
-use Rattle.script_read.specs.Read.{name_drawn_if, constant_names, renamed}
-use Rattle.script_read.specs.Refusals.{Refused, at, and_then, unless, mapped}
-use Rattle.script_read.specs.SortForms.{Sorts, live_or_unknown, sort_of_name, sort_of_symbol, vectors_of, indexed_sort, Part, array_sort, applied_name, applied_sort, sort_of_list, sort_in, parts_in, all_sorts, sorts_in}
-use Rattle.script_read.specs.Variables.{Binder, may_have, variable_of, variable_in, variables_in}
-use Rattle.script_read.proofs.Fitting.{Within, AllWithin}
-use Rattle.script_read.proofs.Outcomes.{and_then_ok, mapped_ok, ok_same}
-use Rattle.script_read.proofs.SortFacts.{unless_passed}
+use Rattle.script_terms.specs.Read.{name_drawn_if, constant_names, renamed}
+use Rattle.script_terms.specs.Refusals.{Refused, at, and_then, unless, mapped}
+use Rattle.script_terms.specs.SortForms.{Sorts, live_or_unknown, sort_of_name, sort_of_symbol, vectors_of, indexed_sort, Part, array_sort, applied_name, applied_sort, sort_of_list, sort_in, parts_in, all_sorts, sorts_in}
+use Rattle.script_terms.specs.Variables.{Binder, may_have, variable_of, variable_in, variables_in}
+use Rattle.script_terms.proofs.NameFacts.{Within, AllWithin}
+use Rattle.script_terms.proofs.Outcomes.{and_then_ok, mapped_ok, ok_same}
+use Rattle.script_terms.proofs.SortFacts.{unless_passed}
 use Rattle.script_read.proofs.WritableText.{NamesFit}
 
 -- ---- names that are drawn

@@ -3,7 +3,7 @@ use Rattle.std.proofs.Common.{◌≡◌, ℕ, zero, suc, ◌==◌, Bool, true, f
 use Rattle.smt_lex.specs.Lex.{Token, Fault, Lexed, ended, faulty, next, lex}
 use Rattle.smt_lex.specs.Forms.{is_right, depth_after, with_token, balanced, to_exit}
 use Rattle.smt_lex.specs.Forest.{Source, items, closes, IsBalanced}
-use Rattle.script_read.specs.Places.{IsRead}
+use Rattle.script_terms.specs.Places.{IsRead}
 
 tell : (b : Bool) → (b ≡ true) ⊎ (b ≡ false)
 tell true = inl refl

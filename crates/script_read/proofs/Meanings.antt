@@ -12,7 +12,7 @@ use Rattle.smt_terms.proofs.Tests.{and_true}
 use Rattle.script_read.specs.Commands.{Command, assert, check_assuming, with_asserted, start, Point, points, nth_point, at_point, live_in, live, literals, asserted_by, assumed_by, all_asserted, all_assumed}
 use Rattle.script_read.specs.Laws.{denoted, form_denoted, SameMeaning, SameMeaningEverywhere, ReadingKeepsMeaning, EachTermKeepsMeaning}
 use Rattle.script_read.specs.Mean.{is_true_of}
-use Rattle.script_read.specs.Read.{is_of_sort, has_sort}
+use Rattle.script_terms.specs.Read.{is_of_sort, has_sort}
 use Rattle.script_read.specs.Satisfied.{is_true_in}
 use Rattle.script_read.specs.Scenes.{Asserted, means_true, forms_script}
 use Rattle.script_read.proofs.Paired.{Meant, Pairs, script_pairs}

@@ -17,19 +17,19 @@ use Rattle.smt_terms.specs.Values.{default_value}
 use Rattle.smt_terms.proofs.Agree.{val_same}
 use Rattle.smt_terms.proofs.Equal.{Decides-symbol_eq, name_same}
 use Rattle.smt_terms.proofs.Tests.{both_false, either_true, contrary}
-use Rattle.script_read.specs.declared.causes.Cause.TheVariants.{Redeclared, ReservedName}
+use Rattle.script_terms.specs.declared.causes.Cause.TheVariants.{Redeclared, ReservedName}
 use Rattle.script_read.specs.Laws.{denoted}
 use Rattle.script_read.specs.Mean.{Denoted, Meaning, mean, with_locals, meaning}
-use Rattle.script_read.specs.Parts.{place_of, symbol_in}
-use Rattle.script_read.specs.Read.{is_given, term_name, term_name_in, term_names, local_constants, mentions_local}
-use Rattle.script_read.specs.Reading.{ReadLocal, ReadBinding, named_as, as_local, as_bindings, Sofar, Entry, term_entry, entry_of}
-use Rattle.script_read.specs.Refusals.{unless, mapped}
-use Rattle.script_read.specs.Scope.{Binding, sort_name, function, definition, named, level, or_later, live_sort}
+use Rattle.script_terms.specs.Parts.{place_of, symbol_in}
+use Rattle.script_terms.specs.Read.{is_given, term_name, term_name_in, term_names, local_constants, mentions_local}
+use Rattle.script_terms.specs.Reading.{ReadLocal, ReadBinding, named_as, as_local, as_bindings, Sofar, Entry, term_entry, entry_of}
+use Rattle.script_terms.specs.Refusals.{unless, mapped}
+use Rattle.script_terms.specs.Scope.{Binding, sort_name, function, definition, named, level, or_later, live_sort}
 use Rattle.script_read.proofs.Agreeing.{agrees_default, HaveDefaults}
 use Rattle.script_read.proofs.Fitting.{Unassigned, EntryMeans, LiveFits, Agrees, EntrySound, Sound, Moves, Ready}
-use Rattle.script_read.proofs.NameFacts.{theory_reserved}
-use Rattle.script_read.proofs.Outcomes.{and_then_ok, mapped_ok, ok_same}
-use Rattle.script_read.proofs.SortFacts.{unless_passed}
+use Rattle.script_terms.proofs.NameFacts.{theory_reserved}
+use Rattle.script_terms.proofs.Outcomes.{and_then_ok, mapped_ok, ok_same}
+use Rattle.script_terms.proofs.SortFacts.{unless_passed}
 
 -- ---- what a list of bindings means, in part
 

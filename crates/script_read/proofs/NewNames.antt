@@ -1,48 +1,24 @@
--- Parts of commands: names that are declared or defined, where a scope shows the live bindings, and numerals.
-use Rattle.std.proofs.Common.{◌≡◌, ℕ, ◌==◌, inl, inr, arith, Bool, true, false, List, Option, Some, None, option_map, Result, Ok, Err, refl, ap, sym, ◌∙◌}
+-- Parts of commands: names that are declared or defined, and numerals.
+use Rattle.std.proofs.Common.{◌≡◌, ℕ, ◌==◌, inl, inr, arith, Bool, true, false, List, Some, Result, Ok, Err, refl, ap, ◌∙◌}
 use Rattle.std.specs.Prelude.{is_some}
 use Rattle.std.proofs.lemmas.Bool.Decides.{eqb_tells}
 use Rattle.smt_lex.specs.Lex.{Token}
 use Rattle.smt_lex.specs.Forest.{token_at}
 use Rattle.smt_lex.specs.Names.{Name, is_reserved_for_declaring, is_reserved_for_sorts}
 use Rattle.term_table.specs.Formulas.{Formulas}
-use Rattle.script_read.specs.declared.causes.Cause.{Cause}
-use Rattle.script_read.specs.declared.causes.Cause.TheVariants.{Redeclared, ReservedName}
-use Rattle.script_read.specs.declared.faults.Fault.{Fault}
-use Rattle.script_read.specs.Known.{Scoping, IsOwnName, find, terms_shown, sorts_shown, terms_live, sorts_live, meant_by}
+use Rattle.script_terms.specs.declared.causes.Cause.{Cause}
+use Rattle.script_terms.specs.declared.causes.Cause.TheVariants.{Redeclared, ReservedName}
+use Rattle.script_terms.specs.Known.{Scoping, IsOwnName, find, terms_shown, sorts_shown, terms_live, sorts_live}
 use Rattle.script_read.specs.Outlines.{At}
-use Rattle.script_read.specs.Parts.{numeral_by, numeral_in}
-use Rattle.script_read.specs.Places.{form_from, capped}
-use Rattle.script_read.specs.Reading.{ReadBinding, entry_of, live_sorts}
-use Rattle.script_read.specs.Refusals.{Refused, at, unless}
-use Rattle.script_read.specs.Replies.{refused_seen}
+use Rattle.script_terms.specs.Parts.{numeral_by, numeral_in}
+use Rattle.script_terms.specs.Places.{form_from, capped}
+use Rattle.script_terms.specs.Reading.{ReadBinding, entry_of, live_sorts}
+use Rattle.script_terms.specs.Refusals.{Refused, at, unless}
 use Rattle.script_read.specs.ShapeClauses.{IsNumeralAt, counted_at}
 use Rattle.script_read.specs.Script.{declarable, sort_declarable}
-use Rattle.script_read.proofs.NameFacts.{not_theory}
-use Rattle.script_read.proofs.Placing.{numeral_here}
-use Rattle.script_read.proofs.Showing.{entry_found, entry_meant, sort_found}
-
-both_some : {A B C : Type 0} (f : A → C) (g : B → C) (a : Option A) (b : Option B) → option_map f a ≡ option_map g b → is_some a ≡ is_some b
-both_some f g (Some a) (Some b) same = refl
-both_some f g (Some a) None same = absurd (cc)
-both_some f g None (Some b) same = absurd (cc)
-both_some f g None None same = refl
-
-still_some : {A C : Type 0} (f : A → C) (a : Option A) → is_some (option_map f a) ≡ is_some a
-still_some f (Some a) = refl
-still_some f None = refl
-
--- a name of a scope is live
-module _ (t : Formulas) (s : Scoping) (live : List ReadBinding) where
-  pub entry_live : terms_shown t s ≡ terms_live live → (n : Name) → is_some (entry_of live n) ≡ is_some (find s.terms n)
-  entry_live shown n = sym (both_some (meant_by t s.definitions) entry_meant (find s.terms n) (entry_of live n) (entry_found t s live shown n))
-
-  pub sort_live : sorts_shown t s ≡ sorts_live live → (n : Name) → is_some (live_sorts live n) ≡ is_some (find s.sorts n)
-  sort_live shown n = sym (ap is_some (sort_found t s live shown n)) ∙ still_some _ (find s.sorts n)
-
--- a refusal as the code holds it
-pub refused_at : {A : Type 0} (e : Fault) (cause : Cause) (place : ℕ) → e.cause ≡ cause → e.place ≡ place → at {A = A} cause place ≡ Err (refused_seen e)
-refused_at e cause place cause_is place_is = λ i. Err (record { cause = sym cause_is i; place = sym place_is i })
+use Rattle.script_terms.proofs.NameFacts.{not_theory}
+use Rattle.script_terms.proofs.Placing.{numeral_here}
+use Rattle.script_terms.proofs.ScopeNames.{entry_live, sort_live}
 
 -- ---- two tests before what is given
 

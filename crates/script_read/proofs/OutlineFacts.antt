@@ -11,13 +11,13 @@ use Rattle.smt_lex.specs.Forms.{Form, atom, node, Forms, none, ◌⨾◌, is_exi
 use Rattle.smt_lex.specs.FormText.{form_text}
 use Rattle.smt_terms.specs.Free.{name_among}
 use Rattle.smt_terms.proofs.Equal.{name_same}
-use Rattle.script_read.specs.declared.causes.Cause.TheVariants.{BadForm, UnknownCommand}
+use Rattle.script_terms.specs.declared.causes.Cause.TheVariants.{BadForm, UnknownCommand}
 use Rattle.script_read.specs.Outlines.{At, CommandWord, set_logic_word, set_info_word, set_option_word, get_info_word, get_option_word, echo_word, get_model_word, declare_sort_word, define_sort_word, declare_const_word, declare_fun_word, define_fun_word, assert_word, check_sat_word, check_sat_assuming_word, push_word, pop_word, reset_word, reset_assertions_word, exit_word, command_table, word_among, supported, Outline, passing, global_option, sort_declaration, sort_definition, symbol_declaration, symbol_definition, assertion, checking, assuming, pushing, popping, resetting, resetting_assertions, ending, where_so, of_both, symbol_at, numeral_at, list_in, is_globals, option_shape, shape, shaped, outline_by, outline, is_passing, is_passing_alone, is_passed_text, placed as placed_part}
-use Rattle.script_read.specs.Parts.{place_of, is_symbol, word_by, word_in, keyword_in, is_keyword, is_text}
-use Rattle.script_read.specs.Refusals.{at, given}
-use Rattle.script_read.proofs.Fitting.{Within, AllWithin}
+use Rattle.script_terms.specs.Parts.{place_of, is_symbol, word_by, word_in, keyword_in, is_keyword, is_text}
+use Rattle.script_terms.specs.Refusals.{at, given}
+use Rattle.script_terms.proofs.NameFacts.{Within, AllWithin}
 use Rattle.script_read.proofs.FormTexts.{IsWritten, end_of, placed, placed_behind, forms_of_text}
-use Rattle.script_read.proofs.Outcomes.{given_ok}
+use Rattle.script_terms.proofs.Outcomes.{given_ok}
 
 -- ---- commands that are passed on, at other places
 

@@ -16,34 +16,36 @@ use Rattle.smt_terms.specs.SubstLaws.{GivesNone}
 use Rattle.smt_terms.specs.Term.{Term}
 use Rattle.smt_terms.specs.Val.{Env, no_variables}
 use Rattle.smt_terms.proofs.Tests.{and_true}
-use Rattle.script_read.specs.declared.causes.Cause.{Cause}
-use Rattle.script_read.specs.declared.causes.Cause.TheVariants.{WrongSort, BadForm, Redeclared, ReservedName, PopTooFar, NumberLimit, SortArity, UnsupportedOption, UnknownCommand}
+use Rattle.script_terms.specs.declared.causes.Cause.{Cause}
+use Rattle.script_terms.specs.declared.causes.Cause.TheVariants.{WrongSort, BadForm, Redeclared, ReservedName, PopTooFar, NumberLimit, SortArity, UnsupportedOption, UnknownCommand}
 use Rattle.script_read.specs.Commands.{Command, passed, declare_sort, declare, assert, check, check_assuming, push, pop, reset, reset_assertions, globals, exit, with_asserted}
 use Rattle.script_read.specs.Laws.{denoted}
 use Rattle.script_read.specs.Mean.{Denoted, accepted_or, mean, meaning, with_arguments}
 use Rattle.script_read.specs.Outlines.{At, CommandWord, set_logic_word, set_info_word, set_option_word, get_info_word, get_option_word, echo_word, get_model_word, declare_sort_word, define_sort_word, declare_const_word, declare_fun_word, define_fun_word, assert_word, check_sat_word, check_sat_assuming_word, push_word, pop_word, reset_word, reset_assertions_word, exit_word, Outline, passing, global_option, sort_declaration, sort_definition, symbol_declaration, symbol_definition, assertion, checking, assuming, pushing, popping, resetting, resetting_assertions, ending, levels_written, where_so, of_both, symbol_at, numeral_at, list_in, is_globals, shape, shaped, outline_by, outline, supported, placed}
 use Rattle.smt_lex.specs.FormText.{form_text}
-use Rattle.script_read.specs.Parts.{place_of, is_symbol, is_keyword, is_text, keyword_in, word_in}
-use Rattle.script_read.specs.Read.{has_sort, read}
-use Rattle.script_read.specs.Reading.{ReadBinding, sort_known, function_known, level_known, Sofar, as_bindings, live_sorts, is_level_known, entry_of}
-use Rattle.script_read.specs.Refusals.{Refused, at, and_then, unless, mapped, given}
+use Rattle.script_terms.specs.Parts.{place_of, is_symbol, is_keyword, is_text, keyword_in, word_in}
+use Rattle.script_terms.specs.Read.{has_sort, read}
+use Rattle.script_terms.specs.Reading.{ReadBinding, sort_known, function_known, level_known, Sofar, as_bindings, live_sorts, is_level_known, entry_of}
+use Rattle.script_terms.specs.Refusals.{Refused, at, and_then, unless, mapped, given}
 use Rattle.script_read.specs.Scenes.{Asserted, is_true_symbol, naming, literals_meant, seen, seen_or_none, seen_command, commands_seen, symbol_meant, first_scene}
-use Rattle.script_read.specs.Scope.{opened, popped}
-use Rattle.script_read.specs.Script.{Standing, Step, live_of, begun_with, declarable, sort_declarable, declares_sort, without_parameters, defines_sort, declares, symbol_of_sorts, declares_symbol, body_context, defined_with, of_sort, read_body, defines_symbol, no_context, asserted_with, asserts, literal, literals_in, assumes, most_levels, open_levels, place_or, pushed_unless, pops, truth_in, sets_globals, step, read_command, numbered, behind, read_commands, first_standing, names_with_all, read_forms, script}
-use Rattle.script_read.specs.SortForms.{sort_in, sorts_in}
-use Rattle.script_read.specs.Variables.{definition_binder, variables_in}
+use Rattle.script_terms.specs.Scope.{opened, popped}
+use Rattle.script_read.specs.Script.{Standing, Step, live_of, begun_with, declarable, sort_declarable, declares_sort, without_parameters, defines_sort, declares, symbol_of_sorts, declares_symbol, body_context, defined_with, of_sort, read_body, defines_symbol, no_context, asserted_with, asserts, literal, literals_in, assumes, most_levels, open_levels, place_or, pushed_unless, pops, truth_in, sets_globals, step, read_command, numbered, behind, read_commands, first_standing, read_forms, script}
+use Rattle.script_terms.specs.TextNames.{names_with_all}
+use Rattle.script_terms.specs.SortForms.{sort_in, sorts_in}
+use Rattle.script_terms.specs.Variables.{definition_binder, variables_in}
 use Rattle.script_read.proofs.Agreement.{command_shows, shown_at, numbered_ok, read_ok}
 use Rattle.script_read.proofs.Bindings.{read_leads}
 use Rattle.script_read.proofs.Defining.{variables_fine, nothing_ready, body_ready, agrees_arguments}
-use Rattle.script_read.proofs.Fitting.{Within, AllWithin, declared_of, Unassigned, Given, Sound, Built, Moves, Reads}
+use Rattle.script_terms.proofs.NameFacts.{Within, AllWithin}
+use Rattle.script_read.proofs.Fitting.{declared_of, Unassigned, Given, Sound, Built, Moves, Reads}
 use Rattle.script_read.proofs.Literals.{LiteralRead, literal_means}
-use Rattle.script_read.proofs.NameFacts.{all_within_text}
+use Rattle.script_terms.proofs.NameFacts.{all_within_text}
 use Rattle.script_read.proofs.Naming.{agrees_alone}
-use Rattle.script_read.proofs.Outcomes.{and_then_ok, mapped_ok, given_ok, ok_same}
+use Rattle.script_terms.proofs.Outcomes.{and_then_ok, mapped_ok, given_ok, ok_same}
 use Rattle.script_read.proofs.RegularReads.{AllRegular, RegularRead, form_regular, parameters_regular, nothing_regular}
 use Rattle.script_read.proofs.RegularStanding.{regular_opened, regular_popped, regular_emptied, sorts_fine, literal_regular}
 use Rattle.script_read.proofs.Shown.{scene_of, bindings_of, truth_of_form, same_symbol, of_sort_ok, leads_ok}
-use Rattle.script_read.proofs.SortFacts.{VariablesRead, variables_read, sort_fine, unless_passed}
+use Rattle.script_terms.proofs.SortFacts.{VariablesRead, variables_read, sort_fine, unless_passed}
 use Rattle.script_read.proofs.Standing.{sound_built, built_opened, built_popped, built_emptied}
 use Rattle.script_read.proofs.TermsMean.{form_reads, ok_on, the_sort}
 

@@ -21,38 +21,40 @@ use Rattle.smt_terms.proofs.ClearTerms.{Apart, free_distinct}
 use Rattle.smt_terms.proofs.Equal.{Decides-sort_eq, symbol_itself, name_itself}
 use Rattle.smt_terms.proofs.Ranked.{le_true}
 use Rattle.smt_terms.proofs.Tests.{and_true, both_true, left_true, right_true, both_false, contrary}
-use Rattle.script_read.specs.declared.causes.Cause.{Cause}
-use Rattle.script_read.specs.declared.causes.Cause.TheVariants.{BadForm, Redeclared, ReservedName, PopTooFar, NumberLimit, SortArity, UnsupportedOption}
+use Rattle.script_terms.specs.declared.causes.Cause.{Cause}
+use Rattle.script_terms.specs.declared.causes.Cause.TheVariants.{BadForm, Redeclared, ReservedName, PopTooFar, NumberLimit, SortArity, UnsupportedOption}
 use Rattle.script_read.specs.Commands.{Command, declare_sort, check_assuming, pop, reset, reset_assertions, globals, exit, Level, State, empty_level, start, levels_popped, levels_emptied, throughout, on_latest, with_sort, with_symbol, with_assertion, after, sorts_of_state, symbols_of_state}
 use Rattle.script_read.specs.Laws.{ReadScriptsArePrintable}
 use Rattle.script_read.specs.Outlines.{At, Outline, passing, global_option, sort_declaration, sort_definition, symbol_declaration, symbol_definition, assertion, checking, assuming, pushing, popping, resetting, resetting_assertions, ending, levels_written, outline, is_passed_text}
-use Rattle.script_read.specs.Parts.{place_of, symbol_in, is_name}
+use Rattle.script_terms.specs.Parts.{place_of, symbol_in, is_name}
 use Rattle.script_read.specs.Printable.{is_writable, is_usable, sort_is_live, all_within, symbols_are_live, is_printable_term, is_live_constant, is_live_literal, open_levels as levels_open, may_stand, fixes, may_be_followed, printable_from, printable}
-use Rattle.script_read.specs.Read.{is_of_sort, has_sort, read}
-use Rattle.script_read.specs.Reading.{ReadBinding, sort_known, is_level_known, live_sorts, Entry, symbol_entry, definition_entry, term_entry, entry_of}
-use Rattle.script_read.specs.Refusals.{Refused, and_then, unless, mapped, given}
+use Rattle.script_terms.specs.Read.{is_of_sort, has_sort, read}
+use Rattle.script_terms.specs.Reading.{ReadBinding, sort_known, is_level_known, live_sorts, Entry, symbol_entry, definition_entry, term_entry, entry_of}
+use Rattle.script_terms.specs.Refusals.{Refused, and_then, unless, mapped, given}
 use Rattle.script_read.specs.Scenes.{seen_command}
-use Rattle.script_read.specs.Scope.{popped, emptied}
-use Rattle.script_read.specs.Script.{Standing, Step, live_of, begun_with, declarable, sort_declarable, declares_sort, without_parameters, defines_sort, declares, symbol_of_sorts, declares_symbol, body_context, defined_with, of_sort, read_body, defines_symbol, no_context, asserted_with, asserts, boolean_constant, constant_entry, declared_constant, literal, literals_in, assumes, most_levels, open_levels, place_or, pushed_unless, pops, truth_in, sets_globals, step, read_command, numbered, behind, read_commands, first_standing, names_with_all, read_forms}
-use Rattle.script_read.specs.SortForms.{sort_in, sorts_in}
-use Rattle.script_read.specs.Variables.{definition_binder, variables_in}
+use Rattle.script_terms.specs.Scope.{popped, emptied}
+use Rattle.script_read.specs.Script.{Standing, Step, live_of, begun_with, declarable, sort_declarable, declares_sort, without_parameters, defines_sort, declares, symbol_of_sorts, declares_symbol, body_context, defined_with, of_sort, read_body, defines_symbol, no_context, asserted_with, asserts, boolean_constant, constant_entry, declared_constant, literal, literals_in, assumes, most_levels, open_levels, place_or, pushed_unless, pops, truth_in, sets_globals, step, read_command, numbered, behind, read_commands, first_standing, read_forms}
+use Rattle.script_terms.specs.TextNames.{names_with_all}
+use Rattle.script_terms.specs.SortForms.{sort_in, sorts_in}
+use Rattle.script_terms.specs.Variables.{definition_binder, variables_in}
 use Rattle.script_read.proofs.Agreement.{numbered_ok, read_ok}
 use Rattle.script_read.proofs.ClearReads.{AllClear, declared_apart, ClearRead, form_clear}
 use Rattle.script_read.proofs.ClearScript.{StepClear, command_clear, nothing_clear}
 use Rattle.script_read.proofs.Defining.{nothing_ready}
-use Rattle.script_read.proofs.Fitting.{Within, AllWithin, declared_of, Sound}
+use Rattle.script_terms.proofs.NameFacts.{Within, AllWithin}
+use Rattle.script_read.proofs.Fitting.{declared_of, Sound}
 use Rattle.script_read.proofs.FormTexts.{IsWritten, AreWritten}
 use Rattle.script_read.proofs.LastExit.{ExitsLast, text_exits_last}
 use Rattle.script_read.proofs.LiveSorts.{sort_live, sorts_live, variables_are_usable}
-use Rattle.script_read.proofs.NameFacts.{all_within_text}
+use Rattle.script_terms.proofs.NameFacts.{all_within_text}
 use Rattle.script_read.proofs.OutlineFacts.{is_exit_form, OutlineTold, outline_told, passed_again}
-use Rattle.script_read.proofs.Outcomes.{and_then_ok, mapped_ok, given_ok, ok_same}
+use Rattle.script_terms.proofs.Outcomes.{and_then_ok, mapped_ok, given_ok, ok_same}
 use Rattle.script_read.proofs.Paired.{Stands, sound_of, OutlineWithin, outline_within, of_sort_sorted, gone_ok, command_goes, first_stands}
 use Rattle.script_read.proofs.RegularReads.{RegularRead, form_regular, nothing_regular}
 use Rattle.script_read.proofs.RegularStanding.{sorts_fine}
 use Rattle.script_read.proofs.ShownLevels.{Bare, bare_levels, levels_of, levels_some, levels_length, bare_sort, bare_symbol, bare_pushed, bare_popped, bare_emptied, bare_sorts, bare_symbols, levels_opened, levels_of_popped, levels_of_emptied, known_sorts, known_symbols, is_own, with_sort_if, name_last_if, sorts_known, symbols_known, known_live, named_live, declared_known, entry_known}
 use Rattle.script_read.proofs.Shown.{scene_of, of_sort_ok}
-use Rattle.script_read.proofs.SortFacts.{sort_fine}
+use Rattle.script_terms.proofs.SortFacts.{sort_fine}
 use Rattle.script_read.proofs.TermsMean.{ok_on}
 use Rattle.script_read.proofs.UsableBindings.{IsUsableTerm, AllUsable, sorts_usable, usable_opened, usable_popped, usable_emptied}
 use Rattle.script_read.proofs.UsableReads.{sorts_at, Kept, same_sorts, UsableRead, sorts_kept, form_usable, parameters_usable, nothing_usable}

@@ -14,23 +14,23 @@ use Rattle.term_walk.specs.Walking.{GrowsTo}
 use Rattle.script_read.specs.declared.scripts.Command.{Command}
 use Rattle.script_read.specs.declared.session.Session.{Session}
 use Rattle.script_read.specs.declared.scripts.Script.{Script}
-use Rattle.script_read.specs.declared.faults.Refusal.{Refusal as RefusalOf}
-use Rattle.script_read.specs.declared.faults.ReadFault.{ReadFault}
-use Rattle.script_read.specs.declared.faults.ReadFault.TheVariants.{Refused as RefusedFor, Memory}
-use Rattle.script_read.specs.declared.faults.ScriptFault.{ScriptFault}
-use Rattle.script_read.specs.declared.faults.ScriptFault.TheVariants.{Refused as RefusedScript, Memory as Unread}
+use Rattle.script_terms.specs.declared.faults.Refusal.{Refusal as RefusalOf}
+use Rattle.script_terms.specs.declared.faults.ReadFault.{ReadFault}
+use Rattle.script_terms.specs.declared.faults.ReadFault.TheVariants.{Refused as RefusedFor, Memory}
+use Rattle.script_terms.specs.declared.faults.ScriptFault.{ScriptFault}
+use Rattle.script_terms.specs.declared.faults.ScriptFault.TheVariants.{Refused as RefusedScript, Memory as Unread}
 use Rattle.script_read.specs.CommandLists.{command_of, commands_of, IsCommandOf, AreCommandsOf, IsRefusal, ReadsScript}
 use Rattle.script_read.specs.Commands.{Command as CommandOf}
-use Rattle.script_read.specs.Known.{nothing_known}
-use Rattle.script_read.specs.Places.{IsRead, forms_from}
-use Rattle.script_read.specs.Refusals.{Refused, and_then, mapped, Unaccepted, refused as refused_text}
-use Rattle.script_read.specs.Replies.{refused_seen, Refuses}
+use Rattle.script_terms.specs.Known.{nothing_known}
+use Rattle.script_terms.specs.Places.{IsRead, forms_from}
+use Rattle.script_terms.specs.Refusals.{Refused, and_then, mapped, Unaccepted, refused as refused_text}
+use Rattle.script_terms.specs.Replies.{refused_seen, Refuses}
 use Rattle.script_read.specs.Script.{Standing, Step, read_command, Numbered, numbered, behind, read_commands, fresh, first_standing, commands_or_refusal, read_forms, script, refusal}
 use Rattle.script_read.specs.ScriptSteps.{IsScriptFault, ReadsCommands}
 use Rattle.script_read.specs.Steps.{StandsAt, Steps}
 use Rattle.script_read.proofs.CommandsStay.{command_within, command_stays}
-use Rattle.script_read.proofs.Grown.{same_map}
-use Rattle.script_read.proofs.Showing.{shows_nothing}
+use Rattle.script_terms.proofs.Grown.{same_map}
+use Rattle.script_terms.proofs.Showing.{shows_nothing}
 
 -- ---- commands that were read
 

@@ -14,20 +14,21 @@ use Rattle.smt_terms.specs.Term.{Quantifier, op, symbol, const_array, Term, appl
 use Rattle.smt_terms.specs.Written.{written_rank, build}
 use Rattle.smt_terms.proofs.SortsOfTerms.{regular_over}
 use Rattle.smt_terms.proofs.Tests.{and_true, both_true}
-use Rattle.script_read.specs.declared.causes.Cause.TheVariants.{WrongSort, BadForm}
-use Rattle.script_read.specs.Heads.{atom_term, vector_constant, Callee, written, array_of_sort, called, defined, operandless, callee_of, term_algebra, operand_sorts, where_ranked, parameters_from, expanded, rank_of_arguments, applied}
-use Rattle.script_read.specs.Parts.{Opening, let_word, quantifier_word, annotation_word, index_word, head, opening, place_of, symbol_in, are_attributes, named_parts}
-use Rattle.script_read.specs.Read.{Context, with_local, is_empty, let_name, constant_names, is_taken, draws_names, with_quantified, below_quantifier, renamed, has_sort, quantified_over, term_names, mentions_local, annotated, read, read_list, read_bindings, read_all}
-use Rattle.script_read.specs.Reading.{ReadLocal, lets_as, quantified_as, parameter_as, ReadBinding, sort_known, function_known, definition_as, named_as, level_known, Sofar, Entry, symbol_entry, definition_entry, term_entry, entry_of, live_sorts, term_among, term_or, bound_as, constant_as, Reading, ◌>>=◌, gives, by_live, binds}
-use Rattle.script_read.specs.Refusals.{Refused, unless}
-use Rattle.script_read.specs.Scope.{or_later}
+use Rattle.script_terms.specs.declared.causes.Cause.TheVariants.{WrongSort, BadForm}
+use Rattle.script_terms.specs.Heads.{atom_term, vector_constant, Callee, written, array_of_sort, called, defined, operandless, callee_of, term_algebra, operand_sorts, where_ranked, parameters_from, expanded, rank_of_arguments, applied}
+use Rattle.script_terms.specs.Parts.{Opening, let_word, quantifier_word, annotation_word, index_word, head, opening, place_of, symbol_in, are_attributes, named_parts}
+use Rattle.script_terms.specs.Read.{Context, with_local, is_empty, let_name, constant_names, is_taken, draws_names, with_quantified, below_quantifier, renamed, has_sort, quantified_over, term_names, mentions_local, annotated, read, read_list, read_bindings, read_all}
+use Rattle.script_terms.specs.Reading.{ReadLocal, lets_as, quantified_as, parameter_as, ReadBinding, sort_known, function_known, definition_as, named_as, level_known, Sofar, Entry, symbol_entry, definition_entry, term_entry, entry_of, live_sorts, term_among, term_or, bound_as, constant_as, Reading, ◌>>=◌, gives, by_live, binds}
+use Rattle.script_terms.specs.Refusals.{Refused, unless}
+use Rattle.script_terms.specs.Scope.{or_later}
 use Rattle.script_read.specs.Script.{parameters_read}
-use Rattle.script_read.specs.Variables.{quantifier_binder, variables_in}
-use Rattle.script_read.proofs.Fitting.{Within, AllWithin, have_sorts}
-use Rattle.script_read.proofs.Outcomes.{ok_same}
+use Rattle.script_terms.specs.Variables.{quantifier_binder, variables_in}
+use Rattle.script_terms.proofs.NameFacts.{Within, AllWithin}
+use Rattle.script_read.proofs.Fitting.{have_sorts}
+use Rattle.script_terms.proofs.Outcomes.{ok_same}
 use Rattle.script_read.proofs.RegularTerms.{symbol_regular, build_regular, variable_regular, expand_regular}
 use Rattle.script_read.proofs.Sources.{entry_alone, AtomSource, of_constant, of_local, of_entry, atom_source, entry_called, CalleeSource, of_operator, of_sort_form, of_nothing, of_live, callee_source}
-use Rattle.script_read.proofs.SortFacts.{SortsFine, sort_fine, unless_passed, VariablesRead, variables_read}
+use Rattle.script_terms.proofs.SortFacts.{SortsFine, sort_fine, unless_passed, VariablesRead, variables_read}
 use Rattle.script_read.proofs.Defining.{variables_fine}
 use Rattle.script_read.proofs.TermsMean.{OnOk, then_on, on_rule, on_last, on_unless, on_given, on_refused, vector_source}
 

@@ -12,16 +12,16 @@ use Rattle.smt_terms.specs.Rank.{is_sort, has_sorts, is_regular}
 use Rattle.smt_terms.specs.Sorts.{Sort, bool, Symbol}
 use Rattle.smt_terms.specs.Term.{op, symbol, Term, terms, none as no_terms, constant}
 use Rattle.smt_terms.proofs.Tests.{and_true}
-use Rattle.script_read.specs.Parts.{symbol_in, is_name}
-use Rattle.script_read.specs.Reading.{ReadBinding, level_known, is_level_known, Entry, symbol_entry, definition_entry, term_entry, entry_of}
-use Rattle.script_read.specs.Refusals.{mapped}
-use Rattle.script_read.specs.Scope.{opened, closed, merged, flattened, popped, emptied}
+use Rattle.script_terms.specs.Parts.{symbol_in, is_name}
+use Rattle.script_terms.specs.Reading.{ReadBinding, level_known, is_level_known, Entry, symbol_entry, definition_entry, term_entry, entry_of}
+use Rattle.script_terms.specs.Refusals.{mapped}
+use Rattle.script_terms.specs.Scope.{opened, closed, merged, flattened, popped, emptied}
 use Rattle.script_read.specs.Script.{boolean_constant, constant_entry, declared_constant, literal}
-use Rattle.script_read.specs.SortForms.{Sorts, sort_in, parts_in, all_sorts, sorts_in}
-use Rattle.script_read.proofs.Outcomes.{and_then_ok, mapped_ok, ok_same}
+use Rattle.script_terms.specs.SortForms.{Sorts, sort_in, parts_in, all_sorts, sorts_in}
+use Rattle.script_terms.proofs.Outcomes.{and_then_ok, mapped_ok, ok_same}
 use Rattle.script_read.proofs.RegularReads.{AllRegular, entry_regular}
 use Rattle.script_read.proofs.RegularTerms.{symbol_regular, made_regular}
-use Rattle.script_read.proofs.SortFacts.{SortsFine, sort_fine}
+use Rattle.script_terms.proofs.SortFacts.{SortsFine, sort_fine}
 
 -- ---- levels
 

@@ -16,8 +16,8 @@ use Rattle.smt_terms.proofs.Cuts.{cut-image}
 use Rattle.smt_terms.proofs.Keeping.{two_or_more, not_minus}
 use Rattle.smt_terms.proofs.SortsOfTerms.{IsRegular, regular, regular_over}
 use Rattle.smt_terms.proofs.Tests.{and_true, both_true}
-use Rattle.script_read.specs.Heads.{term_width, term_algebra, parameters_from}
-use Rattle.script_read.proofs.Builds.{builds}
+use Rattle.script_terms.specs.Heads.{term_width, term_algebra, parameters_from}
+use Rattle.script_terms.proofs.Builds.{builds}
 use Rattle.script_read.proofs.Fitting.{have_sorts}
 
 -- ---- what is made of regular terms

@@ -9,33 +9,29 @@ use Rattle.smt_terms.specs.Sorts.{Sort, free_sort}
 use Rattle.smt_values.specs.SortIds.{sort_at, IsSortId}
 use Rattle.term_table.specs.Formulas.{Formulas, symbol_at}
 use Rattle.term_walk.specs.Walking.{GrowsTo}
-use Rattle.script_read.specs.declared.causes.Cause.TheVariants.{SortArity}
-use Rattle.script_read.specs.declared.faults.Fault.{Fault}
-use Rattle.script_read.specs.declared.faults.ReadFault.{ReadFault}
-use Rattle.script_read.specs.declared.faults.ReadFault.TheVariants.{Refused as RefusedFor, Memory}
-use Rattle.script_read.specs.declared.scopes.Entry.{Entry}
+use Rattle.script_terms.specs.declared.causes.Cause.TheVariants.{SortArity}
+use Rattle.script_terms.specs.declared.faults.ReadFault.{ReadFault}
+use Rattle.script_terms.specs.declared.faults.ReadFault.TheVariants.{Refused as RefusedFor, Memory}
+use Rattle.script_terms.specs.declared.scopes.Entry.{Entry}
 use Rattle.script_read.specs.declared.scripts.Command.{Command}
 use Rattle.script_read.specs.declared.scripts.Command.TheVariants.{DeclareSort, Declare}
 use Rattle.script_read.specs.declared.session.Session.{Session}
 use Rattle.script_read.specs.CommandLists.{free_name}
 use Rattle.script_read.specs.Commands.{declare_sort, declare}
-use Rattle.script_read.specs.Known.{Scoping, IsEntry, symbol_meant, meant_by, with_sort, with_entry, Shows}
+use Rattle.script_terms.specs.Known.{Scoping, IsEntry, symbol_meant, meant_by, with_sort, with_entry, Shows}
 use Rattle.script_read.specs.Outlines.{At}
-use Rattle.script_read.specs.Parts.{place_of}
-use Rattle.script_read.specs.Reading.{ReadBinding, sort_known, function_known, live_sorts}
-use Rattle.script_read.specs.Refusals.{Refused, at, and_then, unless, mapped}
-use Rattle.script_read.specs.Replies.{refused_seen, Refuses, Follows}
+use Rattle.script_terms.specs.Parts.{place_of}
+use Rattle.script_terms.specs.Reading.{ReadBinding, sort_known, function_known, live_sorts}
+use Rattle.script_terms.specs.Refusals.{Refused, at, and_then, unless, mapped}
+use Rattle.script_terms.specs.Replies.{refused_seen, Refuses, Follows}
 use Rattle.script_read.specs.Script.{Standing, Step, live_of, begun_with, declarable, sort_declarable, declares_sort, without_parameters, defines_sort, declares, symbol_of_sorts, declares_symbol}
-use Rattle.script_read.specs.SortForms.{sort_in, sorts_in}
+use Rattle.script_terms.specs.SortForms.{sort_in, sorts_in}
 use Rattle.script_read.specs.Steps.{StandsAt, Steps, StepsTo}
-use Rattle.script_read.proofs.Grown.{later_self}
+use Rattle.script_terms.proofs.Grown.{later_self}
 use Rattle.script_read.proofs.NewNames.{declarable_own, declarable_passed, sort_declarable_passed}
-use Rattle.script_read.proofs.Showing.{shows_stays, shows_sort, shows_symbol}
+use Rattle.script_terms.proofs.Showing.{shows_stays, shows_sort, shows_symbol}
 
 -- ---- refusals
-
-pub refuses_as : {B : Type 0} (r : Result B Refused) (f : ReadFault) (e : Fault) → f ≡ RefusedFor e → r ≡ Err (refused_seen e) → Refuses r f
-refuses_as r f e is refused = subst (Refuses r) (sym is) refused
 
 -- what refuses a part refuses the whole
 pub refuses_whole : {A B : Type 0} (part : Result A Refused) (whole : Result B Refused) (f : ReadFault) → ((e : Refused) → part ≡ Err e → whole ≡ Err e) → Refuses part f → Refuses whole f

@@ -6,24 +6,24 @@ use Rattle.smt_lex.specs.Forms.{Form, Forms, none, ◌⨾◌}
 use Rattle.smt_terms.specs.Sorts.{Sort, bool, free_sort, Variable}
 use Rattle.smt_terms.specs.Subst.{parameter}
 use Rattle.smt_terms.specs.Term.{Term}
-use Rattle.script_read.specs.declared.causes.Cause.{Cause}
-use Rattle.script_read.specs.declared.causes.Cause.TheVariants.{WrongSort, BadForm, Redeclared, ReservedName, PopTooFar, NumberLimit, SortArity, UnsupportedOption}
-use Rattle.script_read.specs.Refusals.{Refused, and_then, unless, mapped, given}
-use Rattle.script_read.specs.Parts.{place_of, symbol_in, is_name}
-use Rattle.script_read.specs.SortForms.{sort_in, sorts_in}
-use Rattle.script_read.specs.Variables.{definition_binder, variables_in}
+use Rattle.script_terms.specs.declared.causes.Cause.{Cause}
+use Rattle.script_terms.specs.declared.causes.Cause.TheVariants.{WrongSort, BadForm, Redeclared, ReservedName, PopTooFar, NumberLimit, SortArity, UnsupportedOption}
+use Rattle.script_terms.specs.Refusals.{Refused, and_then, unless, mapped, given}
+use Rattle.script_terms.specs.Parts.{place_of, symbol_in, is_name}
+use Rattle.script_terms.specs.SortForms.{sort_in, sorts_in}
+use Rattle.script_terms.specs.Variables.{definition_binder, variables_in}
 use Rattle.script_read.specs.Commands.{Command, declare_sort, declare, assert, check_assuming, push, pop, globals}
-use Rattle.script_read.specs.Heads.{parameters_from}
+use Rattle.script_terms.specs.Heads.{parameters_from}
 use Rattle.script_read.specs.Laws.{LeadsTo, blank, bare}
 use Rattle.script_read.specs.Mean.{accepted_or}
 use Rattle.script_read.specs.Outlines.{At, Outline, passing, sort_declaration, sort_definition, symbol_declaration, assertion, assuming, pushing, popping, resetting, resetting_assertions, ending, levels_written, global_option, symbol_definition, checking}
-use Rattle.script_read.specs.Read.{has_sort, read}
-use Rattle.script_read.specs.Reading.{ReadLocal, parameter_as, as_local, ReadBinding, sort_known, level_known, as_binding, as_bindings, is_level_known, Sofar, live_sorts, entry_of}
+use Rattle.script_terms.specs.Read.{has_sort, read}
+use Rattle.script_terms.specs.Reading.{ReadLocal, parameter_as, as_local, ReadBinding, sort_known, level_known, as_binding, as_bindings, is_level_known, Sofar, live_sorts, entry_of}
 use Rattle.script_read.specs.Scenes.{Asserted, Scene, literals_meant, is_true_symbol, naming, seen, sort_meant, sorts_meant, symbol_meant, parameters_meant, parameter_locals, with_definition}
-use Rattle.script_read.specs.Scope.{Binding, sort_name, function, level, is_level, opened, closed, merged, flattened, popped, emptied, definition as definition_binding}
+use Rattle.script_terms.specs.Scope.{Binding, sort_name, function, level, is_level, opened, closed, merged, flattened, popped, emptied, definition as definition_binding}
 use Rattle.script_read.specs.Script.{Standing, Step, live_of, begun_with, declarable, sort_declarable, declares_sort, without_parameters, defines_sort, declares, symbol_of_sorts, declares_symbol, body_context, of_sort, read_body, defines_symbol, no_context, asserted_with, asserts, literal, literals_in, assumes, most_levels, open_levels, place_or, pushed_unless, pops, truth_named, truth_in, sets_globals, step, parameters_read, defined_with}
 use Rattle.script_read.proofs.Bindings.{read_leads}
-use Rattle.script_read.proofs.Outcomes.{and_then_ok, mapped_ok}
+use Rattle.script_terms.proofs.Outcomes.{and_then_ok, mapped_ok}
 
 abbrev mk : List Binding → Bool → ℕ → Scene
 mk bs global asserted = record { bindings = bs; global = global; asserted = asserted }

@@ -8,13 +8,13 @@ use Rattle.smt_terms.specs.Equal.{name_eq, sort_eq, symbol_eq}
 use Rattle.smt_terms.specs.Free.{is_among as is_among_symbols, names_of}
 use Rattle.smt_terms.specs.Sorts.{Name, Sort, free_sort, Symbol}
 use Rattle.script_read.specs.Commands.{Level, empty_level, throughout, on_latest, with_sort, with_symbol, with_declarations, folded, levels_popped, levels_emptied}
-use Rattle.script_read.specs.Reading.{ReadBinding, sort_known, function_known, definition_as, named_as, level_known, is_level_known, Entry, symbol_entry, definition_entry, term_entry, entry_of, live_sorts}
-use Rattle.script_read.specs.Scope.{or_later, opened, closed, merged, flattened, popped, emptied}
+use Rattle.script_terms.specs.Reading.{ReadBinding, sort_known, function_known, definition_as, named_as, level_known, is_level_known, Entry, symbol_entry, definition_entry, term_entry, entry_of, live_sorts}
+use Rattle.script_terms.specs.Scope.{or_later, opened, closed, merged, flattened, popped, emptied}
 use Rattle.smt_terms.proofs.Among.{is_among-append}
 use Rattle.smt_terms.proofs.Equal.{Decides-symbol_eq}
 use Rattle.smt_terms.proofs.Tests.{either_true, left_true, right_true}
 use Rattle.script_read.proofs.Fitting.{declared_of}
-use Rattle.script_read.proofs.NameFacts.{name_turned}
+use Rattle.script_terms.proofs.NameFacts.{name_turned}
 
 abbrev pub Bare : Type 0
 Bare = Level (Unit {0})

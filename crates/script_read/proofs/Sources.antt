@@ -13,15 +13,15 @@ use Rattle.smt_terms.specs.Rank.{most_bits}
 use Rattle.smt_terms.specs.Sorts.{Sort, Symbol}
 use Rattle.smt_terms.specs.Term.{op, Term, apply, none as no_terms, constant}
 use Rattle.smt_terms.specs.Written.{Written, Indexed, operator_named}
-use Rattle.script_read.specs.declared.causes.Cause.TheVariants.{WrongArity, WidthLimit, BadForm, UnknownName, NumberLimit, RealSort}
-use Rattle.script_read.specs.Heads.{real_names, theory_symbol, constant_or_refused, live_symbol, symbol_term, token_constant, other_atom, name_or_other, atom_by, atom_term, Callee, written, array_of_sort, called, defined, operandless, theory_head, live_head, named_head, indexed_head, filling_head, list_head, atom_head, callee_of}
-use Rattle.script_read.specs.Parts.{symbol_in, word_in, is_name, numerals_in, constant_by, greatest_number}
-use Rattle.script_read.specs.Reading.{ReadLocal, ReadBinding, Entry, symbol_entry, definition_entry, term_entry, entry_of, bound_as, live_sorts}
-use Rattle.script_read.specs.Refusals.{at, mapped}
-use Rattle.script_read.specs.SortForms.{sort_in}
+use Rattle.script_terms.specs.declared.causes.Cause.TheVariants.{WrongArity, WidthLimit, BadForm, UnknownName, NumberLimit, RealSort}
+use Rattle.script_terms.specs.Heads.{real_names, theory_symbol, constant_or_refused, live_symbol, symbol_term, token_constant, other_atom, name_or_other, atom_by, atom_term, Callee, written, array_of_sort, called, defined, operandless, theory_head, live_head, named_head, indexed_head, filling_head, list_head, atom_head, callee_of}
+use Rattle.script_terms.specs.Parts.{symbol_in, word_in, is_name, numerals_in, constant_by, greatest_number}
+use Rattle.script_terms.specs.Reading.{ReadLocal, ReadBinding, Entry, symbol_entry, definition_entry, term_entry, entry_of, bound_as, live_sorts}
+use Rattle.script_terms.specs.Refusals.{at, mapped}
+use Rattle.script_terms.specs.SortForms.{sort_in}
 use Rattle.script_read.proofs.Calling.{theory_called}
-use Rattle.script_read.proofs.Outcomes.{mapped_ok, ok_same}
-use Rattle.script_read.proofs.SortFacts.{unless_passed}
+use Rattle.script_terms.proofs.Outcomes.{mapped_ok, ok_same}
+use Rattle.script_terms.proofs.SortFacts.{unless_passed}
 
 -- ---- atoms
 

@@ -12,30 +12,32 @@ use Rattle.smt_terms.specs.Fresh.{Supply, NeverGives}
 use Rattle.smt_terms.specs.Sorts.{Sort, bool, free_sort, Symbol, Variable}
 use Rattle.smt_terms.specs.SubstLaws.{names_within, GivesNone, Later}
 use Rattle.smt_terms.specs.Term.{Term, constant}
-use Rattle.script_read.specs.declared.causes.Cause.{Cause}
-use Rattle.script_read.specs.declared.causes.Cause.TheVariants.{BadForm, Redeclared, ReservedName, PopTooFar, NumberLimit, SortArity, UnsupportedOption}
+use Rattle.script_terms.specs.declared.causes.Cause.{Cause}
+use Rattle.script_terms.specs.declared.causes.Cause.TheVariants.{BadForm, Redeclared, ReservedName, PopTooFar, NumberLimit, SortArity, UnsupportedOption}
 use Rattle.script_read.specs.Commands.{Command, passed, declare_sort, declare, assert, check, check_assuming, push, pop, reset, reset_assertions, globals, exit}
 use Rattle.script_read.specs.Laws.{names_in_command, GivesNoNameOf, NamesLeftAreNew}
 use Rattle.script_read.specs.Mean.{mean}
 use Rattle.script_read.specs.Outlines.{At, Outline, passing, global_option, sort_declaration, sort_definition, symbol_declaration, symbol_definition, assertion, checking, assuming, pushing, popping, resetting, resetting_assertions, ending, levels_written, outline}
 use Rattle.smt_lex.specs.FormText.{form_text}
-use Rattle.script_read.specs.Parts.{place_of, symbol_in, is_name}
-use Rattle.script_read.specs.Read.{read}
-use Rattle.script_read.specs.Reading.{sort_known, level_known, is_level_known, live_sorts, Entry, symbol_entry, definition_entry, term_entry, entry_of}
-use Rattle.script_read.specs.Refusals.{Refused, and_then, unless, mapped, given}
+use Rattle.script_terms.specs.Parts.{place_of, symbol_in, is_name}
+use Rattle.script_terms.specs.Read.{read}
+use Rattle.script_terms.specs.Reading.{sort_known, level_known, is_level_known, live_sorts, Entry, symbol_entry, definition_entry, term_entry, entry_of}
+use Rattle.script_terms.specs.Refusals.{Refused, and_then, unless, mapped, given}
 use Rattle.script_read.specs.Scenes.{seen_command}
-use Rattle.script_read.specs.Scope.{opened, popped}
-use Rattle.script_read.specs.Script.{Standing, Step, live_of, begun_with, declarable, sort_declarable, declares_sort, without_parameters, defines_sort, declares, symbol_of_sorts, declares_symbol, body_context, defined_with, of_sort, read_body, defines_symbol, no_context, asserted_with, asserts, boolean_constant, constant_entry, declared_constant, literal, literals_in, assumes, most_levels, open_levels, place_or, pushed_unless, pops, truth_in, sets_globals, step, read_command, numbered, behind, read_commands, first_standing, names_with_all, read_forms}
-use Rattle.script_read.specs.SortForms.{sort_in, sorts_in}
-use Rattle.script_read.specs.Variables.{definition_binder, variables_in}
+use Rattle.script_terms.specs.Scope.{opened, popped}
+use Rattle.script_read.specs.Script.{Standing, Step, live_of, begun_with, declarable, sort_declarable, declares_sort, without_parameters, defines_sort, declares, symbol_of_sorts, declares_symbol, body_context, defined_with, of_sort, read_body, defines_symbol, no_context, asserted_with, asserts, boolean_constant, constant_entry, declared_constant, literal, literals_in, assumes, most_levels, open_levels, place_or, pushed_unless, pops, truth_in, sets_globals, step, read_command, numbered, behind, read_commands, first_standing, read_forms}
+use Rattle.script_terms.specs.TextNames.{names_with_all}
+use Rattle.script_terms.specs.SortForms.{sort_in, sorts_in}
+use Rattle.script_terms.specs.Variables.{definition_binder, variables_in}
 use Rattle.script_read.proofs.Agreement.{numbered_ok, read_ok}
 use Rattle.script_read.proofs.Defining.{variables_fine, nothing_ready, body_ready}
-use Rattle.script_read.proofs.Fitting.{Within, AllWithin, declared_of, Sound, Reads}
-use Rattle.script_read.proofs.NameFacts.{all_within_text, spared_later, spared_both, spared_first, spared_none}
-use Rattle.script_read.proofs.Outcomes.{and_then_ok, mapped_ok, given_ok, ok_same}
+use Rattle.script_terms.proofs.NameFacts.{Within, AllWithin}
+use Rattle.script_read.proofs.Fitting.{declared_of, Sound, Reads}
+use Rattle.script_terms.proofs.NameFacts.{all_within_text, spared_later, spared_both, spared_first, spared_none}
+use Rattle.script_terms.proofs.Outcomes.{and_then_ok, mapped_ok, given_ok, ok_same}
 use Rattle.script_read.proofs.Paired.{Stands, sound_of, OutlineWithin, outline_within, gone_ok, command_goes, first_stands}
 use Rattle.script_read.proofs.Shown.{scene_of, of_sort_ok}
-use Rattle.script_read.proofs.SortFacts.{VariablesRead, variables_read}
+use Rattle.script_terms.proofs.SortFacts.{VariablesRead, variables_read}
 use Rattle.script_read.proofs.TermsMean.{form_reads, ok_on}
 
 -- ---- steps

@@ -12,10 +12,10 @@ use Rattle.smt_terms.specs.SubstLaws.{GivesNone}
 use Rattle.smt_terms.proofs.Equal.{Decides-symbol_eq, name_same, symbol_itself}
 use Rattle.smt_terms.proofs.Tests.{either_true, left_true, right_true, contrary}
 use Rattle.script_read.specs.Mean.{Denoted, over_symbol, mean, with_locals, with_arguments, with_binding, meaning}
-use Rattle.script_read.specs.Reading.{ReadBinding, sort_known, function_known, definition_as, named_as, level_known, as_local, as_binding, as_bindings, live_sorts, is_level_known, Entry, symbol_entry, definition_entry, term_entry, entry_of}
-use Rattle.script_read.specs.Scope.{or_later, opened, closed, merged, flattened, popped, emptied}
+use Rattle.script_terms.specs.Reading.{ReadBinding, sort_known, function_known, definition_as, named_as, level_known, as_local, as_binding, as_bindings, live_sorts, is_level_known, Entry, symbol_entry, definition_entry, term_entry, entry_of}
+use Rattle.script_terms.specs.Scope.{or_later, opened, closed, merged, flattened, popped, emptied}
 use Rattle.script_read.proofs.Fitting.{declared_of, Unassigned, EntryMeans, LiveFits, EntrySound, BindingSound, Built, Sound}
-use Rattle.script_read.proofs.NameFacts.{theory_reserved}
+use Rattle.script_terms.proofs.NameFacts.{theory_reserved}
 
 -- ---- one binding in front
 

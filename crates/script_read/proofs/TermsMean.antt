@@ -20,25 +20,27 @@ use Rattle.smt_terms.specs.Values.{is_true, truth}
 use Rattle.smt_terms.proofs.Equal.{Decides-sort_eq}
 use Rattle.smt_terms.proofs.Sorted.{sort_of-quantified}
 use Rattle.smt_terms.proofs.Tests.{both_false}
-use Rattle.script_read.specs.declared.causes.Cause.{Cause}
-use Rattle.script_read.specs.declared.causes.Cause.TheVariants.{WrongSort, WidthLimit, BadIndex, BadForm, Redeclared, ReservedName}
-use Rattle.script_read.specs.Heads.{Callee, called, defined, is_vector_name, vector_of_width, vector_constant_of, vector_constant, callee_of, applied, atom_term}
+use Rattle.script_terms.specs.declared.causes.Cause.{Cause}
+use Rattle.script_terms.specs.declared.causes.Cause.TheVariants.{WrongSort, WidthLimit, BadIndex, BadForm, Redeclared, ReservedName}
+use Rattle.script_terms.specs.Heads.{Callee, called, defined, is_vector_name, vector_of_width, vector_constant_of, vector_constant, callee_of, applied, atom_term}
 use Rattle.script_read.specs.Laws.{denoted}
 use Rattle.script_read.specs.Mean.{Denoted, Meaning, over_op, is_true_of, accepted_or, with_all, over_variables, quantified_variables, vector_means, index_means, head_means, quantifier_means, let_pair, mean, mean_list, mean_bindings, mean_all}
-use Rattle.script_read.specs.Parts.{Opening, let_word, quantifier_word, annotation_word, index_word, head, opening, place_of, symbol_in, numeral_in, vector_number, are_attributes, named_parts}
-use Rattle.script_read.specs.Read.{Context, with_local, is_empty, let_name, constant_names, is_taken, draws_names, with_quantified, below_quantifier, renamed, is_of_sort, has_sort, quantified_over, term_names, mentions_local, annotated, read, read_list, read_bindings, read_all}
-use Rattle.script_read.specs.Reading.{ReadLocal, lets_as, ReadBinding, sort_known, function_known, definition_as, named_as, level_known, Sofar, Entry, symbol_entry, definition_entry, term_entry, Reading, continued, ◌>>=◌, gives, refused_if, beside, by_live, binds, live_sorts, term_among, term_or, bound_as, is_declared, is_quantified}
-use Rattle.script_read.specs.Refusals.{Refused, at, unless}
-use Rattle.script_read.specs.Variables.{quantifier_binder, may_have, variables_in}
+use Rattle.script_terms.specs.Parts.{Opening, let_word, quantifier_word, annotation_word, index_word, head, opening, place_of, symbol_in, numeral_in, vector_number, are_attributes, named_parts}
+use Rattle.script_terms.specs.Read.{Context, with_local, is_empty, let_name, constant_names, is_taken, draws_names, with_quantified, below_quantifier, renamed, is_of_sort, has_sort, quantified_over, term_names, mentions_local, annotated, read, read_list, read_bindings, read_all}
+use Rattle.script_terms.specs.Reading.{ReadLocal, lets_as, ReadBinding, sort_known, function_known, definition_as, named_as, level_known, Sofar, Entry, symbol_entry, definition_entry, term_entry, Reading, continued, ◌>>=◌, gives, refused_if, beside, by_live, binds, live_sorts, term_among, term_or, bound_as, is_declared, is_quantified}
+use Rattle.script_terms.specs.Refusals.{Refused, at, unless}
+use Rattle.script_terms.specs.Variables.{quantifier_binder, may_have, variables_in}
 use Rattle.script_read.proofs.Agreeing.{moves_none, moves_both, agrees_before, lets_later, locals_later, agrees_let}
 use Rattle.script_read.proofs.Applying.{AppliedRead, applied_read}
 use Rattle.script_read.proofs.Calling.{atom_read, CalleeSound, CalleeRead, callee_read}
-use Rattle.script_read.proofs.Fitting.{Within, AllWithin, declared_of, Agrees, pairs_denoted, Origin, drawn, quantified as from_quantifier, internal, ConstantSound, LocalsSound, EntrySound, BindingSound, Built, Sound, Moves, Reads, ReadsAll, ReadsBindings, Ready}
-use Rattle.script_read.proofs.NameFacts.{spared_later, spared_both, spared_none}
+use Rattle.script_terms.proofs.NameFacts.{Within, AllWithin}
+use Rattle.script_read.proofs.Fitting.{declared_of, Agrees, pairs_denoted, Origin, drawn, quantified as from_quantifier, internal, ConstantSound, LocalsSound, EntrySound, BindingSound, Built, Sound, Moves, Reads, ReadsAll, ReadsBindings, Ready}
+use Rattle.script_terms.proofs.NameFacts.{spared_later, spared_both, spared_none}
 use Rattle.script_read.proofs.Naming.{AreNew, names_new, named_moves}
-use Rattle.script_read.proofs.Outcomes.{ok_same}
-use Rattle.script_read.proofs.Quantifying.{Known, Untaken, Renames, renames, names_bindable}
-use Rattle.script_read.proofs.SortFacts.{VariablesSound, VariablesRead, variables_read, variables_some, unless_passed}
+use Rattle.script_terms.proofs.Outcomes.{ok_same}
+use Rattle.script_read.proofs.Quantifying.{Known, Untaken, Renames, renames}
+use Rattle.script_terms.proofs.QuantifiedNames.{names_bindable}
+use Rattle.script_terms.proofs.SortFacts.{VariablesSound, VariablesRead, variables_read, variables_some, unless_passed}
 
 -- ---- readings one behind the other
 

@@ -15,10 +15,10 @@ use Rattle.smt_terms.specs.Equal.{name_eq}
 use Rattle.smt_terms.specs.Fresh.{Supply, numbered_name}
 use Rattle.smt_terms.proofs.Equal.{name_same}
 use Rattle.term_subst.specs.Names.{with_name as with_name_held, begins_as_drawn, AgreeOnNumbered}
-use Rattle.script_read.specs.Places.{SparesText, forms_from}
-use Rattle.script_read.specs.Script.{with_name, names_with_all}
+use Rattle.script_terms.specs.Places.{SparesText, forms_from}
+use Rattle.script_terms.specs.TextNames.{with_name, names_with_all}
 use Rattle.script_read.specs.DrawnNames.{drawn_among, KeepsWith}
-use Rattle.script_read.proofs.NameFacts.{among_alike, among_new, kept_by_forms}
+use Rattle.script_terms.proofs.NameFacts.{among_alike, among_new, kept_by_forms}
 
 sure_left : (a b : Bool) → (a && b) ≡ true → a ≡ true
 sure_left true b h = refl

@@ -10,10 +10,10 @@ use Rattle.smt_lex.specs.Lexicon.{left_parenthesis, right_parenthesis, space}
 use Rattle.smt_lex.specs.Forms.{Form, atom, node, Forms, none, ◌⨾◌, is_left, is_right, depth_after, before, rest}
 use Rattle.smt_lex.specs.Forest.{no_token, token_at, items, closing, form_length, closes, IsBalanced}
 use Rattle.smt_lex.specs.FormText.{form_text, forms_text, further_text}
-use Rattle.script_read.specs.Places.{IsForm, form_from, forms_from}
+use Rattle.script_terms.specs.Places.{IsForm, form_from, forms_from}
 use Rattle.script_read.specs.TokenText.{spaced_text}
-use Rattle.script_read.proofs.Lexemes.{Written}
-use Rattle.script_read.proofs.Placing.{list_form, token_form, form_within, form_side}
+use Rattle.script_terms.proofs.Lexemes.{Written}
+use Rattle.script_terms.proofs.Placing.{list_form, token_form, form_within, form_side}
 
 -- ---- matching parentheses
 

@@ -4,18 +4,18 @@ use Rattle.smt_lex.specs.Forest.{token_at}
 use Rattle.smt_lex.specs.FormText.{form_text}
 use Rattle.smt_lex.specs.Lex.{Token}
 use Rattle.term_table.specs.Formulas.{Formulas}
-use Rattle.script_read.specs.declared.faults.ReadFault.{ReadFault}
+use Rattle.script_terms.specs.declared.faults.ReadFault.{ReadFault}
 use Rattle.script_read.specs.declared.scripts.Command.{Command}
 use Rattle.script_read.specs.declared.session.Session.{Session}
 use Rattle.script_read.specs.CommandLists.{command_of}
 use Rattle.script_read.specs.Outlines.{Outline, outline}
-use Rattle.script_read.specs.Parts.{place_of}
-use Rattle.script_read.specs.Places.{IsForm, form_from}
-use Rattle.script_read.specs.Refusals.{Refused, and_then}
-use Rattle.script_read.specs.Replies.{Refuses}
+use Rattle.script_terms.specs.Parts.{place_of}
+use Rattle.script_terms.specs.Places.{IsForm, form_from}
+use Rattle.script_terms.specs.Refusals.{Refused, and_then}
+use Rattle.script_terms.specs.Replies.{Refuses}
 use Rattle.script_read.specs.Script.{Standing, Step, step, read_command}
 use Rattle.script_read.specs.Steps.{StandsAt, Steps}
-use Rattle.script_read.proofs.Placing.{place_here}
+use Rattle.script_terms.proofs.Placing.{place_here}
 
 -- one command that takes nothing from the text
 pub steps_alone : (t : Formulas) (x : Session) (made : Step) (c d : Command) (s : Standing) → c ≡ d → StandsAt t x s → made ≡ Ok (command_of t d ∷ [], s) → Steps t x (c ∷ []) made

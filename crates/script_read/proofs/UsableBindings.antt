@@ -9,8 +9,8 @@ use Rattle.smt_terms.specs.Sorts.{Sort, bool, int, bit_vector, array, free_sort,
 use Rattle.smt_terms.specs.Term.{symbol, Term, apply, quantified, Terms, none, ◌⨾◌}
 use Rattle.smt_terms.proofs.Tests.{and_true, both_true, either_true, left_true, right_true}
 use Rattle.script_read.specs.Printable.{is_usable, sort_is_live, head_sorts, all_within, all_within_each}
-use Rattle.script_read.specs.Reading.{ReadBinding, sort_known, function_known, definition_as, named_as, level_known, is_level_known, Entry, symbol_entry, definition_entry, term_entry, entry_of, live_sorts}
-use Rattle.script_read.specs.Scope.{or_later, opened, closed, merged, flattened, popped, emptied}
+use Rattle.script_terms.specs.Reading.{ReadBinding, sort_known, function_known, definition_as, named_as, level_known, is_level_known, Entry, symbol_entry, definition_entry, term_entry, entry_of, live_sorts}
+use Rattle.script_terms.specs.Scope.{or_later, opened, closed, merged, flattened, popped, emptied}
 use Rattle.script_read.proofs.LiveSorts.{SortsLive}
 use Rattle.script_read.proofs.ShownLevels.{is_own, name_last_if, sorts_known}
 

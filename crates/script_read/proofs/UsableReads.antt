@@ -15,23 +15,23 @@ use Rattle.smt_terms.specs.Subst.{parameter, expand}
 use Rattle.smt_terms.specs.Term.{Quantifier, op, symbol, const_array, Term, apply, quantified, none as no_terms, terms, over, constant}
 use Rattle.smt_terms.specs.Written.{written_rank, build}
 use Rattle.smt_terms.proofs.Tests.{and_true, both_true}
-use Rattle.script_read.specs.declared.causes.Cause.TheVariants.{WrongSort, BadForm}
+use Rattle.script_terms.specs.declared.causes.Cause.TheVariants.{WrongSort, BadForm}
 use Rattle.script_read.specs.Commands.{throughout}
-use Rattle.script_read.specs.Heads.{atom_term, vector_constant, Callee, written, array_of_sort, called, defined, operandless, callee_of, term_algebra, operand_sorts, where_ranked, parameters_from, expanded, rank_of_arguments, applied}
-use Rattle.script_read.specs.Parts.{Opening, let_word, quantifier_word, annotation_word, index_word, head, opening, place_of, symbol_in, are_attributes, named_parts}
+use Rattle.script_terms.specs.Heads.{atom_term, vector_constant, Callee, written, array_of_sort, called, defined, operandless, callee_of, term_algebra, operand_sorts, where_ranked, parameters_from, expanded, rank_of_arguments, applied}
+use Rattle.script_terms.specs.Parts.{Opening, let_word, quantifier_word, annotation_word, index_word, head, opening, place_of, symbol_in, are_attributes, named_parts}
 use Rattle.script_read.specs.Printable.{is_usable, sort_is_live, head_sorts, all_within, all_within_each}
-use Rattle.script_read.specs.Read.{Context, with_local, is_empty, let_name, constant_names, is_taken, draws_names, with_quantified, below_quantifier, renamed, has_sort, quantified_over, term_names, mentions_local, annotated, read, read_list, read_bindings, read_all}
-use Rattle.script_read.specs.Reading.{ReadLocal, lets_as, quantified_as, parameter_as, ReadBinding, named_as, Sofar, Entry, symbol_entry, definition_entry, term_entry, entry_of, live_sorts, term_among, term_or, bound_as, constant_as, Reading, ◌>>=◌, gives, by_live, binds}
-use Rattle.script_read.specs.Refusals.{Refused, unless}
-use Rattle.script_read.specs.Scope.{or_later}
+use Rattle.script_terms.specs.Read.{Context, with_local, is_empty, let_name, constant_names, is_taken, draws_names, with_quantified, below_quantifier, renamed, has_sort, quantified_over, term_names, mentions_local, annotated, read, read_list, read_bindings, read_all}
+use Rattle.script_terms.specs.Reading.{ReadLocal, lets_as, quantified_as, parameter_as, ReadBinding, named_as, Sofar, Entry, symbol_entry, definition_entry, term_entry, entry_of, live_sorts, term_among, term_or, bound_as, constant_as, Reading, ◌>>=◌, gives, by_live, binds}
+use Rattle.script_terms.specs.Refusals.{Refused, unless}
+use Rattle.script_terms.specs.Scope.{or_later}
 use Rattle.script_read.specs.Script.{parameters_read}
-use Rattle.script_read.specs.Variables.{quantifier_binder, variables_in}
-use Rattle.script_read.proofs.Fitting.{Within, AllWithin}
+use Rattle.script_terms.specs.Variables.{quantifier_binder, variables_in}
+use Rattle.script_terms.proofs.NameFacts.{Within, AllWithin}
 use Rattle.script_read.proofs.LiveSorts.{SortsLive, drawn_usable, sort_live, variables_are_usable, renamed_usable}
-use Rattle.script_read.proofs.Outcomes.{ok_same}
+use Rattle.script_terms.proofs.Outcomes.{ok_same}
 use Rattle.script_read.proofs.ShownLevels.{Bare, levels_of, sorts_known, known_sorts}
 use Rattle.script_read.proofs.Sources.{entry_alone, AtomSource, of_constant, of_local, of_entry, atom_source, entry_called, CalleeSource, of_operator, of_sort_form, of_nothing, of_live, callee_source}
-use Rattle.script_read.proofs.SortFacts.{unless_passed}
+use Rattle.script_terms.proofs.SortFacts.{unless_passed}
 use Rattle.script_read.proofs.TermsMean.{OnOk, then_on, on_rule, on_last, on_unless, on_given, on_refused, vector_source}
 use Rattle.script_read.proofs.UsableBindings.{IsUsableTerm, AreUsableTerms, AllUsable, EntryUsable, entry_usable, sorts_usable}
 use Rattle.script_read.proofs.UsableTerms.{over_fine, build_fine, variable_fine, expand_fine}

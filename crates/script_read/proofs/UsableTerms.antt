@@ -13,9 +13,9 @@ use Rattle.smt_terms.specs.Term.{Quantifier, Head, op, symbol, const_array, Term
 use Rattle.smt_terms.specs.Written.{Algebra, Written, build}
 use Rattle.smt_terms.proofs.Cuts.{cut-image}
 use Rattle.smt_terms.proofs.Tests.{and_true, both_true}
-use Rattle.script_read.specs.Heads.{term_width, term_algebra, parameters_from}
+use Rattle.script_terms.specs.Heads.{term_width, term_algebra, parameters_from}
 use Rattle.script_read.specs.Printable.{head_sorts, all_within, all_within_each}
-use Rattle.script_read.proofs.Builds.{builds}
+use Rattle.script_terms.proofs.Builds.{builds}
 
 module _ (sorts : Sort → Bool) (names : Name → Bool) where
   abbrev Fine : Term → Type 0

@@ -18,7 +18,7 @@ use Rattle.smt_terms.specs.Free.{name_among}
 use Rattle.smt_terms.proofs.Cuts.{name_among-append}
 use Rattle.smt_terms.proofs.Equal.{name_same}
 use Rattle.smt_terms.proofs.Tests.{true_or_false, both_true, and_true, either_true}
-use Rattle.script_read.specs.Script.{with_name, names_with, names_with_all}
+use Rattle.script_terms.specs.TextNames.{with_name, names_with, names_with_all}
 use Rattle.script_read.proofs.FormTexts.{IsInner, AreWritten}
 
 -- ---- bytes

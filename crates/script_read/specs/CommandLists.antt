@@ -9,10 +9,10 @@ use Rattle.term_table.specs.Formulas.{Formulas, tree, trees_at, symbol_at, IsNod
 use Rattle.script_read.specs.declared.scripts.Command.{Command}
 use Rattle.script_read.specs.declared.scripts.Script.{Script}
 use Rattle.script_read.specs.declared.scripts.Command.TheVariants.{Passed, DeclareSort, Declare, Assert, Check, CheckAssuming, Push, Pop, Reset, ResetAssertions, Globals, Exit}
-use Rattle.script_read.specs.declared.faults.Refusal.{Refusal}
-use Rattle.script_read.specs.declared.faults.ScriptFault.{ScriptFault}
-use Rattle.script_read.specs.declared.faults.ScriptFault.TheVariants.{Refused, Memory}
-use Rattle.script_read.specs.Refusals.{code_of, Unaccepted, unread, refused}
+use Rattle.script_terms.specs.declared.faults.Refusal.{Refusal}
+use Rattle.script_terms.specs.declared.faults.ScriptFault.{ScriptFault}
+use Rattle.script_terms.specs.declared.faults.ScriptFault.TheVariants.{Refused, Memory}
+use Rattle.script_terms.specs.Refusals.{code_of, Unaccepted, unread, refused}
 use Rattle.script_read.specs.Commands.{Command as CommandOf, passed, declare_sort, declare, assert, check, check_assuming, push, pop, reset, reset_assertions, globals, exit}
 use Rattle.script_read.specs.Script.{script}
 

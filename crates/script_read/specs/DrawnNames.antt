@@ -2,7 +2,7 @@
 use Rattle.std.specs.Prelude.{◌≡◌, List, filter, Option}
 use Rattle.smt_lex.specs.Names.{Name}
 use Rattle.term_subst.specs.Names.{begins_as_drawn}
-use Rattle.script_read.specs.Script.{with_name}
+use Rattle.script_terms.specs.TextNames.{with_name}
 
 abbrev pub drawn_among : List Name → List Name
 drawn_among ns = filter begins_as_drawn ns

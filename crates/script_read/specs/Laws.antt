@@ -16,15 +16,15 @@ use Rattle.smt_terms.specs.Val.{Env, no_variables, val}
 use Rattle.smt_terms.specs.Written.{Written, build}
 use Rattle.smt_terms.specs.Shapes.{is_clear}
 use Rattle.script_read.specs.Commands.{Command, declare, assert, check_assuming, with_asserted, kinds, live, literals, signature, all_asserted, all_assumed}
-use Rattle.script_read.specs.Heads.{term_algebra}
+use Rattle.script_terms.specs.Heads.{term_algebra}
 use Rattle.script_read.specs.Mean.{Denoted, value_algebra, mean, meaning}
 use Rattle.script_read.specs.Printable.{printable}
-use Rattle.script_read.specs.Refusals.{Refused}
-use Rattle.script_read.specs.Read.{Context, has_sort, read}
-use Rattle.script_read.specs.Reading.{as_local, as_bindings, Sofar}
+use Rattle.script_terms.specs.Refusals.{Refused}
+use Rattle.script_terms.specs.Read.{Context, has_sort, read}
+use Rattle.script_terms.specs.Reading.{as_local, as_bindings, Sofar}
 use Rattle.script_read.specs.Satisfied.{sat}
 use Rattle.script_read.specs.Scenes.{naming, Asserted, forms_script, holds}
-use Rattle.script_read.specs.Scope.{Binding}
+use Rattle.script_terms.specs.Scope.{Binding}
 use Rattle.script_read.specs.Script.{script, fault}
 
 -- a symbol's printed text is read as that one symbol

@@ -4,9 +4,9 @@ use Rattle.smt_terms.specs.declared.ids.NodeId.{NodeId}
 use Rattle.smt_terms.specs.Rank.{sort_of}
 use Rattle.smt_terms.specs.Sorts.{bool}
 use Rattle.term_table.specs.Formulas.{Formulas, tree, IsNode}
-use Rattle.script_read.specs.declared.scopes.Entry.{Entry}
-use Rattle.script_read.specs.declared.scopes.Entry.TheVariants.{Constant as ConstantEntry}
-use Rattle.script_read.specs.declared.locals.Constant.{Constant}
+use Rattle.script_terms.specs.declared.scopes.Entry.{Entry}
+use Rattle.script_terms.specs.declared.scopes.Entry.TheVariants.{Constant as ConstantEntry}
+use Rattle.script_terms.specs.declared.locals.Constant.{Constant}
 
 -- a node of sort Bool
 pub record IsBoolean (t : Formulas) (k : NodeId) : Type 0 where

@@ -15,11 +15,11 @@ use Rattle.smt_terms.specs.Sorts.{Sort, bool, Symbol, Variable}
 use Rattle.smt_terms.specs.Term.{Quantifier, op, symbol, const_array}
 use Rattle.smt_terms.specs.Values.{Value, truth, table, no_pairs, Sizes, is_true, over_values, default_value}
 use Rattle.smt_terms.specs.Written.{Written, Algebra, build, written_named}
-use Rattle.script_read.specs.Refusals.{Refused}
-use Rattle.script_read.specs.Parts.{symbol_in, word_in, is_name, numeral_in, numerals_in, constant_by, vector_number, Opening, let_word, quantifier_word, annotation_word, index_word, head, opening}
-use Rattle.script_read.specs.Scope.{Local, let_names, quantified_name, parameter_name, Binding, sort_name, function, definition, named, level}
-use Rattle.script_read.specs.SortForms.{Sorts, sort_in}
-use Rattle.script_read.specs.Variables.{quantifier_binder, variables_in}
+use Rattle.script_terms.specs.Refusals.{Refused}
+use Rattle.script_terms.specs.Parts.{symbol_in, word_in, is_name, numeral_in, numerals_in, constant_by, vector_number, Opening, let_word, quantifier_word, annotation_word, index_word, head, opening}
+use Rattle.script_terms.specs.Scope.{Local, let_names, quantified_name, parameter_name, Binding, sort_name, function, definition, named, level}
+use Rattle.script_terms.specs.SortForms.{Sorts, sort_in}
+use Rattle.script_terms.specs.Variables.{quantifier_binder, variables_in}
 
 -- a value and its sort, if it has one
 abbrev pub Denoted : Type 0

@@ -3,9 +3,9 @@ use Rattle.std.specs.Prelude.{ℕ, Bool, true, false, cond, if◌then◌else◌,
 use Rattle.smt_lex.specs.Names.{Name, is_command_word}
 use Rattle.smt_lex.specs.Lex.{Fault}
 use Rattle.smt_lex.specs.Forms.{Form, atom, node, Forms, none, ◌⨾◌, forms}
-use Rattle.script_read.specs.declared.causes.Cause.TheVariants.{UnknownCommand, UnsupportedCommand, BadForm}
-use Rattle.script_read.specs.Refusals.{Refused, at, given}
-use Rattle.script_read.specs.Parts.{place_of, symbol_in, is_symbol, word_in, numeral_in, keyword_in, is_keyword, is_text}
+use Rattle.script_terms.specs.declared.causes.Cause.TheVariants.{UnknownCommand, UnsupportedCommand, BadForm}
+use Rattle.script_terms.specs.Refusals.{Refused, at, given}
+use Rattle.script_terms.specs.Parts.{place_of, symbol_in, is_symbol, word_in, numeral_in, keyword_in, is_keyword, is_text}
 
 -- a thing and where it stands
 pub record At (A : Type 0) : Type 0 where

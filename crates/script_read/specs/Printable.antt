@@ -10,7 +10,7 @@ use Rattle.smt_terms.specs.Rank.{is_sort, is_well_sorted}
 use Rattle.smt_terms.specs.Shapes.{is_bool, is_clear}
 use Rattle.smt_terms.specs.Sorts.{Name, Sort, bool, int, bit_vector, array, free_sort, Symbol}
 use Rattle.smt_terms.specs.Term.{Head, op, symbol, const_array, Term, apply, quantified, Terms, none, ◌⨾◌}
-use Rattle.script_read.specs.Read.{has_sort}
+use Rattle.script_terms.specs.Read.{has_sort}
 use Rattle.script_read.specs.Commands.{Command, passed, declare_sort, declare, assert, check, check_assuming, push, pop, reset, reset_assertions, globals, exit, State, start, after, sorts_of_state, symbols_of_state}
 use Rattle.script_read.specs.Outlines.{is_passed_text}
 use Rattle.script_read.specs.Script.{most_levels}

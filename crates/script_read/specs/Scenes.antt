@@ -6,12 +6,12 @@ use Rattle.smt_lex.specs.Names.{Name}
 use Rattle.smt_lex.specs.Forms.{Form, atom, node, Forms, none, ◌⨾◌, forms_to_exit}
 use Rattle.smt_terms.specs.Models.{Model}
 use Rattle.smt_terms.specs.Sorts.{Sort, bool, free_sort, Symbol, Variable}
-use Rattle.script_read.specs.Refusals.{Refused}
+use Rattle.script_terms.specs.Refusals.{Refused}
 use Rattle.smt_lex.specs.FormText.{form_text}
-use Rattle.script_read.specs.Parts.{symbol_in, is_name, Opening, let_word, quantifier_word, annotation_word, head, opening, named_parts}
-use Rattle.script_read.specs.Scope.{Local, let_names, quantified_name, parameter_name, Binding, sort_name, function, named, level, live_sort, is_level, opened, popped, emptied, definition as definition_binding}
-use Rattle.script_read.specs.SortForms.{sort_in, sorts_in}
-use Rattle.script_read.specs.Variables.{definition_binder, variables_in}
+use Rattle.script_terms.specs.Parts.{symbol_in, is_name, Opening, let_word, quantifier_word, annotation_word, head, opening, named_parts}
+use Rattle.script_terms.specs.Scope.{Local, let_names, quantified_name, parameter_name, Binding, sort_name, function, named, level, live_sort, is_level, opened, popped, emptied, definition as definition_binding}
+use Rattle.script_terms.specs.SortForms.{sort_in, sorts_in}
+use Rattle.script_terms.specs.Variables.{definition_binder, variables_in}
 use Rattle.script_read.specs.Commands.{Command, passed, declare_sort, declare, assert, check, check_assuming, push, pop, reset, reset_assertions, globals, exit, live, literals}
 use Rattle.script_read.specs.Outlines.{Outline, passing, sort_declaration, sort_definition, symbol_declaration, assertion, assuming, pushing, popping, resetting, resetting_assertions, ending, outline, levels_written, global_option, symbol_definition, checking}
 use Rattle.script_read.specs.Mean.{accepted_or, quantified_variables, is_true_of, mean, meaning}

@@ -2,7 +2,7 @@
 -- are left, or the first refusal: commands in order, and in each command first its outer shape, then a name that it declares
 -- or defines, then its numbers, then its other parts from left to right.
 use Rattle.std.specs.Prelude.{ℕ, suc, ◌+◌, ◌==◌, Bool, true, false, ◌||◌, not, cond, nat_lt, if◌then◌else◌, List, [], ◌∷◌, ◌++◌, codes, bytes_eq, count_by, Result, Ok, Err, Option, Some, None, is_some, option_map}
-use Rattle.smt_lex.specs.Names.{Name, is_among, is_reserved_for_declaring, is_reserved_for_sorts}
+use Rattle.smt_lex.specs.Names.{Name, is_reserved_for_declaring, is_reserved_for_sorts}
 use Rattle.smt_lex.specs.Lex.{Fault, bad_byte, bad_token, open_text, unbalanced, line_at}
 use Rattle.smt_lex.specs.Forms.{Form, atom, node, Forms, none, ◌⨾◌, forms_to_exit}
 use Rattle.smt_terms.specs.Connectives.{negated}
@@ -10,18 +10,19 @@ use Rattle.smt_terms.specs.Equal.{sort_eq}
 use Rattle.smt_terms.specs.Fresh.{Supply}
 use Rattle.smt_terms.specs.Sorts.{Sort, bool, free_sort, Symbol, Variable}
 use Rattle.smt_terms.specs.Term.{Term, constant}
-use Rattle.script_read.specs.declared.causes.Cause.TheVariants.{WrongSort, BadForm, Redeclared, ReservedName, PopTooFar, NumberLimit, SortArity, UnsupportedOption}
-use Rattle.script_read.specs.Refusals.{Refused, at, Refusal, Unaccepted, unread, refused, and_then, unless, mapped, given}
+use Rattle.script_terms.specs.declared.causes.Cause.TheVariants.{WrongSort, BadForm, Redeclared, ReservedName, PopTooFar, NumberLimit, SortArity, UnsupportedOption}
+use Rattle.script_terms.specs.Refusals.{Refused, at, Refusal, Unaccepted, unread, refused, and_then, unless, mapped, given}
 use Rattle.smt_lex.specs.FormText.{form_text}
-use Rattle.script_read.specs.Parts.{place_of, symbol_in, is_name}
-use Rattle.script_read.specs.Scope.{opened, popped, emptied}
-use Rattle.script_read.specs.SortForms.{sort_in, sorts_in}
-use Rattle.script_read.specs.Variables.{definition_binder, variables_in}
-use Rattle.script_read.specs.Reading.{ReadLocal, parameter_as, ReadBinding, sort_known, function_known, definition_as, level_known, Sofar, live_sorts, is_level_known, Entry, symbol_entry, entry_of}
-use Rattle.script_read.specs.Heads.{parameters_from}
-use Rattle.script_read.specs.Read.{Context, has_sort, read}
+use Rattle.script_terms.specs.Parts.{place_of, symbol_in, is_name}
+use Rattle.script_terms.specs.Scope.{opened, popped, emptied}
+use Rattle.script_terms.specs.SortForms.{sort_in, sorts_in}
+use Rattle.script_terms.specs.Variables.{definition_binder, variables_in}
+use Rattle.script_terms.specs.Reading.{ReadLocal, parameter_as, ReadBinding, sort_known, function_known, definition_as, level_known, Sofar, live_sorts, is_level_known, Entry, symbol_entry, entry_of}
+use Rattle.script_terms.specs.Heads.{parameters_from}
+use Rattle.script_terms.specs.Read.{Context, has_sort, read}
 use Rattle.script_read.specs.Commands.{Command, passed, declare_sort, declare, assert, check, check_assuming, push, pop, reset, reset_assertions, globals, exit}
 use Rattle.script_read.specs.Outlines.{At, Outline, passing, sort_declaration, sort_definition, symbol_declaration, assertion, assuming, pushing, popping, resetting, resetting_assertions, ending, outline, levels_written, global_option, symbol_definition, checking}
+use Rattle.script_terms.specs.TextNames.{names_with_all}
 
 -- ---- what is known between two commands
 
@@ -242,22 +243,6 @@ behind cs r = (cs ++ r.0, r.1)
 abbrev pub read_commands : ℕ → Forms → Standing → Result (List (Command Term) × Supply) Numbered
 read_commands i none s = Ok ([], s.sofar.supply)
 read_commands i (f ⨾ fs) s = and_then (λ r. mapped (behind r.0) (read_commands (suc i) fs r.1)) (numbered i (read_command f s))
-
--- ---- the names of a text
-
-abbrev pub with_name : List Name → Option Name → List Name
-with_name ns None = ns
-with_name ns (Some n) = cond (is_among ns n) ns (ns ++ n ∷ [])
-
--- these names, and then each that is a symbol anywhere in the form, once, in order
-abbrev mutual
-  pub names_with : List Name → Form → List Name
-  names_with ns (atom t) = with_name ns (symbol_in (atom t))
-  names_with ns (node place fs) = names_with_all ns fs
-
-  pub names_with_all : List Name → Forms → List Name
-  names_with_all ns none = ns
-  names_with_all ns (f ⨾ fs) = names_with_all (names_with ns f) fs
 
 -- a supply of names that are no symbol of the text
 abbrev pub fresh : Forms → Supply

@@ -4,16 +4,16 @@ use Rattle.smt_lex.specs.Lex.{line_at}
 use Rattle.smt_terms.specs.Fresh.{Supply}
 use Rattle.smt_terms.specs.Term.{Term}
 use Rattle.term_table.specs.Formulas.{Formulas}
-use Rattle.script_read.specs.declared.faults.Fault.{Fault}
-use Rattle.script_read.specs.declared.faults.ReadFault.{ReadFault}
-use Rattle.script_read.specs.declared.faults.ReadFault.TheVariants.{Refused as RefusedFor, Memory as NoMemory}
-use Rattle.script_read.specs.declared.faults.Refusal.{Refusal}
-use Rattle.script_read.specs.declared.faults.ScriptFault.{ScriptFault}
-use Rattle.script_read.specs.declared.faults.ScriptFault.TheVariants.{Refused, Memory}
+use Rattle.script_terms.specs.declared.faults.Fault.{Fault}
+use Rattle.script_terms.specs.declared.faults.ReadFault.{ReadFault}
+use Rattle.script_terms.specs.declared.faults.ReadFault.TheVariants.{Refused as RefusedFor, Memory as NoMemory}
+use Rattle.script_terms.specs.declared.faults.Refusal.{Refusal}
+use Rattle.script_terms.specs.declared.faults.ScriptFault.{ScriptFault}
+use Rattle.script_terms.specs.declared.faults.ScriptFault.TheVariants.{Refused, Memory}
 use Rattle.script_read.specs.declared.scripts.Commands.{Commands}
 use Rattle.script_read.specs.CommandLists.{commands_of, IsRefusal}
 use Rattle.script_read.specs.Commands.{Command as CommandOf}
-use Rattle.script_read.specs.Refusals.{code_of, refused}
+use Rattle.script_terms.specs.Refusals.{code_of, refused}
 use Rattle.script_read.specs.Script.{Numbered, refusal}
 
 -- the refusal of a command, with its number and the line of its byte

@@ -8,9 +8,9 @@ use Rattle.smt_lex.specs.Names.{Name}
 use Rattle.smt_lex.specs.declared.items.Item.TheVariants.{Numeral}
 use Rattle.script_read.specs.declared.shapes.Outline.{Outline}
 use Rattle.script_read.specs.declared.shapes.Outline.TheVariants.{Passing, GlobalOption, SortDeclaration, SortDefinition, SymbolDeclaration, SymbolDefinition, Assertion, Checking, Assuming, Pushing, Popping, Resetting, ResettingAssertions, Ending}
-use Rattle.script_read.specs.Bound.{name_at}
+use Rattle.script_terms.specs.Bound.{name_at}
 use Rattle.script_read.specs.Outlines.{At, Outline as OutlineOf, passing, global_option, sort_declaration, sort_definition, symbol_declaration, symbol_definition, assertion, checking, assuming, pushing, popping, resetting, resetting_assertions, ending}
-use Rattle.script_read.specs.Places.{IsForm, form_from, forms_from}
+use Rattle.script_terms.specs.Places.{IsForm, form_from, forms_from}
 
 abbrev pub named_at : List Token → ℕ → At Name
 named_at ts i = record { it = name_at ts i; place = (token_at ts i).start }

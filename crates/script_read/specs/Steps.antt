@@ -3,16 +3,16 @@ use Rattle.std.specs.Prelude.{◌≡◌, List, [], ◌∷◌, Result, Ok, Err}
 use Rattle.smt_lex.specs.Forms.{Form, Forms}
 use Rattle.smt_terms.specs.Sorts.{Sort, Variable}
 use Rattle.term_table.specs.Formulas.{Formulas}
-use Rattle.script_read.specs.declared.faults.ReadFault.{ReadFault}
+use Rattle.script_terms.specs.declared.faults.ReadFault.{ReadFault}
 use Rattle.script_read.specs.declared.scripts.Command.{Command}
 use Rattle.script_read.specs.declared.session.Session.{Session}
 use Rattle.script_read.specs.CommandLists.{commands_of}
-use Rattle.script_read.specs.Known.{Shows}
-use Rattle.script_read.specs.Replies.{Refuses}
-use Rattle.script_read.specs.Refusals.{Refused, and_then, mapped}
+use Rattle.script_terms.specs.Known.{Shows}
+use Rattle.script_terms.specs.Replies.{Refuses}
+use Rattle.script_terms.specs.Refusals.{Refused, and_then, mapped}
 use Rattle.script_read.specs.Script.{Standing, Step}
-use Rattle.script_read.specs.SortForms.{Sorts, sort_in}
-use Rattle.script_read.specs.Variables.{definition_binder, variables_in}
+use Rattle.script_terms.specs.SortForms.{Sorts, sort_in}
+use Rattle.script_terms.specs.Variables.{definition_binder, variables_in}
 
 pub record StandsAt (t : Formulas) (x : Session) (s : Standing) : Type 0 where
   pub shows : Shows t x.sofar.fresh x.sofar.scope s.sofar.live

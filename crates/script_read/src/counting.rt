@@ -3,7 +3,7 @@
 ghost use Rattle.std.specs.Prelude.{◌≡◌, length};
 ghost use Rattle.smt_lex.specs.Forms.{forms_of, list};
 
-use crate::places::begins;
+use script_terms::places::begins;
 use smt_lex::Forest;
 
 /// The number of commands of a text, those that define names among them. It takes no memory.

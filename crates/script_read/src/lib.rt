@@ -3,37 +3,22 @@
 
 #![tactic(auto)]
 
-mod binders;
-mod causes;
-mod constants;
 mod counting;
-mod faults;
 mod form_texts;
 mod laws;
-mod levels;
-mod lists;
-mod locals;
-mod names;
-mod node_sorts;
-mod numbers;
-mod places;
 mod reader;
-mod scopes;
 mod scripts;
 mod session;
 mod shapes;
-mod sofar;
-mod sorts;
-mod terms;
 mod text_names;
 
-pub use causes::Cause;
 pub use counting::count_commands;
-pub use faults::{Refusal, ScriptFault};
 pub use laws::{
     names_left_are_new, read_terms_are_clear, reading_answers, reading_binds_names,
     reading_gives_a_printable_script, reading_keeps_meaning, terms_and_forms_agree,
     written_operators_keep_meaning, written_tokens_are_read,
 };
 pub use reader::read_script;
+pub use script_terms::causes::Cause;
+pub use script_terms::faults::{Refusal, ScriptFault};
 pub use scripts::{Command, Commands, Script, checks};

@@ -4,17 +4,17 @@ ghost use Rattle.std.specs.Prelude.{◌≡◌, ◌++◌, IfOk, OnOk, option_to_l
 ghost use Rattle.term_table.specs.Formulas.{IsUnchanged};
 ghost use Rattle.term_walk.specs.Walking.{GrowsTo};
 ghost use Rattle.script_read.specs.CommandLists.{ReadsScript, AreCommandsOf};
-ghost use Rattle.script_read.specs.Places.{IsRead, SparesText, forms_from};
+ghost use Rattle.script_terms.specs.Places.{IsRead, SparesText, forms_from};
 ghost use Rattle.script_read.specs.Script.{Standing, read_commands};
 ghost use Rattle.script_read.specs.ScriptSteps.{IsRefusalOf, IsScriptFault, ReadsCommands};
 ghost use Rattle.script_read.specs.Steps.{StandsAt};
 
-use crate::faults::{Fault, ReadFault, Refusal, ScriptFault};
-use crate::places::begins;
 use crate::scripts::{Command, Commands, Script};
 use crate::session::{Session, read_command};
-use crate::terms::term_reader::TermReader;
 use crate::text_names::fresh_beside;
+use script_terms::faults::{Fault, ReadFault, Refusal, ScriptFault};
+use script_terms::places::begins;
+use script_terms::terms::term_reader::TermReader;
 use smt_lex::{Forest, line_of};
 use std::alloc::{AllocError, Global};
 use term_subst::Fresh;

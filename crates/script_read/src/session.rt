@@ -2,7 +2,7 @@
 //! 4.1 and 4.2).
 
 ghost use Rattle.std.specs.Prelude.{◌≡◌, false};
-ghost use Rattle.script_read.specs.Known.{nothing_known};
+ghost use Rattle.script_terms.specs.Known.{nothing_known};
 
 mod assertions;
 mod definitions;
@@ -15,8 +15,8 @@ mod sort_names;
 mod symbols;
 mod turns;
 
-use crate::scopes::Scope;
-use crate::sofar::Sofar;
+use script_terms::scopes::Scope;
+use script_terms::sofar::Sofar;
 use std::alloc::Global;
 use term_subst::Fresh;
 pub use turns::read_command;

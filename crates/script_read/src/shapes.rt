@@ -2,18 +2,18 @@
 
 ghost use Rattle.std.specs.Prelude.{◌≡◌, ◌≤◌, length, map, option_map, if◌then◌else◌, IfOk, IfSome};
 ghost use Rattle.smt_lex.specs.Names.{is_command_word};
-ghost use Rattle.script_read.specs.declared.causes.Cause.TheVariants.{UnknownCommand, UnsupportedCommand};
+ghost use Rattle.script_terms.specs.declared.causes.Cause.TheVariants.{UnknownCommand, UnsupportedCommand};
 ghost use Rattle.script_read.specs.Outlines.{outline, word_among, supported, shape, symbol_at, numeral_at, list_in, is_globals, option_shape, set_logic_word, set_info_word, set_option_word, get_info_word, get_option_word, echo_word, declare_sort_word, define_sort_word, declare_const_word, declare_fun_word, define_fun_word, assert_word, check_sat_assuming_word, push_word, pop_word};
 ghost use Rattle.script_read.specs.ShapeClauses.{outline_seen, IsOutline, named_at, counted_at, IsNameAt, IsNumeralAt, IsPlaceIn, IfGiven};
-ghost use Rattle.script_read.specs.Parts.{is_keyword, keyword_in, is_text, word_in};
+ghost use Rattle.script_terms.specs.Parts.{keyword_in, is_text, word_in};
 ghost use Rattle.script_read.specs.ShapeSteps.{word_seen, entry_seen, alone};
-ghost use Rattle.script_read.specs.Places.{IsForm, form_from, forms_from};
-ghost use Rattle.script_read.specs.Replies.{Agrees};
+ghost use Rattle.script_terms.specs.Places.{IsForm, form_from, forms_from};
+ghost use Rattle.script_terms.specs.Replies.{Agrees};
 
-use crate::causes::Cause;
-use crate::faults::Fault;
-use crate::lists::{Few, few_from};
-use crate::places::{bad_form, begins, fault, inside, is_symbol};
+use script_terms::causes::Cause;
+use script_terms::faults::Fault;
+use script_terms::lists::{Few, few_from};
+use script_terms::places::{bad_form, begins, fault, inside, is_keyword, is_symbol, keyword_at};
 use smt_lex::{Forest, Item, is_command_word};
 
 /// Which parts a command has, by the numbers of their first tokens; a list is given by the first token inside it.
@@ -151,25 +151,6 @@ fn listed(forest: &Forest, i: usize) -> Option<usize>
     ensures within { IfSome result (IsPlaceIn forest.now.tokens) }
 {
     inside(forest, i)
-}
-
-/// The keyword that the form of token `i` is.
-pub fn keyword_at(forest: &Forest, i: usize) -> Option<&[u8]>
-    requires { IsForm forest.now.tokens i }
-    ensures { option_map (λ k. k.now) result ≡ keyword_in (form_from forest.now.tokens i) }
-{
-    match forest.item(i) {
-        Item::Keyword => Some(forest.text(i)),
-        _ => None,
-    }
-}
-
-/// Whether the form of token `i` is a keyword.
-pub fn is_keyword(forest: &Forest, i: usize) -> bool
-    requires { IsForm forest.now.tokens i }
-    ensures { result ≡ is_keyword (form_from forest.now.tokens i) }
-{
-    keyword_at(forest, i).is_some()
 }
 
 // Whether the form of token `i` is `:global-declarations`.

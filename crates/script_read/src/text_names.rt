@@ -4,8 +4,9 @@ ghost use Rattle.std.specs.Prelude.{◌≡◌, ◌<◌, [], length, None, Some, 
 ghost use Rattle.smt_lex.specs.Lex.{symbol_of};
 ghost use Rattle.smt_lex.specs.Names.{is_reserved};
 ghost use Rattle.smt_lex.specs.Forest.{token_at};
-ghost use Rattle.script_read.specs.Places.{forms_from};
-ghost use Rattle.script_read.specs.Script.{names_with_all, fresh};
+ghost use Rattle.script_terms.specs.Places.{forms_from};
+ghost use Rattle.script_terms.specs.TextNames.{names_with_all};
+ghost use Rattle.script_read.specs.Script.{fresh};
 ghost use Rattle.script_read.specs.DrawnNames.{drawn_among, KeepsWith};
 
 use memchr::memmem;

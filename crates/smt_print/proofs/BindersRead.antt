@@ -15,13 +15,13 @@ use Rattle.smt_terms.proofs.Equal.{Decides-name_eq, Decides-term_eq}
 use Rattle.smt_terms.proofs.Sorted.{sort_of-quantified}
 use Rattle.smt_terms.proofs.Tests.{true_or_false, both_true, both_false, or_false, not_true}
 use Rattle.script_read.specs.Commands.{Signature}
-use Rattle.script_read.specs.Heads.{atom_term, atom_by, name_or_other, symbol_term}
-use Rattle.script_read.specs.Parts.{constant_by, let_word, opening, quantifier_word as quantifier_opening}
-use Rattle.script_read.specs.Read.{constant_names, let_name, with_local, is_taken, below_quantifier, renamed, has_sort, is_of_sort, read}
-use Rattle.script_read.specs.Reading.{ReadLocal, lets_as, ReadBinding, entry_of, beside, bound_as}
-use Rattle.script_read.specs.Refusals.{and_then, mapped}
-use Rattle.script_read.specs.SortForms.{Sorts, sort_in}
-use Rattle.script_read.specs.Variables.{quantifier_binder, variable_of, variable_in, variables_in}
+use Rattle.script_terms.specs.Heads.{atom_term, atom_by, name_or_other, symbol_term}
+use Rattle.script_terms.specs.Parts.{constant_by, let_word, opening, quantifier_word as quantifier_opening}
+use Rattle.script_terms.specs.Read.{constant_names, let_name, with_local, is_taken, below_quantifier, renamed, has_sort, is_of_sort, read}
+use Rattle.script_terms.specs.Reading.{ReadLocal, lets_as, ReadBinding, entry_of, beside, bound_as}
+use Rattle.script_terms.specs.Refusals.{and_then, mapped}
+use Rattle.script_terms.specs.SortForms.{Sorts, sort_in}
+use Rattle.script_terms.specs.Variables.{quantifier_binder, variable_of, variable_in, variables_in}
 use Rattle.term_table.specs.WrittenForms.{word_form, symbol_form, sort_form, variable_form, list_form}
 use Rattle.smt_print.specs.TermForms.{Definition, definition_name, is_defined, defined_name, quantifier_word, quantified_form, let_form}
 use Rattle.smt_print.proofs.Contexts.{pushed, IsTaken, AllTaken, EachTaken, IsReadAs, AreRead}

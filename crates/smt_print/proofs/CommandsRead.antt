@@ -11,20 +11,20 @@ use Rattle.smt_terms.specs.Term.{Term}
 use Rattle.smt_terms.specs.Val.{no_variables}
 use Rattle.smt_terms.proofs.Equal.{Decides-sort_eq}
 use Rattle.smt_terms.proofs.Tests.{both_true, not_true, or_false}
-use Rattle.script_read.specs.declared.causes.Cause.TheVariants.{WrongSort, BadForm, Redeclared, ReservedName, NumberLimit, PopTooFar, UnsupportedOption}
+use Rattle.script_terms.specs.declared.causes.Cause.TheVariants.{WrongSort, BadForm, Redeclared, ReservedName, NumberLimit, PopTooFar, UnsupportedOption}
 use Rattle.script_read.specs.Commands.{Command, passed, declare_sort, declare, assert, check, push, pop, reset, reset_assertions, globals, exit, State, after, Signature}
 use Rattle.script_read.specs.Mean.{accepted_or, meaning}
 use Rattle.script_read.specs.Outlines.{At, Outline, passing, sort_declaration, symbol_declaration, assertion, checking, pushing, popping, resetting, resetting_assertions, ending, global_option, of_both, numeral_at, supported, outline}
 use Rattle.smt_lex.specs.FormText.{form_text}
-use Rattle.script_read.specs.Parts.{place_of}
+use Rattle.script_terms.specs.Parts.{place_of}
 use Rattle.script_read.specs.Printable.{sort_is_live, is_new_sort, is_new_symbol, is_printable_term, fixes, open_levels as levels_open}
-use Rattle.script_read.specs.Read.{has_sort, is_of_sort}
-use Rattle.script_read.specs.Reading.{ReadBinding, sort_known, function_known, level_known, is_level_known, as_binding, as_bindings, entry_of, live_sorts}
-use Rattle.script_read.specs.Refusals.{Refused, and_then, unless, given, mapped}
+use Rattle.script_terms.specs.Read.{has_sort, is_of_sort}
+use Rattle.script_terms.specs.Reading.{ReadBinding, sort_known, function_known, level_known, is_level_known, as_binding, as_bindings, entry_of, live_sorts}
+use Rattle.script_terms.specs.Refusals.{Refused, and_then, unless, given, mapped}
 use Rattle.script_read.specs.Scenes.{Asserted, Scene, naming, seen, seen_or_none, seen_command, sort_meant, is_true_symbol, declares as seen_declares, asserts as seen_asserts}
-use Rattle.script_read.specs.Scope.{Binding, level, is_level, opened, closed, merged, flattened, popped, emptied}
+use Rattle.script_terms.specs.Scope.{Binding, level, is_level, opened, closed, merged, flattened, popped, emptied}
 use Rattle.script_read.specs.Script.{Standing, Step, begun_with, no_context, asserted_with, of_sort, step, read_command, declares, symbol_of_sorts, most_levels, open_levels, pushed_unless, truth_in, sets_globals, after_reset, after_emptying}
-use Rattle.script_read.specs.SortForms.{sort_in, sorts_in}
+use Rattle.script_terms.specs.SortForms.{sort_in, sorts_in}
 use Rattle.term_table.specs.WrittenForms.{word_form, symbol_form, numeral_form, sort_form, truth_form, list_form, keyword_form}
 use Rattle.smt_print.specs.Laws.{MeansTheSame}
 use Rattle.smt_print.specs.Text.{command_form, sort_declaration as sort_declaration_form, declaration, globals_option}

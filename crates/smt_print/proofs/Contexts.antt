@@ -20,8 +20,8 @@ use Rattle.smt_terms.proofs.Tests.{true_or_false}
 use Rattle.script_read.specs.Commands.{Signature}
 use Rattle.script_read.specs.Laws.{denoted}
 use Rattle.script_read.specs.Mean.{Meaning, over_symbol, denoted_as}
-use Rattle.script_read.specs.Reading.{ReadLocal, ReadBinding, symbol_entry, entry_of, bound_as, live_sorts}
-use Rattle.script_read.specs.Scope.{or_later}
+use Rattle.script_terms.specs.Reading.{ReadLocal, ReadBinding, symbol_entry, entry_of, bound_as, live_sorts}
+use Rattle.script_terms.specs.Scope.{or_later}
 use Rattle.smt_print.specs.TermForms.{Definition, definition_name}
 
 -- ---- quantified variables, the innermost first

@@ -11,7 +11,7 @@ use Rattle.std.proofs.Math.Nat.{div-lt_iff_lt-mul, div-lt_self, mod-lt, pow-zero
 use Rattle.smt_lex.specs.declared.items.Item.TheVariants.{Hex, Bin}
 use Rattle.smt_lex.specs.Lexicon.{is_binary_digit, is_numeral}
 use Rattle.smt_terms.specs.declared.op.Op.TheVariants.{Bits}
-use Rattle.script_read.specs.Parts.{constant_by}
+use Rattle.script_terms.specs.Parts.{constant_by}
 use Rattle.smt_terms.specs.Numeral.{digits_before, numeral}
 use Rattle.term_table.specs.WrittenForms.{last_digits}
 

@@ -9,7 +9,7 @@ use Rattle.smt_terms.specs.Rank.{is_quantifiable, has_name, are_distinct, are_bi
 use Rattle.smt_terms.specs.Sorts.{Name, Variable}
 use Rattle.smt_terms.proofs.Fresh.{next_name-free, never-next, never-after, never-drawn}
 use Rattle.smt_terms.proofs.Tests.{true_or_false, both_true, and_true, both_false, or_false, not_true}
-use Rattle.script_read.specs.Read.{constant_names, renamed}
+use Rattle.script_terms.specs.Read.{constant_names, renamed}
 use Rattle.smt_print.proofs.Contexts.{other_name}
 
 abbrev pub names_in : List Variable → List Name

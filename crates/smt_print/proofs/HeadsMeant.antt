@@ -24,7 +24,7 @@ use Rattle.smt_terms.proofs.Ranked.{rank-takes}
 use Rattle.script_read.specs.Commands.{Signature}
 use Rattle.script_read.specs.Laws.{denoted}
 use Rattle.script_read.specs.Mean.{Denoted, Meaning, values_of, over_op, over_symbol, over_array, denoted_width, value_algebra, over_written, denoted_as, over_constant, truth_of, live_or, denoted_or, symbol_or_nothing, token_means, array_of, named_means, symbol_head_means, head_means, mean}
-use Rattle.script_read.specs.Parts.{constant_by, numerals_in}
+use Rattle.script_terms.specs.Parts.{constant_by, numerals_in}
 use Rattle.term_table.specs.WrittenForms.{word_form, symbol_form, numeral_form, constant_array_form, truth_form, integer_form, last_digits, vector_form}
 use Rattle.smt_print.specs.TermForms.{Definition, operator_form, head_form, application_form}
 use Rattle.smt_print.proofs.Digits.{numeral_value, binary_constant}

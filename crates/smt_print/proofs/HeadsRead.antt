@@ -13,12 +13,12 @@ use Rattle.smt_terms.proofs.Made.{made-sort}
 use Rattle.smt_terms.proofs.Operands.{fewer_sorts}
 use Rattle.smt_terms.proofs.Sorted.{sort_of-apply, sorted}
 use Rattle.smt_terms.proofs.Tests.{both_true, not_true}
-use Rattle.script_read.specs.declared.causes.Cause.TheVariants.{UnknownName, NumberLimit}
+use Rattle.script_terms.specs.declared.causes.Cause.TheVariants.{UnknownName, NumberLimit}
 use Rattle.script_read.specs.Commands.{Signature}
-use Rattle.script_read.specs.Heads.{Callee, written, array_of_sort, called, indices_within, written_at, theory_head, live_head, named_head, indexed_head, atom_head, callee_of, applied, term_algebra, term_width, operand_sorts, where_ranked}
-use Rattle.script_read.specs.Parts.{greatest_number, numeral_in, numerals_with, numerals_in, head, opening}
-use Rattle.script_read.specs.Reading.{ReadLocal, ReadBinding, Sofar, entry_of, bound_as, beside, live_sorts}
-use Rattle.script_read.specs.Refusals.{unless, mapped}
+use Rattle.script_terms.specs.Heads.{Callee, written, array_of_sort, called, indices_within, written_at, theory_head, live_head, named_head, indexed_head, atom_head, callee_of, applied, term_algebra, term_width, operand_sorts, where_ranked}
+use Rattle.script_terms.specs.Parts.{greatest_number, numeral_in, numerals_with, numerals_in, head, opening}
+use Rattle.script_terms.specs.Reading.{ReadLocal, ReadBinding, Sofar, entry_of, bound_as, beside, live_sorts}
+use Rattle.script_terms.specs.Refusals.{unless, mapped}
 use Rattle.term_table.specs.WrittenForms.{word_form, symbol_form, numeral_form, constant_array_form}
 use Rattle.smt_print.specs.TermForms.{Definition, operator_form}
 use Rattle.smt_print.proofs.Contexts.{lookup, InScope}

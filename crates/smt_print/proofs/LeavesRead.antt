@@ -17,12 +17,12 @@ use Rattle.smt_terms.specs.Sorts.{Sort, bool, int, bit_vector, Symbol, Variable}
 use Rattle.smt_terms.specs.Term.{Head, op, symbol, const_array, Term, apply, none as no_terms, constant, constant_of}
 use Rattle.smt_terms.proofs.Ranked.{rank-takes, rank-narrow, takes-rank}
 use Rattle.smt_terms.proofs.Sorted.{sort_of-apply}
-use Rattle.script_read.specs.declared.causes.Cause.TheVariants.{NumberLimit, WidthLimit}
+use Rattle.script_terms.specs.declared.causes.Cause.TheVariants.{NumberLimit, WidthLimit}
 use Rattle.script_read.specs.Commands.{Signature}
-use Rattle.script_read.specs.Heads.{atom_term, atom_by, name_or_other, symbol_term, live_symbol, theory_symbol, constant_or_refused, token_constant}
-use Rattle.script_read.specs.Parts.{constant_by, greatest_number}
-use Rattle.script_read.specs.Reading.{ReadLocal, ReadBinding, symbol_entry, entry_of, beside, bound_as}
-use Rattle.script_read.specs.Refusals.{unless}
+use Rattle.script_terms.specs.Heads.{atom_term, atom_by, name_or_other, symbol_term, live_symbol, theory_symbol, constant_or_refused, token_constant}
+use Rattle.script_terms.specs.Parts.{constant_by, greatest_number}
+use Rattle.script_terms.specs.Reading.{ReadLocal, ReadBinding, symbol_entry, entry_of, beside, bound_as}
+use Rattle.script_terms.specs.Refusals.{unless}
 use Rattle.term_table.specs.WrittenForms.{word_form, symbol_form, numeral_form, truth_form, integer_form, last_digits, vector_form}
 use Rattle.smt_print.specs.TermForms.{Definition, operator_form, head_form, application_form}
 use Rattle.smt_print.proofs.BindersRead.{bound_atom}

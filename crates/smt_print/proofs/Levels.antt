@@ -5,8 +5,8 @@ use Rattle.std.proofs.lemmas.List.{drop-map}
 use Rattle.std.proofs.lemmas.List.Sums.{sum_by-cons}
 use Rattle.smt_terms.specs.Sorts.{Name, Symbol}
 use Rattle.script_read.specs.Commands.{Level, empty_level, throughout, on_latest, with_sort, with_symbol, with_declarations, folded, levels_popped, levels_emptied}
-use Rattle.script_read.specs.Reading.{ReadBinding, sort_known, function_known, definition_as, named_as, level_known, is_level_known}
-use Rattle.script_read.specs.Scope.{opened, closed, merged, flattened, popped, emptied}
+use Rattle.script_terms.specs.Reading.{ReadBinding, sort_known, function_known, definition_as, named_as, level_known, is_level_known}
+use Rattle.script_terms.specs.Scope.{opened, closed, merged, flattened, popped, emptied}
 
 abbrev pub Bare : Type 0
 Bare = Level (Unit {0})

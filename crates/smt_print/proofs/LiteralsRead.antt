@@ -20,12 +20,12 @@ use Rattle.script_read.specs.Commands.{check_assuming, State, Signature, symbols
 use Rattle.script_read.specs.Mean.{meaning}
 use Rattle.script_read.specs.Outlines.{assuming, supported, outline}
 use Rattle.script_read.specs.Printable.{is_live_constant, is_live_literal}
-use Rattle.script_read.specs.Reading.{ReadBinding, as_bindings}
-use Rattle.script_read.specs.Refusals.{and_then, given, mapped}
+use Rattle.script_terms.specs.Reading.{ReadBinding, as_bindings}
+use Rattle.script_terms.specs.Refusals.{and_then, given, mapped}
 use Rattle.script_read.specs.Scenes.{literals_meant}
 use Rattle.script_read.specs.Script.{Standing, begun_with, boolean_constant, constant_entry, declared_constant, literal, literals_in}
-use Rattle.script_read.specs.declared.causes.Cause.TheVariants.{BadForm}
-use Rattle.script_read.specs.Parts.{place_of}
+use Rattle.script_terms.specs.declared.causes.Cause.TheVariants.{BadForm}
+use Rattle.script_terms.specs.Parts.{place_of}
 use Rattle.term_table.specs.WrittenForms.{word_form, list_form}
 use Rattle.smt_print.specs.TermForms.{operator_form, tree_form}
 use Rattle.smt_print.specs.Text.{command_form}

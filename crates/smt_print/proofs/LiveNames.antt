@@ -15,8 +15,8 @@ use Rattle.smt_terms.proofs.Tests.{either_true, left_true, right_true, both_fals
 use Rattle.script_read.specs.Commands.{Signature}
 use Rattle.script_read.specs.Mean.{over_symbol, meaning}
 use Rattle.script_read.specs.Printable.{is_usable}
-use Rattle.script_read.specs.Reading.{ReadBinding, sort_known, function_known, definition_as, named_as, level_known, is_level_known, as_bindings, Entry, symbol_entry, entry_of, live_sorts}
-use Rattle.script_read.specs.Scope.{or_later, opened, closed, merged, flattened, popped, emptied}
+use Rattle.script_terms.specs.Reading.{ReadBinding, sort_known, function_known, definition_as, named_as, level_known, is_level_known, as_bindings, Entry, symbol_entry, entry_of, live_sorts}
+use Rattle.script_terms.specs.Scope.{or_later, opened, closed, merged, flattened, popped, emptied}
 use Rattle.smt_print.proofs.Contexts.{LiveRead, InScope, LiveMeant, MeantScope, other_name, same_name}
 use Rattle.smt_print.proofs.Levels.{sorts_known, symbols_known}
 use Rattle.smt_print.proofs.Printables.{IsUsual, usable_parts}

@@ -18,7 +18,7 @@ use Rattle.smt_terms.proofs.Tests.{true_or_false}
 use Rattle.script_read.specs.Commands.{Signature}
 use Rattle.script_read.specs.Laws.{denoted}
 use Rattle.script_read.specs.Mean.{Denoted, Meaning, is_true_of, values_of, sorts_denoted, with_bound, denoted_as, over_variables, accepted_or, quantified_variables, quantifier_means, let_pair, with_all, symbol_or_nothing, denoted_or, live_or, over_constant, truth_of, token_means, head_means, mean, mean_list, mean_all}
-use Rattle.script_read.specs.Parts.{head, opening, symbol_in, constant_by}
+use Rattle.script_terms.specs.Parts.{head, opening, symbol_in, constant_by}
 use Rattle.term_table.specs.WrittenForms.{word_form, list_form, variable_form}
 use Rattle.smt_print.specs.TermForms.{Definition, definition_name, is_defined, defined_name, application_form, quantifier_word, quantified_form, let_form}
 use Rattle.smt_print.proofs.BindersRead.{word_begins, let_begins, variables_read, definition_unreserved, defined_is}

@@ -8,7 +8,7 @@ use Rattle.smt_terms.specs.Equal.{name_eq}
 use Rattle.smt_terms.specs.Free.{name_among}
 use Rattle.smt_terms.proofs.Equal.{Decides-name_eq}
 use Rattle.smt_terms.proofs.Tests.{true_or_false, either_true, left_true, right_true}
-use Rattle.script_read.specs.Script.{with_name, names_with, names_with_all}
+use Rattle.script_terms.specs.TextNames.{with_name, names_with, names_with_all}
 use Rattle.smt_print.proofs.Contexts.{IsTaken, AllTaken, EachTaken}
 use Rattle.smt_print.proofs.FormTexts.{end_of, placed, placed_in, placed_behind}
 

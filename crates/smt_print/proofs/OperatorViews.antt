@@ -13,7 +13,7 @@ use Rattle.smt_terms.specs.Sorts.{Sort, bool, int, bit_vector}
 use Rattle.smt_terms.specs.Term.{op}
 use Rattle.smt_terms.specs.Written.{Written, plain, over_all, left_associative, right_associative, chainable, subtraction, left_rotation, right_rotation, Indexed, without_index, with_index, with_indices, operator_named, at_indices, written_rank, Algebra, build}
 use Rattle.smt_terms.proofs.Ranked.{rank-takes, rank-narrow, le_true}
-use Rattle.script_read.specs.Parts.{greatest_number}
+use Rattle.script_terms.specs.Parts.{greatest_number}
 use Rattle.term_table.specs.WrittenForms.{word_form, indexed_form}
 use Rattle.smt_print.specs.TermForms.{operator_form}
 

@@ -10,10 +10,10 @@ use Rattle.smt_lex.specs.Lex.{Token, Fault, Lexed, ended, faulty, next, lex_from
 use Rattle.smt_lex.specs.Forms.{Form, atom, node, Forms, none, ◌⨾◌, is_left, is_right, is_exit_word, depth_after, with_token, balanced, before, rest, begins_with_right, begins_with_name, begins_with_exit, to_exit, as_forms, forms}
 use Rattle.smt_terms.proofs.Equal.{Decides-name_eq}
 use Rattle.smt_terms.proofs.Tests.{true_or_false, both_true}
-use Rattle.script_read.specs.declared.causes.Cause.TheVariants.{BadForm}
+use Rattle.script_terms.specs.declared.causes.Cause.TheVariants.{BadForm}
 use Rattle.script_read.specs.Outlines.{CommandWord, set_logic_word, set_info_word, set_option_word, get_info_word, get_option_word, echo_word, get_model_word, declare_sort_word, define_sort_word, declare_const_word, declare_fun_word, define_fun_word, assert_word, check_sat_word, check_sat_assuming_word, push_word, pop_word, reset_word, reset_assertions_word, exit_word, supported, Outline, passing, ending, sort_declaration, sort_definition, symbol_declaration, symbol_definition, assuming, pushing, popping, global_option, where_so, symbol_at, numeral_at, list_in, of_both, is_globals, option_shape, shape, shaped, outline_by, outline, is_passing, is_passing_alone, is_passed_text}
-use Rattle.script_read.specs.Parts.{is_symbol, word_by, word_in, keyword_in, is_keyword, is_text}
-use Rattle.script_read.specs.Refusals.{Refused, given}
+use Rattle.script_terms.specs.Parts.{is_symbol, word_by, word_in, keyword_in, is_keyword, is_text}
+use Rattle.script_terms.specs.Refusals.{Refused, given}
 use Rattle.smt_print.proofs.FormTexts.{with_form}
 use Rattle.smt_print.proofs.LinesLexed.{in_front, moved, lex_line}
 use Rattle.smt_print.proofs.LinesRead.{IsLine, GoesOn}

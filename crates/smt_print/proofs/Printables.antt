@@ -18,7 +18,7 @@ use Rattle.smt_terms.proofs.SortsOfTerms.{regular}
 use Rattle.smt_terms.proofs.Tests.{both_true, and_true, either_true, left_true, right_true, not_true, true_or_false}
 use Rattle.script_read.specs.Commands.{State, Signature, sorts_of_state, symbols_of_state}
 use Rattle.script_read.specs.Printable.{is_writable, is_usable, sort_is_live, head_sorts, all_within, all_within_each, symbols_are_live, is_printable_term}
-use Rattle.script_read.specs.Scope.{or_later}
+use Rattle.script_terms.specs.Scope.{or_later}
 use Rattle.smt_print.proofs.Contexts.{lookup, pushed, lookup_name}
 use Rattle.smt_print.proofs.DrawnNames.{bindable_parts}
 use Rattle.smt_print.proofs.LeavesRead.{SymbolFits, HeadFits}

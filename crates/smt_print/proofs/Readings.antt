@@ -8,13 +8,13 @@ use Rattle.smt_terms.specs.Sorts.{Sort, bool, Variable}
 use Rattle.smt_terms.specs.Term.{Quantifier, Term, quantified, terms}
 use Rattle.smt_terms.proofs.Operands.{more_sorts}
 use Rattle.script_read.specs.Commands.{Signature}
-use Rattle.script_read.specs.Heads.{Callee, callee_of, applied}
-use Rattle.script_read.specs.Parts.{let_word, quantifier_word, head, opening, place_of, symbol_in}
-use Rattle.script_read.specs.Read.{Context, with_local, is_empty, let_name, constant_names, is_taken, below_quantifier, renamed, has_sort, draws_names, quantified_over, read, read_list, read_bindings, read_all}
-use Rattle.script_read.specs.Reading.{lets_as, ReadBinding, Sofar, live_sorts, Reading, continued, ◌>>=◌, gives, refused_if, beside, by_live}
-use Rattle.script_read.specs.declared.causes.Cause.TheVariants.{WrongSort, BadForm}
-use Rattle.script_read.specs.Refusals.{Refused, unless}
-use Rattle.script_read.specs.Variables.{quantifier_binder, variables_in}
+use Rattle.script_terms.specs.Heads.{Callee, callee_of, applied}
+use Rattle.script_terms.specs.Parts.{let_word, quantifier_word, head, opening, place_of, symbol_in}
+use Rattle.script_terms.specs.Read.{Context, with_local, is_empty, let_name, constant_names, is_taken, below_quantifier, renamed, has_sort, draws_names, quantified_over, read, read_list, read_bindings, read_all}
+use Rattle.script_terms.specs.Reading.{lets_as, ReadBinding, Sofar, live_sorts, Reading, continued, ◌>>=◌, gives, refused_if, beside, by_live}
+use Rattle.script_terms.specs.declared.causes.Cause.TheVariants.{WrongSort, BadForm}
+use Rattle.script_terms.specs.Refusals.{Refused, unless}
+use Rattle.script_terms.specs.Variables.{quantifier_binder, variables_in}
 use Rattle.smt_print.specs.TermForms.{Definition, application_form}
 use Rattle.smt_print.proofs.Contexts.{AllTaken, EachTaken, LiveRead, InScope}
 use Rattle.smt_print.proofs.FormTexts.{end_of, placed, placed_behind}

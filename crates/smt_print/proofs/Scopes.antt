@@ -17,9 +17,9 @@ use Rattle.smt_terms.proofs.Tests.{true_or_false, both_false}
 use Rattle.script_read.specs.Commands.{Signature}
 use Rattle.script_read.specs.Laws.{denoted}
 use Rattle.script_read.specs.Mean.{Denoted, Meaning, with_bound, denoted_as}
-use Rattle.script_read.specs.Read.{constant_names, with_quantified}
-use Rattle.script_read.specs.Reading.{ReadLocal, lets_as, quantified_as, bound_as, constant_as}
-use Rattle.script_read.specs.Scope.{or_later}
+use Rattle.script_terms.specs.Read.{constant_names, with_quantified}
+use Rattle.script_terms.specs.Reading.{ReadLocal, lets_as, quantified_as, bound_as, constant_as}
+use Rattle.script_terms.specs.Scope.{or_later}
 use Rattle.smt_print.specs.TermForms.{Definition, definition_name}
 use Rattle.smt_print.proofs.Contexts.{lookup, pushed, AreRead, InScope, AreMeant, LiveMeant, MeantScope, other_name, same_name, no_definition, other_definition, lookup_name}
 use Rattle.smt_print.proofs.SortsRead.{SortFits, sort_narrow}

@@ -17,11 +17,12 @@ use Rattle.script_read.specs.Mean.{accepted_or}
 use Rattle.script_read.specs.Outlines.{passing, outline}
 use Rattle.smt_lex.specs.FormText.{form_text}
 use Rattle.script_read.specs.Printable.{is_usable, is_new_sort, is_new_symbol, is_printable_term, may_stand, fixes, may_be_followed, printable_from, printable, is_writable, sort_is_live}
-use Rattle.script_read.specs.Read.{has_sort}
-use Rattle.script_read.specs.Reading.{ReadBinding}
-use Rattle.script_read.specs.Refusals.{and_then, mapped}
+use Rattle.script_terms.specs.Read.{has_sort}
+use Rattle.script_terms.specs.Reading.{ReadBinding}
+use Rattle.script_terms.specs.Refusals.{and_then, mapped}
 use Rattle.script_read.specs.Scenes.{Asserted, commands_seen, first_scene, forms_script}
-use Rattle.script_read.specs.Script.{Standing, numbered, behind, read_commands, names_with_all, first_standing, commands_or_refusal, read_forms, script, fault_of}
+use Rattle.script_read.specs.Script.{Standing, numbered, behind, read_commands, first_standing, commands_or_refusal, read_forms, script, fault_of}
+use Rattle.script_terms.specs.TextNames.{names_with_all}
 use Rattle.smt_print.specs.declared.layout.Layout.{Layout}
 use Rattle.smt_print.specs.declared.layout.Layout.TheVariants.{Tree, Dag}
 use Rattle.term_table.specs.WrittenForms.{list_form, truth_form, keyword_form, numeral_form, sort_form, symbol_form}

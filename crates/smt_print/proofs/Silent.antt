@@ -9,9 +9,9 @@ use Rattle.smt_terms.specs.Sorts.{Variable}
 use Rattle.smt_terms.specs.Term.{Quantifier}
 use Rattle.smt_terms.proofs.Tests.{true_or_false}
 use Rattle.script_read.specs.Mean.{quantified_variables}
-use Rattle.script_read.specs.Parts.{head, opening}
+use Rattle.script_terms.specs.Parts.{head, opening}
 use Rattle.script_read.specs.Scenes.{quantified_locals, naming, naming_list, naming_all}
-use Rattle.script_read.specs.Scope.{Local, let_names, Binding, live_sort}
+use Rattle.script_terms.specs.Scope.{Local, let_names, Binding, live_sort}
 use Rattle.term_table.specs.WrittenForms.{list_form, word_form, numeral_form, integer_form, last_digits, vector_form, variable_form}
 use Rattle.smt_print.specs.TermForms.{application_form, quantifier_word, quantified_form, definition_name, let_form}
 use Rattle.smt_print.proofs.BindersRead.{word_begins, let_begins}

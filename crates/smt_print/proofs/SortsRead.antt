@@ -7,9 +7,9 @@ use Rattle.smt_lex.specs.Forms.{Form, none, forms_of_list}
 use Rattle.smt_terms.specs.Rank.{is_array, most_bits, width}
 use Rattle.smt_terms.specs.Sorts.{Sort, bool, int, bit_vector, array, free_sort}
 use Rattle.script_read.specs.Commands.{Signature}
-use Rattle.script_read.specs.Parts.{place_of}
-use Rattle.script_read.specs.Refusals.{mapped}
-use Rattle.script_read.specs.SortForms.{Sorts, sort_of_symbol, sort_of_name, vectors_of, array_sort, Part, sort_in, sorts_in, all_sorts, parts_in}
+use Rattle.script_terms.specs.Parts.{place_of}
+use Rattle.script_terms.specs.Refusals.{mapped}
+use Rattle.script_terms.specs.SortForms.{Sorts, sort_of_symbol, sort_of_name, vectors_of, array_sort, Part, sort_in, sorts_in, all_sorts, parts_in}
 use Rattle.term_table.specs.WrittenForms.{word_form, sort_form}
 use Rattle.smt_print.proofs.FormTexts.{end_of, placed, placed_in, placed_behind}
 use Rattle.smt_print.proofs.SymbolsRead.{other_word, symbol_read, numeral_read}

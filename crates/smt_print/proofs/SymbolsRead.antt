@@ -11,7 +11,7 @@ use Rattle.smt_lex.specs.Forms.{Form, atom}
 use Rattle.smt_terms.specs.Numeral.{numeral}
 use Rattle.smt_terms.proofs.Equal.{Decides-name_eq}
 use Rattle.smt_terms.proofs.Tests.{true_or_false, both_true, both_false, not_true}
-use Rattle.script_read.specs.Parts.{head, opening, opening_word, word_by, constant_by, numeral_by}
+use Rattle.script_terms.specs.Parts.{head, opening, opening_word, word_by, constant_by, numeral_by}
 use Rattle.term_table.specs.WrittenForms.{word_form, symbol_form}
 use Rattle.smt_print.proofs.Digits.{numeral_value}
 use Rattle.smt_print.proofs.FormTexts.{placed, token_at}

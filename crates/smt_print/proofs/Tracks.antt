@@ -12,8 +12,8 @@ use Rattle.smt_terms.specs.Term.{Term}
 use Rattle.smt_terms.proofs.Tests.{both_true, not_true, both_false}
 use Rattle.script_read.specs.Commands.{Command, passed, declare_sort, declare, assert, check, check_assuming, push, pop, reset, reset_assertions, globals, exit, Level, State, empty_level, levels_popped, levels_emptied, throughout, on_latest, with_sort, with_symbol, with_assertion, after, sorts_of_state, symbols_of_state, Signature}
 use Rattle.script_read.specs.Printable.{is_usable, is_writable, sort_is_live, is_new_sort, is_new_symbol, may_stand, open_levels}
-use Rattle.script_read.specs.Reading.{ReadBinding, sort_known, function_known, level_known, is_level_known, entry_of, live_sorts}
-use Rattle.script_read.specs.Scope.{opened, popped, emptied}
+use Rattle.script_terms.specs.Reading.{ReadBinding, sort_known, function_known, level_known, is_level_known, entry_of, live_sorts}
+use Rattle.script_terms.specs.Scope.{opened, popped, emptied}
 use Rattle.script_read.specs.Script.{most_levels}
 use Rattle.smt_print.proofs.Levels.{bare_level, bare_levels, levels_of, levels_some, levels_length, bare_sort, bare_symbol, bare_pushed, bare_popped, bare_emptied, bare_sorts, bare_symbols, levels_opened, levels_of_popped, levels_of_emptied, known_sorts, known_symbols, sorts_known, symbols_known}
 use Rattle.smt_print.proofs.LiveNames.{AreDeclared, shown, shown_usual, new_symbol, new_sort, declared_opened, declared_popped, declared_emptied}

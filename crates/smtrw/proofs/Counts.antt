@@ -9,7 +9,7 @@ use Rattle.term_walk.specs.Subterms.{all_subterms}
 use Rattle.script_read.specs.declared.scripts.Command.{Command}
 use Rattle.script_read.specs.CommandLists.{commands_of, is_check}
 use Rattle.script_read.specs.Commands.{Command as CommandOf}
-use Rattle.script_read.specs.Refusals.{Unaccepted}
+use Rattle.script_terms.specs.Refusals.{Unaccepted}
 use Rattle.script_read.specs.Script.{script}
 use Rattle.std.specs.Prelude.{count_by}
 use Rattle.smtrw_answers.specs.Outputs.{assertions, commands, count_line, form_count, is_declaration as is_declaration_of, read_or_none, stats_lines}

@@ -9,10 +9,10 @@ use Rattle.smt_lex.specs.declared.faults.LexFault.{LexFault}
 use Rattle.smt_lex.specs.declared.faults.LexFault.TheVariants.{BadByte, BadToken, OpenText, Unbalanced, Memory}
 use Rattle.smt_terms.specs.Fresh.{Supply}
 use Rattle.smt_terms.specs.Term.{Term}
-use Rattle.script_read.specs.declared.faults.Refusal.{Refusal}
+use Rattle.script_terms.specs.declared.faults.Refusal.{Refusal}
 use Rattle.script_read.specs.CommandLists.{IsRefusal}
 use Rattle.script_read.specs.Commands.{Command}
-use Rattle.script_read.specs.Refusals.{Unaccepted, unread, refused}
+use Rattle.script_terms.specs.Refusals.{Unaccepted, unread, refused}
 use Rattle.script_read.specs.Script.{read_forms, fault_of, script}
 use Rattle.smtrw_answers.specs.declared.status.Status.{Status}
 use Rattle.smtrw_answers.specs.declared.status.Status.TheVariants.{Refused, OutOfMemory}

@@ -1,7 +1,7 @@
 -- What was sent of a told script is a rewriting of it.
 use Rattle.std.proofs.Common.{◌≡◌, refl, sym, subst, ℕ, nat_lt, Bool, true, false, if◌then◌else◌, List, length, Option, Some, None, Ok}
 use Rattle.std.specs.Prelude.{option_map}
-use Rattle.script_read.specs.Refusals.{Unaccepted}
+use Rattle.script_terms.specs.Refusals.{Unaccepted}
 use Rattle.script_read.specs.Script.{fault}
 use Rattle.smtrw_answers.specs.declared.status.Status.{Status}
 use Rattle.smtrw_answers.specs.declared.status.Status.TheVariants.{Done, Refused, Usage, ReadFailed, WriteFailed, OutOfMemory, ModelRefused, Beyond128, PassRefused}

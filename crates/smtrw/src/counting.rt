@@ -1,7 +1,7 @@
 //! `stats`: how much stands in a script.
 
 ghost use Rattle.std.specs.Prelude.{◌≡◌, ◌≤◌, ◌++◌, length, IfOk, OnOk};
-ghost use Rattle.script_read.specs.Places.{IsRead};
+ghost use Rattle.script_terms.specs.Places.{IsRead};
 ghost use Rattle.smt_io.specs.Told.{longest_text};
 ghost use Rattle.smtrw_answers.specs.Outputs.{count_line, stats_lines};
 ghost use Rattle.smtrw.specs.Counted.{declarations_in, ids_of, is_declaration, lines_of};

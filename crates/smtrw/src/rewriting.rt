@@ -3,7 +3,7 @@
 ghost use Rattle.std.specs.Prelude.{◌≡◌, ◌≤◌, length, true, OnOk};
 ghost use Rattle.std.specs.List.{list_all};
 ghost use Rattle.passes.specs.Laws.{keeps_values};
-ghost use Rattle.script_read.specs.Places.{IsRead};
+ghost use Rattle.script_terms.specs.Places.{IsRead};
 ghost use Rattle.smt_io.specs.Told.{longest_text};
 ghost use Rattle.smtrw_answers.specs.Outputs.{rewritten};
 ghost use Rattle.smtrw.specs.Prepared.{Writes};

@@ -13,8 +13,8 @@ use Rattle.smt_terms.proofs.Tests.{both_true, and_true}
 use Rattle.script_read.specs.Commands.{Command, Signature, live, literals, signature}
 use Rattle.script_read.specs.Laws.{PointsAgree, SamePoints, ReadingAnswers, denoted, form_denoted, SameMeaning, ReadingKeepsMeaning, ReadScriptsArePrintable, NamesLeftAreNew}
 use Rattle.script_read.specs.Mean.{Denoted, is_true_of}
-use Rattle.script_read.specs.Read.{has_sort}
-use Rattle.script_read.specs.Refusals.{Unaccepted}
+use Rattle.script_terms.specs.Read.{has_sort}
+use Rattle.script_terms.specs.Refusals.{Unaccepted}
 use Rattle.script_read.specs.Satisfied.{is_true_in, sat}
 use Rattle.script_read.specs.Scenes.{Asserted, forms_script, means_true, holds}
 use Rattle.script_read.specs.Script.{script}

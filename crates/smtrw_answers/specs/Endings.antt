@@ -4,8 +4,8 @@
 use Rattle.std.specs.Prelude.{ℕ, nat_lt, if◌then◌else◌, List, length, Result, Ok, Err, Option, Some, None, option_map}
 use Rattle.smt_lex.specs.Lex.{Fault, bad_byte, bad_token, open_text, unbalanced}
 use Rattle.smt_terms.specs.Models.{Model}
-use Rattle.script_read.specs.declared.faults.Refusal.{Refusal}
-use Rattle.script_read.specs.Refusals.{code_of, Unaccepted, unread, refused}
+use Rattle.script_terms.specs.declared.faults.Refusal.{Refusal}
+use Rattle.script_terms.specs.Refusals.{code_of, Unaccepted, unread, refused}
 use Rattle.script_read.specs.Commands.{checks}
 use Rattle.script_read.specs.Script.{fault_place, fault}
 use Rattle.models.specs.Refusals.{Unmodelled, code_of as model_code_of, unread as unread_model, refused as refused_model}

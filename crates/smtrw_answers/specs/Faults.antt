@@ -1,8 +1,8 @@
 -- The statuses that faults of a script's text lead to.
 use Rattle.smt_lex.specs.declared.faults.LexFault.{LexFault}
 use Rattle.smt_lex.specs.declared.faults.LexFault.TheVariants.{BadByte, BadToken, OpenText, Unbalanced, Memory}
-use Rattle.script_read.specs.declared.faults.ScriptFault.{ScriptFault}
-use Rattle.script_read.specs.declared.faults.ScriptFault.TheVariants.{Refused as ScriptRefused, Memory as NoMemory}
+use Rattle.script_terms.specs.declared.faults.ScriptFault.{ScriptFault}
+use Rattle.script_terms.specs.declared.faults.ScriptFault.TheVariants.{Refused as ScriptRefused, Memory as NoMemory}
 use Rattle.smtrw_answers.specs.declared.status.Status.{Status}
 use Rattle.smtrw_answers.specs.declared.status.Status.TheVariants.{Refused, OutOfMemory}
 

@@ -7,7 +7,7 @@ use Rattle.smt_terms.specs.Numeral.{numeral}
 use Rattle.smt_terms.specs.Sorts.{Name}
 use Rattle.smt_terms.specs.Term.{Term}
 use Rattle.term_walk.specs.Subterms.{all_subterms}
-use Rattle.script_read.specs.Refusals.{Unaccepted}
+use Rattle.script_terms.specs.Refusals.{Unaccepted}
 use Rattle.script_read.specs.Commands.{Command, declare, assert, checks}
 use Rattle.script_read.specs.Script.{script}
 use Rattle.smt_print.specs.declared.layout.Layout.{Layout}

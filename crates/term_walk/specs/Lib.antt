@@ -1,5 +1,6 @@
 pub mod FreeLists
 pub mod Marks
+pub mod Packed
 pub mod Places
 pub mod Stacks
 pub mod Subterms

@@ -3,7 +3,7 @@ use Rattle.std.specs.Prelude.{ℕ, List, [], ◌∷◌, ◌++◌, map, Result, O
 use Rattle.smt_lex.specs.Lexicon.{line_feed}
 use Rattle.smt_terms.specs.Sorts.{Name, Sort, Symbol}
 use Rattle.script_read.specs.Commands.{Signature}
-use Rattle.script_read.specs.Refusals.{mapped}
+use Rattle.script_terms.specs.Refusals.{mapped}
 use Rattle.script_read.specs.Script.{fault_of}
 use Rattle.models.specs.Refusals.{Cause, Unmodelled, refused}
 use Rattle.models.specs.ModelText.{model_of}

@@ -1,7 +1,7 @@
 -- Texts with why they aren't accepted, if they aren't.
 use Rattle.std.specs.Prelude.{ℕ, List, map, Option, Some}
-use Rattle.script_read.specs.declared.causes.Cause.{Cause}
-use Rattle.script_read.specs.Refusals.{Unaccepted, refused}
+use Rattle.script_terms.specs.declared.causes.Cause.{Cause}
+use Rattle.script_terms.specs.Refusals.{Unaccepted, refused}
 use Rattle.script_read.specs.Script.{fault}
 
 abbrev pub Cases : Type 0

@@ -5,7 +5,7 @@ use Rattle.smt_terms.specs.declared.op.Op.TheVariants.{Whole, Bits}
 use Rattle.smt_terms.specs.Fresh.{Supply}
 use Rattle.smt_terms.specs.Sorts.{Name, Sort, Symbol, Variable}
 use Rattle.smt_terms.specs.Term.{op, symbol, Term, apply, none, ◌⨾◌}
-use Rattle.script_read.specs.Refusals.{Unaccepted}
+use Rattle.script_terms.specs.Refusals.{Unaccepted}
 use Rattle.script_read.specs.Commands.{Command}
 use Rattle.smt_lex.specs.FormText.{form_text}
 use Rattle.script_read.specs.Scenes.{Asserted}

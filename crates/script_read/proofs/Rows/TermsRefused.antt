@@ -3,7 +3,7 @@ use Rattle.std.specs.Prelude.{◌≡◌, [], ◌∷◌, None, codes, refl}
 use Rattle.smt_lex.specs.Names.{is_command_word, is_syntax_word, is_theory_name, is_theory_sort, is_reserved_for_declaring, is_reserved_for_let, is_reserved_for_sorts}
 use Rattle.smt_terms.specs.Rank.{rank}
 use Rattle.smt_terms.specs.Written.{operator_named, written_rank, build}
-use Rattle.script_read.specs.declared.causes.Cause.TheVariants.{BadForm, BadIndex, NumberLimit, QuantifiedSort, RealSort, Redeclared, ReservedName, UnknownName, WidthLimit, WrongArity, WrongSort}
+use Rattle.script_terms.specs.declared.causes.Cause.TheVariants.{BadForm, BadIndex, NumberLimit, QuantifiedSort, RealSort, Redeclared, ReservedName, UnknownName, WidthLimit, WrongArity, WrongSort}
 use Rattle.script_read.specs.Outlines.{supported}
 use Rattle.script_read.proofs.Rows.Cases.{Cases, refusal, found, wanted}
 

@@ -5,18 +5,18 @@ ghost use Rattle.term_subst.specs.Substituting.{IsLater};
 ghost use Rattle.term_walk.specs.Walking.{GrowsTo};
 ghost use Rattle.script_read.specs.Script.{Standing, asserts};
 ghost use Rattle.script_read.specs.CommandLists.{IsCommandOf};
-ghost use Rattle.script_read.specs.Places.{IsRead, IsForm, SparesText, form_from};
+ghost use Rattle.script_terms.specs.Places.{IsRead, IsForm, SparesText, form_from};
 ghost use Rattle.script_read.specs.Steps.{StandsAt, StepsTo, one};
 
-use crate::causes::Cause;
-use crate::faults::ReadFault;
-use crate::locals::Locals;
-use crate::node_sorts::{BOOL, has_sort};
-use crate::places::fault;
 use crate::scripts::Command;
 use crate::session::Session;
-use crate::terms::read_term;
-use crate::terms::term_reader::TermReader;
+use script_terms::causes::Cause;
+use script_terms::faults::ReadFault;
+use script_terms::locals::Locals;
+use script_terms::node_sorts::{BOOL, has_sort};
+use script_terms::places::fault;
+use script_terms::terms::read_term;
+use script_terms::terms::term_reader::TermReader;
 use smt_lex::Forest;
 use term_table::Table;
 

@@ -5,16 +5,16 @@ ghost use Rattle.term_table.specs.Formulas.{Formulas};
 ghost use Rattle.smt_lex.specs.Forest.{token_at};
 ghost use Rattle.script_read.specs.Outlines.{levels_written};
 ghost use Rattle.script_read.specs.Script.{Standing, place_or, pushes, pops};
-ghost use Rattle.script_read.specs.Places.{IsForm, capped};
+ghost use Rattle.script_terms.specs.Places.{IsForm, capped};
 ghost use Rattle.script_read.specs.ShapeClauses.{IsNumeralAt, IfGiven, counted_at};
 ghost use Rattle.script_read.specs.Steps.{StandsAt, StepsTo, one};
 
-use crate::causes::Cause;
-use crate::faults::ReadFault;
-use crate::places::fault;
 use crate::scripts::Command;
 use crate::session::Session;
 use crate::session::numerals::numeral;
+use script_terms::causes::Cause;
+use script_terms::faults::ReadFault;
+use script_terms::places::fault;
 use smt_lex::Forest;
 
 /// The most levels that may be open.

@@ -4,17 +4,17 @@ ghost use Rattle.std.specs.Prelude.{◌≡◌, List, None, Ok, OnOk};
 ghost use Rattle.smt_terms.specs.Fresh.{Supply};
 ghost use Rattle.term_table.specs.Formulas.{Formulas};
 ghost use Rattle.script_read.specs.Script.{declarable, sort_declarable};
-ghost use Rattle.script_read.specs.Reading.{ReadBinding};
-ghost use Rattle.script_read.specs.Bound.{name_at};
-ghost use Rattle.script_read.specs.Known.{Shows, IsOwnName, find};
-ghost use Rattle.script_read.specs.Replies.{Agrees};
+ghost use Rattle.script_terms.specs.Reading.{ReadBinding};
+ghost use Rattle.script_terms.specs.Bound.{name_at};
+ghost use Rattle.script_terms.specs.Known.{Shows, IsOwnName, find};
+ghost use Rattle.script_terms.specs.Replies.{Agrees};
 ghost use Rattle.script_read.specs.ShapeClauses.{IsNameAt, named_at};
 
-use crate::causes::Cause;
-use crate::faults::Fault;
-use crate::names::{is_reserved_for_declaring, is_reserved_for_sorts};
-use crate::places::fault;
-use crate::scopes::Scope;
+use script_terms::causes::Cause;
+use script_terms::faults::Fault;
+use script_terms::names::{is_reserved_for_declaring, is_reserved_for_sorts};
+use script_terms::places::fault;
+use script_terms::scopes::Scope;
 use smt_lex::Forest;
 
 /// Refuses a name that no function, definition or term is given, or that is live as that of one.

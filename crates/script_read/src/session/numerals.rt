@@ -1,10 +1,10 @@
 //! Numerals of commands.
 
 ghost use Rattle.std.specs.Prelude.{◌≡◌};
-ghost use Rattle.script_read.specs.Places.{capped};
+ghost use Rattle.script_terms.specs.Places.{capped};
 ghost use Rattle.script_read.specs.ShapeClauses.{IsNumeralAt, counted_at};
 
-use crate::places::numeral_at;
+use script_terms::places::numeral_at;
 use smt_lex::Forest;
 
 /// The numeral that token `i` is, or 2^127 where it is greater.

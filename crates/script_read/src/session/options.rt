@@ -4,15 +4,15 @@ ghost use Rattle.std.specs.Prelude.{◌≡◌, option_map};
 ghost use Rattle.smt_lex.specs.Forest.{token_at};
 ghost use Rattle.term_table.specs.Formulas.{Formulas};
 ghost use Rattle.script_read.specs.Script.{Standing, live_of, begun_with, truth_in, sets_globals, after_reset, after_emptying};
-ghost use Rattle.script_read.specs.Places.{IsForm, form_from};
+ghost use Rattle.script_terms.specs.Places.{IsForm, form_from};
 ghost use Rattle.script_read.specs.ShapeClauses.{IfGiven};
 ghost use Rattle.script_read.specs.Steps.{StandsAt, StepsTo, one};
 
-use crate::causes::Cause;
-use crate::faults::ReadFault;
-use crate::places::{fault, is_symbol};
 use crate::scripts::Command;
 use crate::session::Session;
+use script_terms::causes::Cause;
+use script_terms::faults::ReadFault;
+use script_terms::places::{fault, is_symbol};
 use smt_lex::Forest;
 
 /// Sets `:global-declarations` to this value, by the command that begins at token `i`.

@@ -7,11 +7,10 @@ ghost use Rattle.term_subst.specs.Substituting.{IsLater};
 ghost use Rattle.term_walk.specs.Walking.{GrowsTo};
 ghost use Rattle.script_read.specs.Script.{Standing, step, read_command};
 ghost use Rattle.script_read.specs.CommandLists.{IsCommandOf};
-ghost use Rattle.script_read.specs.Places.{IsRead, IsForm, SparesText, form_from};
+ghost use Rattle.script_terms.specs.Places.{IsRead, IsForm, SparesText, form_from};
 ghost use Rattle.script_read.specs.ShapeClauses.{outline_seen, IsOutline};
 ghost use Rattle.script_read.specs.Steps.{StandsAt, StepsTo};
 
-use crate::faults::ReadFault;
 use crate::form_texts::form_text;
 use crate::scripts::Command;
 use crate::session::Session;
@@ -23,7 +22,8 @@ use crate::session::options::{check, reset, reset_assertions, set_globals};
 use crate::session::sort_names::{declare_sort, define_sort};
 use crate::session::symbols::declare_symbol;
 use crate::shapes::{Outline, outline_of};
-use crate::terms::term_reader::TermReader;
+use script_terms::faults::ReadFault;
+use script_terms::terms::term_reader::TermReader;
 use smt_lex::Forest;
 use term_table::Table;
 

@@ -9,7 +9,7 @@ use Rattle.smt_terms.specs.Term.{Term}
 use Rattle.smt_terms.specs.Written.{operator_named, written_rank, build}
 use Rattle.script_read.specs.Commands.{Command}
 use Rattle.script_read.specs.Outlines.{supported}
-use Rattle.script_read.specs.Refusals.{Unaccepted}
+use Rattle.script_terms.specs.Refusals.{Unaccepted}
 use Rattle.script_read.specs.Script.{script}
 use Rattle.smt_print.specs.declared.layout.Layout.{Layout}
 use Rattle.smt_print.specs.declared.layout.Layout.TheVariants.{Tree, Dag}

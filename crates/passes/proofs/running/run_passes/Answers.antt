@@ -2,7 +2,7 @@ use Rattle.std.proofs.Common.{refl, arith}
 use Rattle.term_walk.proofs.Visits.{table-grows}
 use Rattle.term_subst.proofs.Gaining.{none-gained, gained-both}
 use Rattle.script_read.specs.CommandLists.{commands_of}
-use Rattle.script_read.proofs.Grown.{grown_self, later_self, later_on}
+use Rattle.script_terms.proofs.Grown.{grown_self, later_self, later_on}
 use Rattle.passes.proofs.PassAfterPass.{passed_none, passed_one, passed_all}
 use Rattle.passes.proofs.RunnableLists.{one_runs, all_keep}
 use Rattle.passes.proofs.running.run_passes.Goals as goal

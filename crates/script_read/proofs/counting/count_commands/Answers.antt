@@ -1,7 +1,7 @@
 use Rattle.std.proofs.Common.{◌≡◌, List, length, refl, ap, arith}
 use Rattle.smt_lex.specs.Lex.{Token}
 use Rattle.smt_lex.specs.Forms.{Forms, forms_of, list}
-use Rattle.script_read.specs.Places.{forms_from}
+use Rattle.script_terms.specs.Places.{forms_from}
 use Rattle.script_read.proofs.counting.count_commands.Goals as goal
 
 whole : (ts : List Token) → forms_from ts 0 ≡ forms_of ts

@@ -1,6 +1,6 @@
 use Rattle.std.proofs.Common.{◌≡◌, ◌+◌, ◌-◌, ◌≤◌, length}
 use Rattle.smt_lex.specs.Forms.{list}
-use Rattle.script_read.specs.Places.{forms_from}
+use Rattle.script_terms.specs.Places.{forms_from}
 use Rattle.script_read.proofs.counting.count_commands.Given as goal
 
 abbrev pub invariant-loop-at : goal.invariant-loop-at

@@ -3,10 +3,10 @@ use Rattle.smt_lex.specs.Forest.{Source, token_at, after_at, form_length, items}
 use Rattle.smt_lex.specs.Forms.{is_left, is_right}
 use Rattle.smt_lex.specs.FormText.{form_text}
 use Rattle.smt_lex.specs.Lex.{Token}
-use Rattle.script_read.specs.Places.{IsRead, IsForm, form_from}
+use Rattle.script_terms.specs.Places.{IsRead, IsForm, form_from}
 use Rattle.script_read.specs.TokenText.{spaced_text}
 use Rattle.script_read.proofs.TokenTexts.{token_texts, tokens_text, next_text}
-use Rattle.script_read.proofs.Lexemes.{written}
+use Rattle.script_terms.proofs.Lexemes.{written}
 use Rattle.script_read.proofs.Matching.{read_balanced}
 use Rattle.script_read.proofs.form_texts.form_text.Goals as goal
 use Rattle.script_read.proofs.form_texts.form_text.Goals.{then-behind+then-not-is_right+in_ok-push, else-behind, else-behind-via-then-behind+else-not-is_right, else-behind-via-else-behind}

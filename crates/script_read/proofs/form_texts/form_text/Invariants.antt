@@ -1,6 +1,6 @@
 use Rattle.std.proofs.Common.{◌≡◌, ◌++◌, ◌-◌, take, drop}
 use Rattle.smt_lex.specs.FormText.{form_text}
-use Rattle.script_read.specs.Places.{form_from}
+use Rattle.script_terms.specs.Places.{form_from}
 use Rattle.script_read.proofs.TokenTexts.{token_texts}
 use Rattle.script_read.proofs.form_texts.form_text.Given as goal
 

@@ -3,10 +3,10 @@ use Rattle.std.proofs.lemmas.List.Elements.{All-nil}
 use Rattle.smt_lex.specs.Forest.{after_at}
 use Rattle.term_walk.proofs.Visits.{table-grows}
 use Rattle.script_read.specs.CommandLists.{commands_of, IsCommandOf, AreCommandsOf}
-use Rattle.script_read.specs.Places.{form_from, forms_from}
+use Rattle.script_terms.specs.Places.{form_from, forms_from}
 use Rattle.script_read.specs.Script.{read_commands}
-use Rattle.script_read.proofs.DrawnConstants.{spares_later}
-use Rattle.script_read.proofs.Grown.{grown_self}
+use Rattle.script_terms.proofs.DrawnConstants.{spares_later}
+use Rattle.script_terms.proofs.Grown.{grown_self}
 use Rattle.script_read.proofs.ReaderSteps.{Going, going_begun, going_on, going_refused, commands_within, all_read}
 use Rattle.script_read.proofs.reader.read_commands.Goals as goal
 

@@ -1,7 +1,7 @@
 use Rattle.std.proofs.Common.{◌-◌, ◌≤◌, length}
 use Rattle.term_walk.specs.Walking.{GrowsTo}
 use Rattle.script_read.specs.CommandLists.{AreCommandsOf}
-use Rattle.script_read.specs.Places.{SparesText, forms_from}
+use Rattle.script_terms.specs.Places.{SparesText, forms_from}
 use Rattle.script_read.specs.Script.{Standing, read_commands}
 use Rattle.script_read.specs.Steps.{StandsAt}
 use Rattle.script_read.proofs.ReaderSteps.{Going}

@@ -2,8 +2,8 @@ use Rattle.std.proofs.Common.{◌≡◌, false, sym, ap, ◌∙◌, subst}
 use Rattle.smt_terms.specs.Fresh.{Supply}
 use Rattle.term_table.specs.Formulas.{Formulas}
 use Rattle.script_read.specs.declared.session.Session.{Session}
-use Rattle.script_read.specs.Known.{nothing_known}
-use Rattle.script_read.specs.Places.{forms_from}
+use Rattle.script_terms.specs.Known.{nothing_known}
+use Rattle.script_terms.specs.Places.{forms_from}
 use Rattle.script_read.specs.Script.{fresh, first_standing}
 use Rattle.script_read.specs.Steps.{StandsAt}
 use Rattle.smt_lex.specs.Forms.{Forms}

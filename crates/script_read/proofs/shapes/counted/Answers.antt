@@ -2,8 +2,8 @@ use Rattle.std.proofs.Common.{Some, ap, sym, ◌∙◌}
 use Rattle.std.specs.Str.Parse.{digits_value}
 use Rattle.smt_lex.specs.Forest.{token_at}
 use Rattle.script_read.specs.Outlines.{placed}
-use Rattle.script_read.specs.Places.{form_from}
-use Rattle.script_read.proofs.Placing.{place_here, numeral_here, numeral_is, no_numeral}
+use Rattle.script_terms.specs.Places.{form_from}
+use Rattle.script_terms.proofs.Placing.{place_here, numeral_here, numeral_is, no_numeral}
 use Rattle.script_read.proofs.shapes.counted.Goals as goal
 
 pub returns-in-Numeral-clause-number : goal.returns-in-Numeral-clause-number

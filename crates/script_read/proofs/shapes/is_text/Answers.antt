@@ -1,7 +1,7 @@
 use Rattle.std.proofs.Common.{ap, sym, ◌∙◌}
 use Rattle.smt_lex.specs.Forest.{token_at}
-use Rattle.script_read.specs.Parts.{is_text_by}
-use Rattle.script_read.proofs.Placing.{text_here}
+use Rattle.script_terms.specs.Parts.{is_text_by}
+use Rattle.script_terms.proofs.Placing.{text_here}
 use Rattle.script_read.proofs.Shaping.{no_text_by}
 use Rattle.script_read.proofs.shapes.is_text.Goals as goal
 

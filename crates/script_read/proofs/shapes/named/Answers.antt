@@ -1,8 +1,8 @@
 use Rattle.std.proofs.Common.{Some, ap, sym, ◌∙◌}
 use Rattle.script_read.specs.Outlines.{placed}
-use Rattle.script_read.specs.Places.{form_from}
-use Rattle.script_read.specs.Bound.{name_at}
-use Rattle.script_read.proofs.Placing.{place_here}
+use Rattle.script_terms.specs.Places.{form_from}
+use Rattle.script_terms.specs.Bound.{name_at}
+use Rattle.script_terms.proofs.Placing.{place_here}
 use Rattle.script_read.proofs.shapes.named.Goals as goal
 
 pub returns-then-is_symbol-clause-name : goal.returns-then-is_symbol-clause-name

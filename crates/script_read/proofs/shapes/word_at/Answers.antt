@@ -1,6 +1,6 @@
 use Rattle.std.proofs.Common.{Some, ap, sym, ◌∙◌}
 use Rattle.smt_lex.specs.Forest.{token_at}
-use Rattle.script_read.proofs.Placing.{word_here, word_is, no_word}
+use Rattle.script_terms.proofs.Placing.{word_here, word_is, no_word}
 use Rattle.script_read.proofs.shapes.word_at.Goals as goal
 
 pub returns-in-Word : goal.returns-in-Word

@@ -4,8 +4,8 @@ use Rattle.smt_lex.specs.Forest.{token_at}
 use Rattle.smt_lex.specs.Lex.{symbol_by}
 use Rattle.smt_lex.specs.Names.{Name, is_reserved}
 use Rattle.script_read.specs.DrawnNames.{drawn_among}
-use Rattle.script_read.specs.Script.{with_name}
-use Rattle.script_read.proofs.Placing.{symbol_quoted, no_symbol_of}
+use Rattle.script_terms.specs.TextNames.{with_name}
+use Rattle.script_terms.proofs.Placing.{symbol_quoted, no_symbol_of}
 use Rattle.script_read.proofs.text_names.add_symbol.Goals as goal
 
 pub returns-in-Word : goal.returns-in-Word

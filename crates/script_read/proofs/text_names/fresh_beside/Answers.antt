@@ -2,8 +2,8 @@ use Rattle.std.proofs.Common.{List, [], ap, sym, ◌∙◌}
 use Rattle.smt_lex.specs.Names.{Name}
 use Rattle.smt_terms.specs.Free.{name_among}
 use Rattle.smt_terms.specs.Fresh.{numbered_name}
-use Rattle.script_read.specs.Places.{forms_from}
-use Rattle.script_read.specs.Script.{names_with_all}
+use Rattle.script_terms.specs.Places.{forms_from}
+use Rattle.script_terms.specs.TextNames.{names_with_all}
 use Rattle.script_read.proofs.TextNames.{drawn_agree}
 use Rattle.script_read.proofs.text_names.fresh_beside.Goals as goal
 

@@ -3,8 +3,8 @@ use Rattle.memchr.specs.Find.{FindsNeedle}
 use Rattle.smt_lex.specs.Lex.{Token, symbol_of}
 use Rattle.smt_lex.specs.Forest.{token_at}
 use Rattle.script_read.specs.DrawnNames.{drawn_among}
-use Rattle.script_read.specs.Places.{forms_from}
-use Rattle.script_read.specs.Script.{with_name, names_with_all}
+use Rattle.script_terms.specs.Places.{forms_from}
+use Rattle.script_terms.specs.TextNames.{with_name, names_with_all}
 use Rattle.script_read.proofs.DrawnBytes.{none_drawn}
 use Rattle.script_read.proofs.TextNames.{names_next, names_at_start, names_at_end}
 use Rattle.script_read.proofs.text_names.names_in.Goals as goal

@@ -2,8 +2,8 @@ use Rattle.std.proofs.Common.{◌≡◌, List, []}
 use Rattle.smt_lex.specs.Forest.{rest_at}
 use Rattle.smt_lex.specs.Names.{Name}
 use Rattle.script_read.specs.DrawnNames.{drawn_among}
-use Rattle.script_read.specs.Places.{forms_from}
-use Rattle.script_read.specs.Script.{names_with_all}
+use Rattle.script_terms.specs.Places.{forms_from}
+use Rattle.script_terms.specs.TextNames.{names_with_all}
 use Rattle.script_read.proofs.TextNames.{names_left}
 use Rattle.script_read.proofs.text_names.names_in.Given as goal
 

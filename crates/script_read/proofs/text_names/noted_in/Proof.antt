@@ -15,8 +15,8 @@ use denote.Steps.{nothing}
 use denote.Triple.Entry.{alive}
 use denote.Triple.Walked.{says, Stays, stay_dropped, Goes-dropped, walk_of, ends_at}
 use base.Fml.{ftrue}
-use Rattle.script_read.specs.Places.{forms_from}
-use Rattle.script_read.specs.Script.{names_with_all}
+use Rattle.script_terms.specs.Places.{forms_from}
+use Rattle.script_terms.specs.TextNames.{names_with_all}
 use Rattle.term_subst.proofs.NotedSteps.{fieldless_value, fieldless_made}
 use Rattle.smt_lex.specs.contracts.forests.Forest.{the_row as R}
 use Rattle.script_read.specs.contracts.text_names.noted_in as f

@@ -7,7 +7,7 @@ use Rattle.passes.specs.Passed.{passed}
 use Rattle.passes.proofs.RunnableLists.{all_keep}
 use Rattle.script_read.specs.CommandLists.{commands_of}
 use Rattle.script_read.specs.Commands.{Command}
-use Rattle.script_read.specs.Refusals.{Unaccepted}
+use Rattle.script_terms.specs.Refusals.{Unaccepted}
 use Rattle.smtrw_answers.specs.Outputs.{read_or_none, rewritten}
 use Rattle.smtrw_answers.specs.Endings.{script_end}
 use Rattle.smtrw.proofs.Endings.{accepted_ends, memory_ends}

@@ -1,5 +1,5 @@
 use Rattle.std.proofs.Common.{refl, sym, ◌∙◌}
-use Rattle.script_read.specs.Places.{form_from}
+use Rattle.script_terms.specs.Places.{form_from}
 use Rattle.script_read.specs.Script.{no_context}
 use Rattle.script_read.specs.Steps.{one}
 use Rattle.script_read.proofs.AssertionSteps.{no_locals, assertion_refused, asserted}

@@ -1,10 +1,10 @@
 use Rattle.std.proofs.Common.{◌≡◌, ◌∷◌, get_or, arith, ap, ◌∙◌}
 use Rattle.std.proofs.lemmas.List.{get_or_default}
 use Rattle.smt_lex.specs.Names.{Name}
-use Rattle.script_read.specs.declared.binders.SortedName.{SortedName}
-use Rattle.script_read.specs.declared.locals.Constant.{Constant}
-use Rattle.script_read.specs.declared.locals.Local.TheVariants.{Parameter}
-use Rattle.script_read.specs.Bound.{LocalNames}
+use Rattle.script_terms.specs.declared.binders.SortedName.{SortedName}
+use Rattle.script_terms.specs.declared.locals.Constant.{Constant}
+use Rattle.script_terms.specs.declared.locals.Local.TheVariants.{Parameter}
+use Rattle.script_terms.specs.Bound.{LocalNames}
 use Rattle.script_read.proofs.DefinitionSteps.{more_bound, all_bound}
 use Rattle.script_read.proofs.session.definitions.bind_parameters.Goals as goal
 

@@ -1,10 +1,10 @@
 use Rattle.std.proofs.Common.{◌≡◌, List, [], All, drop}
 use Rattle.smt_terms.specs.Fresh.{Supply}
 use Rattle.term_table.specs.Formulas.{Formulas}
-use Rattle.script_read.specs.Bound.{ShowsLocals, variables_seen, symbols_seen}
-use Rattle.script_read.specs.Known.{IsConstant}
-use Rattle.script_read.specs.Heads.{parameters_from}
-use Rattle.script_read.specs.Reading.{ReadLocal}
+use Rattle.script_terms.specs.Bound.{ShowsLocals, variables_seen, symbols_seen}
+use Rattle.script_terms.specs.Known.{IsConstant}
+use Rattle.script_terms.specs.Heads.{parameters_from}
+use Rattle.script_terms.specs.Reading.{ReadLocal}
 use Rattle.script_read.specs.Script.{parameters_read}
 use Rattle.script_read.proofs.session.definitions.bind_parameters.Given as goal
 

@@ -7,18 +7,19 @@ use Rattle.term_table.specs.Formulas.{tree}
 use Rattle.term_subst.specs.declared.maps.Definition.{Definition}
 use Rattle.term_walk.specs.Walking.{GrowsTo}
 use Rattle.term_walk.proofs.Visits.{table-grows}
-use Rattle.script_read.specs.declared.binders.SortedName.{SortedName}
-use Rattle.script_read.specs.declared.locals.Constant.{Constant}
-use Rattle.script_read.specs.Bound.{name_at, variables_seen}
-use Rattle.script_read.specs.Known.{find, with_definition, parameters_of}
-use Rattle.script_read.specs.Places.{form_from}
-use Rattle.script_read.specs.Read.{has_sort}
+use Rattle.script_terms.specs.declared.binders.SortedName.{SortedName}
+use Rattle.script_terms.specs.declared.locals.Constant.{Constant}
+use Rattle.script_terms.specs.Bound.{name_at, variables_seen}
+use Rattle.script_terms.specs.Known.{find, with_definition, parameters_of}
+use Rattle.script_terms.specs.Places.{form_from}
+use Rattle.script_terms.specs.Read.{has_sort}
 use Rattle.script_read.specs.Script.{body_context}
 use Rattle.script_read.specs.Steps.{no_command}
 use Rattle.script_read.proofs.DefinitionSteps.{ShowsParameters, same_lengths, seen_from, sorts_seen, locals_by, still_free, is_definition, body_refused, body_missorted, body_defined}
-use Rattle.script_read.proofs.Grown.{sort_stays}
-use Rattle.script_read.proofs.NewNames.{refused_at}
-use Rattle.script_read.proofs.SessionSteps.{steps_refused, refuses_as, refuses_whole, stands_grown}
+use Rattle.script_terms.proofs.Grown.{sort_stays}
+use Rattle.script_terms.proofs.Refusing.{refused_at}
+use Rattle.script_read.proofs.SessionSteps.{steps_refused, refuses_whole, stands_grown}
+use Rattle.script_terms.proofs.Refusing.{refuses_as}
 use Rattle.script_read.proofs.session.definitions.define_body.Goals as goal
 
 pub bind_parameters-requires-clause-constants : goal.bind_parameters-requires-clause-constants

@@ -1,16 +1,16 @@
 use Rattle.std.proofs.Common.{[], ap, sym, ◌∙◌, subst}
 use Rattle.smt_lex.specs.Forms.{Form, Forms}
 use Rattle.smt_values.specs.SortIds.{sort_at}
-use Rattle.script_read.specs.Bound.{variables_seen}
-use Rattle.script_read.specs.Places.{form_from, forms_from}
-use Rattle.script_read.specs.Replies.{refused_seen, Refuses}
+use Rattle.script_terms.specs.Bound.{variables_seen}
+use Rattle.script_terms.specs.Places.{form_from, forms_from}
+use Rattle.script_terms.specs.Replies.{refused_seen, Refuses}
 use Rattle.script_read.specs.Script.{Step}
 use Rattle.script_read.specs.ShapeClauses.{named_at}
 use Rattle.script_read.specs.Steps.{Steps, header_in, no_command}
 use Rattle.script_read.proofs.DefinitionSteps.{header_refused, header_read}
 use Rattle.script_read.proofs.NewNames.{declarable_refused}
 use Rattle.script_read.proofs.SessionSteps.{steps_refused, refuses_whole, stands_grown}
-use Rattle.script_read.proofs.Showing.{sorts_found}
+use Rattle.script_terms.proofs.Showing.{sorts_found}
 use Rattle.script_read.proofs.session.definitions.define_symbol.Goals as goal
 
 pub returns-in_err-check_new_name-clause-step : goal.returns-in_err-check_new_name-clause-step

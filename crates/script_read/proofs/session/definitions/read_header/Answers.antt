@@ -1,11 +1,11 @@
 use Rattle.std.proofs.Common.{Ok, ap, sym, ◌∙◌}
 use Rattle.smt_values.specs.SortIds.{sort_at}
-use Rattle.script_read.specs.Places.{form_from, forms_from}
-use Rattle.script_read.specs.Known.{sorts_known}
-use Rattle.script_read.specs.SortForms.{sort_in}
+use Rattle.script_terms.specs.Places.{form_from, forms_from}
+use Rattle.script_terms.specs.Known.{sorts_known}
+use Rattle.script_terms.specs.SortForms.{sort_in}
 use Rattle.script_read.proofs.DefinitionSteps.{header_sort_refused, header_is, variables_stay}
 use Rattle.script_read.proofs.SessionSteps.{follows_refused, refuses_whole}
-use Rattle.script_read.proofs.Showing.{known_alike}
+use Rattle.script_terms.proofs.Showing.{known_alike}
 use Rattle.script_read.proofs.session.definitions.read_header.Goals as goal
 
 pub returns-in_err-sort-clause-header : goal.returns-in_err-sort-clause-header

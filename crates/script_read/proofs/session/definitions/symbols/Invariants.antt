@@ -1,5 +1,5 @@
 use Rattle.std.proofs.Common.{◌≡◌, map, take}
-use Rattle.script_read.specs.declared.locals.Constant.{Constant}
+use Rattle.script_terms.specs.declared.locals.Constant.{Constant}
 use Rattle.script_read.proofs.session.definitions.symbols.Given as goal
 
 abbrev pub invariant-loop-constant : goal.invariant-loop-constant

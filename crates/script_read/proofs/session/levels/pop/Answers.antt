@@ -1,6 +1,6 @@
 use Rattle.std.proofs.Common.{◌∙◌}
-use Rattle.script_read.proofs.NewNames.{refused_at}
-use Rattle.script_read.proofs.SessionSteps.{refuses_as}
+use Rattle.script_terms.proofs.Refusing.{refused_at}
+use Rattle.script_terms.proofs.Refusing.{refuses_as}
 use Rattle.script_read.proofs.LevelSteps.{pop_too_far, popped_levels}
 use Rattle.script_read.proofs.session.levels.pop.Goals as goal
 

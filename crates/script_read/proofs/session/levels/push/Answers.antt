@@ -1,7 +1,7 @@
 use Rattle.std.proofs.Common.{ap, ◌∙◌}
 use Rattle.smt_lex.specs.Forest.{token_at}
-use Rattle.script_read.proofs.NewNames.{refused_at}
-use Rattle.script_read.proofs.SessionSteps.{refuses_as}
+use Rattle.script_terms.proofs.Refusing.{refused_at}
+use Rattle.script_terms.proofs.Refusing.{refuses_as}
 use Rattle.script_read.proofs.LevelSteps.{place_of_levels, push_refused, pushed}
 use Rattle.script_read.proofs.session.levels.push.Goals as goal
 

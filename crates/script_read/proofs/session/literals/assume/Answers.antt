@@ -4,12 +4,12 @@ use Rattle.smt_lex.specs.Forest.{after_at}
 use Rattle.smt_terms.specs.Term.{Term}
 use Rattle.term_table.specs.Formulas.{tree, trees_at, IsNode, AreNodes}
 use Rattle.term_walk.proofs.Visits.{table-grows}
-use Rattle.script_read.specs.Known.{Shows}
-use Rattle.script_read.specs.Places.{form_from, forms_from}
-use Rattle.script_read.specs.Refusals.{mapped}
+use Rattle.script_terms.specs.Known.{Shows}
+use Rattle.script_terms.specs.Places.{form_from, forms_from}
+use Rattle.script_terms.specs.Refusals.{mapped}
 use Rattle.script_read.specs.Script.{live_of, literals_in}
 use Rattle.script_read.specs.Steps.{one}
-use Rattle.script_read.proofs.Grown.{grown_self}
+use Rattle.script_terms.proofs.Grown.{grown_self}
 use Rattle.script_read.proofs.SessionSteps.{steps_refused, refuses_whole, stands_grown}
 use Rattle.script_read.proofs.LiteralNodes.{no_literal, one_literal, literal_refused, last_literal, trees_more, nodes_more, assumption_refused, assumed}
 use Rattle.script_read.proofs.session.literals.assume.Goals as goal

@@ -1,8 +1,8 @@
 use Rattle.std.proofs.Common.{◌≡◌, ◌-◌, ◌≤◌, ◌++◌, length}
 use Rattle.term_table.specs.Formulas.{trees_at, AreNodes}
 use Rattle.term_walk.specs.Walking.{GrowsTo}
-use Rattle.script_read.specs.Places.{forms_from}
-use Rattle.script_read.specs.Refusals.{mapped}
+use Rattle.script_terms.specs.Places.{forms_from}
+use Rattle.script_terms.specs.Refusals.{mapped}
 use Rattle.script_read.specs.Script.{Standing, live_of, literals_in}
 use Rattle.script_read.specs.Steps.{StandsAt}
 use Rattle.script_read.proofs.session.literals.assume.Given as goal

@@ -2,7 +2,7 @@ use Rattle.std.proofs.Common.{rules, ◌≡◌, ap, ◌∙◌}
 use Rattle.smt_terms.specs.Rank.{sort_of}
 use Rattle.smt_terms.specs.Sorts.{bool}
 use Rattle.term_table.specs.Formulas.{symbol_at}
-use Rattle.script_read.proofs.MadeConstants.{boolean_sort}
+use Rattle.script_terms.proofs.MadeConstants.{boolean_sort}
 use Rattle.script_read.proofs.session.literals.boolean_node.Goals as goal
 
 pub returns-clause-node : goal.returns-clause-node

@@ -1,7 +1,7 @@
 use Rattle.std.proofs.Common.{ap, sym, ◌∙◌}
 use Rattle.smt_lex.specs.Lex.{name_of}
 use Rattle.smt_lex.specs.Forest.{token_at}
-use Rattle.script_read.specs.Known.{find}
+use Rattle.script_terms.specs.Known.{find}
 use Rattle.script_read.specs.LiteralClauses.{constant_of_entry}
 use Rattle.script_read.specs.Script.{declared_constant}
 use Rattle.script_read.proofs.LiteralNodes.{undeclared, declared, constant_known}

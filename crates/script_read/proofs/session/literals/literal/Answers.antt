@@ -4,9 +4,9 @@ use Rattle.smt_lex.specs.Forms.{Form}
 use Rattle.smt_lex.specs.Lex.{Token}
 use Rattle.smt_terms.specs.Connectives.{negated}
 use Rattle.term_table.specs.Formulas.{tree}
-use Rattle.script_read.specs.Parts.{symbol_in, is_name}
-use Rattle.script_read.specs.Places.{form_from, pair_in, two_from}
-use Rattle.script_read.specs.Reading.{ReadBinding}
+use Rattle.script_terms.specs.Parts.{symbol_in, is_name}
+use Rattle.script_terms.specs.Places.{form_from, pair_in, two_from}
+use Rattle.script_terms.specs.Reading.{ReadBinding}
 use Rattle.script_read.specs.Script.{declared_constant, literal}
 use Rattle.script_read.proofs.LiteralNodes.{literal_pair, literal_other}
 use Rattle.script_read.proofs.session.literals.literal.Goals as goal

@@ -1,11 +1,11 @@
 use Rattle.std.proofs.Common.{option_map, ap, sym, ◌∙◌}
 use Rattle.term_table.specs.Formulas.{tree}
-use Rattle.script_read.specs.declared.causes.Cause.TheVariants.{BadForm}
-use Rattle.script_read.specs.Parts.{place_of}
-use Rattle.script_read.specs.Places.{form_from}
-use Rattle.script_read.specs.Refusals.{given}
-use Rattle.script_read.proofs.NewNames.{refused_at}
-use Rattle.script_read.proofs.SessionSteps.{refuses_as}
+use Rattle.script_terms.specs.declared.causes.Cause.TheVariants.{BadForm}
+use Rattle.script_terms.specs.Parts.{place_of}
+use Rattle.script_terms.specs.Places.{form_from}
+use Rattle.script_terms.specs.Refusals.{given}
+use Rattle.script_terms.proofs.Refusing.{refused_at}
+use Rattle.script_terms.proofs.Refusing.{refuses_as}
 use Rattle.script_read.proofs.session.literals.read_literal.Goals as goal
 
 pub returns-in-Some-clause-literal : goal.returns-in-Some-clause-literal

@@ -1,10 +1,11 @@
 use Rattle.std.proofs.Common.{ap, sym, ◌∙◌}
 use Rattle.std.specs.Prelude.{is_some}
 use Rattle.smt_lex.specs.Names.{is_reserved_for_declaring}
-use Rattle.script_read.specs.Known.{find}
+use Rattle.script_terms.specs.Known.{find}
 use Rattle.script_read.specs.ShapeClauses.{named_at}
-use Rattle.script_read.proofs.NameFacts.{not_theory}
-use Rattle.script_read.proofs.NewNames.{refused_at, live_refused, new_passed}
+use Rattle.script_terms.proofs.NameFacts.{not_theory}
+use Rattle.script_terms.proofs.Refusing.{refused_at}
+use Rattle.script_read.proofs.NewNames.{live_refused, new_passed}
 use Rattle.script_read.proofs.session.new_names.check_new_name.Goals as goal
 
 pub returns-then-is_some-clause-test : goal.returns-then-is_some-clause-test

@@ -1,7 +1,7 @@
 use Rattle.std.proofs.Common.{◌≡◌, ℕ, List, Option, Some, IsSome, option_map, refl, ap, sym, ◌∙◌, subst}
 use Rattle.smt_lex.specs.Lex.{Token}
-use Rattle.script_read.specs.Parts.{numeral_in}
-use Rattle.script_read.specs.Places.{capped, form_from}
+use Rattle.script_terms.specs.Parts.{numeral_in}
+use Rattle.script_terms.specs.Places.{capped, form_from}
 use Rattle.script_read.specs.ShapeClauses.{IsNumeralAt, counted_at}
 use Rattle.script_read.proofs.NewNames.{numeral_here_is}
 use Rattle.script_read.proofs.session.numerals.numeral.Goals as goal

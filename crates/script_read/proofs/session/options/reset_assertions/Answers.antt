@@ -1,8 +1,8 @@
 use Rattle.std.proofs.Common.{sym, subst}
-use Rattle.script_read.specs.Known.{Scoping, Shows}
-use Rattle.script_read.specs.Reading.{is_level_known}
-use Rattle.script_read.specs.Scope.{emptied}
-use Rattle.script_read.proofs.Showing.{shows_emptied}
+use Rattle.script_terms.specs.Known.{Scoping, Shows}
+use Rattle.script_terms.specs.Reading.{is_level_known}
+use Rattle.script_terms.specs.Scope.{emptied}
+use Rattle.script_terms.proofs.Showing.{shows_emptied}
 use Rattle.script_read.proofs.session.options.reset_assertions.Goals as goal
 
 pub returns-clause-stands : goal.returns-clause-stands

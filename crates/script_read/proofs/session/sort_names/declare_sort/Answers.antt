@@ -1,15 +1,17 @@
 use Rattle.std.proofs.Common.{ap, sym, ◌∙◌, subst}
 use Rattle.smt_terms.specs.Sorts.{free_sort}
 use Rattle.term_walk.specs.Walking.{GrowsTo}
-use Rattle.script_read.specs.Known.{with_sort}
-use Rattle.script_read.proofs.Grown.{grown_self, grown_sorts}
+use Rattle.script_terms.specs.Known.{with_sort}
+use Rattle.script_terms.proofs.Grown.{grown_self, grown_sorts}
 use Rattle.smt_values.specs.SortIds.{IsPlain}
 use Rattle.script_read.specs.ShapeClauses.{named_at, counted_at}
-use Rattle.script_read.specs.Replies.{refused_seen}
+use Rattle.script_terms.specs.Replies.{refused_seen}
 use Rattle.script_read.specs.Steps.{one}
-use Rattle.script_read.proofs.Lexemes.{symbol_plain}
-use Rattle.script_read.proofs.SessionSteps.{steps_refused, refuses_as, sort_arity_refused, sort_declared}
-use Rattle.script_read.proofs.NewNames.{sort_declarable_refused, is_zero, is_not_zero, refused_at}
+use Rattle.script_terms.proofs.Lexemes.{symbol_plain}
+use Rattle.script_read.proofs.SessionSteps.{steps_refused, sort_arity_refused, sort_declared}
+use Rattle.script_terms.proofs.Refusing.{refuses_as}
+use Rattle.script_read.proofs.NewNames.{sort_declarable_refused, is_zero, is_not_zero}
+use Rattle.script_terms.proofs.Refusing.{refused_at}
 use Rattle.script_read.proofs.session.sort_names.declare_sort.Goals as goal
 
 pub returns-in_err-check_new_sort_name-clause-step : goal.returns-in_err-check_new_sort_name-clause-step

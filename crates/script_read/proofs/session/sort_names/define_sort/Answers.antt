@@ -1,14 +1,16 @@
 use Rattle.std.proofs.Common.{ap, sym, ◌∙◌}
-use Rattle.script_read.specs.Known.{with_sort}
-use Rattle.script_read.specs.Places.{form_from, forms_from}
+use Rattle.script_terms.specs.Known.{with_sort}
+use Rattle.script_terms.specs.Places.{form_from, forms_from}
 use Rattle.script_read.specs.ShapeClauses.{named_at}
-use Rattle.script_read.specs.Replies.{refused_seen}
-use Rattle.script_read.specs.SortForms.{sort_in}
+use Rattle.script_terms.specs.Replies.{refused_seen}
+use Rattle.script_terms.specs.SortForms.{sort_in}
 use Rattle.script_read.specs.Steps.{no_command}
-use Rattle.script_read.proofs.Grown.{grown_self}
-use Rattle.script_read.proofs.Showing.{sorts_found}
-use Rattle.script_read.proofs.SessionSteps.{steps_refused, refuses_as, refuses_whole, sort_parameters_refused, sort_refused, sort_defined}
-use Rattle.script_read.proofs.NewNames.{sort_declarable_refused, refused_at}
+use Rattle.script_terms.proofs.Grown.{grown_self}
+use Rattle.script_terms.proofs.Showing.{sorts_found}
+use Rattle.script_read.proofs.SessionSteps.{steps_refused, refuses_whole, sort_parameters_refused, sort_refused, sort_defined}
+use Rattle.script_terms.proofs.Refusing.{refuses_as}
+use Rattle.script_read.proofs.NewNames.{sort_declarable_refused}
+use Rattle.script_terms.proofs.Refusing.{refused_at}
 use Rattle.script_read.proofs.session.sort_names.define_sort.Goals as goal
 
 pub returns-in_err-check_new_sort_name-clause-step : goal.returns-in_err-check_new_sort_name-clause-step

@@ -9,18 +9,18 @@ use Rattle.smt_values.specs.SortIds.{sort_at, IsSortId, IsPlain}
 use Rattle.term_table.specs.Formulas.{Formulas, symbol_at, symbol_over}
 use Rattle.term_walk.specs.Walking.{GrowsTo}
 use Rattle.term_walk.proofs.Visits.{table-grows}
-use Rattle.script_read.specs.Bound.{name_at}
-use Rattle.script_read.specs.Known.{IsEntry, symbol_meant, with_entry}
-use Rattle.script_read.specs.Places.{form_from}
+use Rattle.script_terms.specs.Bound.{name_at}
+use Rattle.script_terms.specs.Known.{IsEntry, symbol_meant, with_entry}
+use Rattle.script_terms.specs.Places.{form_from}
 use Rattle.script_read.specs.ShapeClauses.{named_at, listed_at}
-use Rattle.script_read.specs.Replies.{refused_seen}
+use Rattle.script_terms.specs.Replies.{refused_seen}
 use Rattle.script_read.specs.Script.{symbol_of_sorts}
-use Rattle.script_read.specs.SortForms.{sort_in, sorts_in}
+use Rattle.script_terms.specs.SortForms.{sort_in, sorts_in}
 use Rattle.script_read.specs.Steps.{one}
-use Rattle.script_read.proofs.Grown.{grown_self, grown_symbols, later_self, same_map, sort_stays, symbol_stays}
-use Rattle.script_read.proofs.Lexemes.{symbol_plain}
-use Rattle.script_read.proofs.Placing.{form_within}
-use Rattle.script_read.proofs.Showing.{sorts_found, sorts_known_stay}
+use Rattle.script_terms.proofs.Grown.{grown_self, grown_symbols, later_self, same_map, sort_stays, symbol_stays}
+use Rattle.script_terms.proofs.Lexemes.{symbol_plain}
+use Rattle.script_terms.proofs.Placing.{form_within}
+use Rattle.script_terms.proofs.Showing.{sorts_found, sorts_known_stay}
 use Rattle.script_read.proofs.SessionSteps.{steps_refused, refuses_whole, arguments_refused, result_refused, symbol_declared}
 use Rattle.script_read.proofs.NewNames.{declarable_refused}
 use Rattle.script_read.proofs.session.symbols.declare_symbol.Goals as goal

@@ -1,5 +1,5 @@
 use Rattle.std.specs.Prelude.{option_to_list}
-use Rattle.script_read.specs.Replies.{refused_seen}
+use Rattle.script_terms.specs.Replies.{refused_seen}
 use Rattle.script_read.specs.ShapeClauses.{outline_seen}
 use Rattle.script_read.proofs.SessionSteps.{steps_refused}
 use Rattle.script_read.proofs.Turns.{outline_refused, turn_refused, turn_taken}

@@ -2,7 +2,7 @@ use Rattle.std.proofs.Common.{ap}
 use Rattle.smt_lex.specs.FormText.{form_text}
 use Rattle.smt_lex.specs.Forest.{token_at}
 use Rattle.script_read.specs.declared.scripts.Command.TheVariants.{Check, Reset, ResetAssertions}
-use Rattle.script_read.specs.Places.{form_from}
+use Rattle.script_terms.specs.Places.{form_from}
 use Rattle.script_read.specs.Script.{live_of, begun_with, after_reset, after_emptying, step}
 use Rattle.script_read.specs.ShapeClauses.{outline_seen}
 use Rattle.script_read.proofs.Turns.{steps_alone}

@@ -1,5 +1,0 @@
-use Rattle.script_read.proofs.TheoryConstants.{truth_is}
-use Rattle.script_read.proofs.terms.atoms.theory_symbol.Goals as goal
-
-pub constant-requires : goal.constant-requires
-constant-requires c = truth_is _
