@@ -44,7 +44,11 @@ impl<'a> TermReader<'a> {
     ghost use Rattle.script_terms.specs.Waiting.{Going, GoingBack, Stepped, SomeGoing, SomeGoingBack, Keeps, left_of, left_behind, is_call};
 
     /// No term is under way. It takes no memory.
-    pub fn new(alloc: Global) -> TermReader<'a> {
+    pub fn new(alloc: Global) -> TermReader<'a>
+        ensures frames { result.frames.items ≡ [] }
+        ensures operands { result.operands.items ≡ [] }
+        ensures callees { result.callees.items ≡ [] }
+    {
         TermReader {
             alloc,
             defines: None,
