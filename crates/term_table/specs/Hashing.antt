@@ -1,5 +1,5 @@
 -- What a hasher of nodes computes, and what a node feeds it.
-use Rattle.std.specs.Prelude.{◌≡◌, ℕ, true, IsTrue, drop, ◌+◌, ◌-◌, ◌/◌, ◌%◌, ◌^◌, List, length, flat_map, ◌++◌, max, nat_eq, nat_lt, if◌then◌else◌, bit_and, bit_or}
+use Rattle.std.specs.Prelude.{◌≡◌, ℕ, true, IsTrue, drop, ◌+◌, ◌/◌, List, length, flat_map, ◌++◌, max, min, nat_eq, nat_lt, if◌then◌else◌, bit_and, bit_or}
 use Rattle.std.specs.Hash.{le_bytes, HashWrites, same_Alike, items_Alike}
 use Rattle.std.specs.Cmp.{first_so, second_so}
 use Rattle.smt_terms.proofs.Operators.{Decides-derived}
@@ -16,32 +16,32 @@ use Rattle.term_table.specs.SameNodes.{are_same, op_eq, id_eq, id_eq-Decides}
 
 -- before anything is written
 abbrev pub initial : NodeHasher
-initial = record { rest = folding.initial; greatest = 0 }
+initial = record { whole = folding.initial; block = folding.initial; greatest = 0 }
 
--- how a number counts behind the greatest so far: where it is near, by how far it is from it, and else the lesser of the two does
-abbrev pub counted : ℕ → ℕ → ℕ
-counted greatest number =
-    let place = ((number + 4096) % 2 ^ 64 + (2 ^ 64 - greatest)) % 2 ^ 64 in
-    if nat_lt place 8192 then place
-    else (if nat_lt greatest number then (greatest + 8192) % 2 ^ 64 else 2 ^ 64 - 1 - number)
+-- what a number that isn't the greatest counts for: an early one for itself, and 32 later ones alike
+abbrev pub counted : ℕ → ℕ
+counted number = if nat_lt number 4096 then number else 4096 + number / 32
 
--- after a number, where the greatest so far is kept aside
+-- after a number; the greatest so far is kept aside
 abbrev pub ranked : NodeHasher → ℕ → NodeHasher
-ranked h n = record { rest = folding.write h.rest (le_bytes 8 (counted h.greatest n)); greatest = max h.greatest n }
+ranked h n = record {
+  whole = folding.write h.whole (le_bytes 8 n);
+  block = folding.write h.block (le_bytes 8 (counted (min h.greatest n)));
+  greatest = max h.greatest n;
+}
 
 -- after bytes, eight of which are a number
 abbrev pub written : NodeHasher → List ℕ → NodeHasher
 written h bytes =
     if nat_eq (length bytes) 8
     then ranked h (from_le_bytes w64 bytes)
-    else record h { rest = folding.write h.rest bytes }
+    else record h { whole = folding.write h.whole bytes; block = folding.write h.block bytes }
 
--- the tag and the last two bits are of all that was written, the others of all but the last bits of the greatest number
+-- the tag is of all that was written, the other bits of what neighbours write alike and of a 32nd of the greatest number
 abbrev pub finished : NodeHasher → ℕ
 finished h =
-    let block = folding.write h.rest (le_bytes 8 (h.greatest / 32)) in
-    let whole = folding.write block (le_bytes 8 h.greatest) in
-    bit_or (bit_and (folding.finish whole) 0xFF00_0003) (bit_and (folding.finish block) 0x00FF_FFFC)
+    let block = folding.write h.block (le_bytes 8 (h.greatest / 32)) in
+    bit_or (bit_and (folding.finish h.whole) 0xFF00_0000) (bit_and (folding.finish block) 0x00FF_FFFF)
 
 -- ---- what a node feeds a hasher
 

@@ -5,28 +5,29 @@ ghost use Rattle.term_table.specs.Hashing.{initial, counted, ranked, written, fi
 
 use std::hash::{BuildHasher, FoldHasher, Hasher};
 
-/// Numbers that differ in their last five bits alone are neighbours.
+/// Numbers below this one count each for itself: the operators, and what is declared first in most scripts.
+const EARLY: u64 = 4096;
+
+/// How many later numbers, one after the other, count alike.
 const BLOCK: u64 = 32;
 
-/// Numbers that are at most this apart count by how far they are apart.
-const NEAR: u64 = 4096;
+/// The bits of a hash that tell neighbours apart, which are those of the tag.
+const APART: u64 = 0xFF00_0000;
 
-/// The bits of a hash that tell neighbours apart: the tag, and which of four groups of an index table.
-const APART: u64 = 0xFF00_0003;
+/// The bits of a hash that neighbours have in common: which group of an index table.
+const TOGETHER: u64 = 0x00FF_FFFF;
 
-/// The bits of a hash that neighbours have in common: which four groups of an index table.
-const TOGETHER: u64 = 0x00FF_FFFC;
-
-/// A hasher that keeps neighbours together. Neighbours are values which differ only in the last five bits of the
-/// greatest number of eight bytes that they write: of a node, mostly its latest operand. A number that is near the
-/// greatest so far counts by how far it is from it, so operands that move together make neighbours too. An index table
-/// looks for neighbours first in the same four groups, which lie side by side in memory, so nodes that are made one after
-/// the other over one another are found without a walk through all of the table. Of one operator and as many operands
-/// only a few dozen nodes are neighbours, so that no four groups are first for many.
+/// A hasher that keeps neighbours together. Neighbours are values whose numbers of eight bytes are near each other: of
+/// nodes, those of one operator over operands that were made at about the same times. An index table looks for
+/// neighbours first in the same group, and next in those that lie behind it in memory, so nodes that are made one after
+/// the other over one another are found without a walk through all of the table. At most 1,024 nodes of one operator over
+/// two operands are neighbours, and at most 32 where one of the two is early, so that no group is first for many.
 #[derive(Clone, Copy)]
 pub(crate) struct NodeHasher {
-    /// All that was written, but for the greatest number, which goes in last.
-    rest: FoldHasher,
+    /// All that was written.
+    whole: FoldHasher,
+    /// What neighbours write alike, but for the greatest number, which goes in last.
+    block: FoldHasher,
     greatest: u64,
 }
 
@@ -41,7 +42,8 @@ impl BuildHasher for BuildNodeHasher {
 
     fn build_hasher(&self) -> NodeHasher {
         NodeHasher {
-            rest: FoldHasher::default(),
+            whole: FoldHasher::default(),
+            block: FoldHasher::default(),
             greatest: 0,
         }
     }
@@ -51,24 +53,20 @@ impl NodeHasher {
     fn rank(&mut self, number: u64)
         ensures { self.new ≡ ranked self.old number }
     {
-        self.rest.write_u64(counted(self.greatest, number));
+        self.whole.write_u64(number);
+        self.block.write_u64(counted(self.greatest.min(number)));
         self.greatest = self.greatest.max(number);
     }
 }
 
-// How a number counts behind the greatest so far: by its place among those that are near it, or else by the lesser of the
-// two, each in a range of its own.
-fn counted(greatest: u64, number: u64) -> u64
-    ensures { result ≡ counted greatest number }
+// What a number that isn't the greatest counts for.
+fn counted(number: u64) -> u64
+    ensures { result ≡ counted number }
 {
-    let place = number.wrapping_add(NEAR).wrapping_sub(greatest);
-    if place < 2 * NEAR {
-        return place;
+    if number < EARLY {
+        return number;
     }
-    if greatest < number {
-        return greatest.wrapping_add(2 * NEAR);
-    }
-    !number
+    EARLY + number / BLOCK
 }
 
 impl Hasher for NodeHasher {
@@ -77,17 +75,18 @@ impl Hasher for NodeHasher {
     ghost finish = { finished };
 
     fn finish(&self) -> u64 {
-        let mut block = self.rest;
+        let mut block = self.block;
         block.write_u64(self.greatest / BLOCK);
-        let mut whole = block;
-        whole.write_u64(self.greatest);
-        whole.finish() & APART | block.finish() & TOGETHER
+        self.whole.finish() & APART | block.finish() & TOGETHER
     }
 
     fn write(&mut self, bytes: &[u8]) {
         match <[u8; 8]>::try_from(bytes) {
             Ok(number) => self.rank(u64::from_le_bytes(number)),
-            Err(_) => self.rest.write(bytes),
+            Err(_) => {
+                self.whole.write(bytes);
+                self.block.write(bytes);
+            }
         }
     }
 }
