@@ -1,6 +1,7 @@
 pub mod Aig
 pub mod AigShape
 pub mod AtTruth
+mod BelowRoot
 pub mod Bound
 pub mod Clear
 pub mod Drawn
@@ -9,6 +10,7 @@ mod Inherited
 pub mod Inside
 mod Inverted
 mod Joined
+mod Kept
 mod Keeps
 pub mod MadeNodes
 pub mod Nnf

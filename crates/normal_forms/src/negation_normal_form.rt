@@ -1,6 +1,6 @@
 //! Negation normal form.
 
-ghost use Rattle.std.specs.Prelude.{◌≡◌, ◌∷◌, [], ◌+◌, ◌≤◌, List, length, map, true, Some, All, IsSome, IsTrue, IfOk};
+ghost use Rattle.std.specs.Prelude.{◌≡◌, ◌∷◌, [], ◌+◌, ◌≤◌, List, length, map, true, Some, All, IsSome, IsTrue, IfOk, OnOk};
 ghost use Rattle.smt_terms.specs.Sorts.{bool};
 ghost use Rattle.smt_terms.specs.Rank.{sort_of};
 ghost use Rattle.smt_terms.specs.Shapes.{is_nnf};
@@ -25,7 +25,7 @@ use smt_terms::NodeId;
 use std::alloc::{AllocError, Global};
 use std::sync::ledger::Ledger;
 use term_table::Table;
-use term_walk::walks::walk;
+use term_walk::walks::walk_all;
 use term_walk::{Kept, NodeStep, Steps};
 
 // The positive forms and the negative forms of these nodes. Up to four take no memory.
@@ -157,6 +157,81 @@ fn quantified_forms(
     Ok(Forms { positive, negative })
 }
 
+// The positive form of a connective alone.
+fn connected_root(
+    alloc: Global,
+    table: &mut Table,
+    id: NodeId,
+    connective: Connective,
+    kept: &Kept<Forms>,
+) -> Result<NodeId, AllocError>
+    requires formula { IsFormula table.old id }
+    requires shape { IsOfKind (tree table.old id) (kind_seen connective) }
+    requires related { AreRelated HasForms table.old kept.now }
+    requires kids { HaveResults table.old (tree table.old id) kept.now }
+    ensures formula { IfOk result (IsFormula table.new) }
+    ensures term { IfOk result (λ k. tree table.new k ≡ plain.nnf (tree table.old id)) }
+    ensures grows { GrowsTo table.old table.new }
+    ensures symbols { table.new.symbols ≡ table.old.symbols }
+    ensures sorts { table.new.sorts ≡ table.old.sorts }
+{
+    let (positives, negatives) = operand_forms(alloc, table, id, connective, kept)?;
+    let positive = connected_positive(table, id, connective, &positives, &negatives)?;
+    Ok(positive)
+}
+
+// The positive form of a quantified formula alone.
+fn quantified_root(
+    alloc: Global,
+    table: &mut Table,
+    id: NodeId,
+    kept: &Kept<Forms>,
+) -> Result<NodeId, AllocError>
+    requires formula { IsFormula table.old id }
+    requires quantified { is_quantified (tree table.old id) ≡ true }
+    requires related { AreRelated HasForms table.old kept.now }
+    requires kids { HaveResults table.old (tree table.old id) kept.now }
+    ensures formula { IfOk result (IsFormula table.new) }
+    ensures term { IfOk result (λ k. tree table.new k ≡ plain.nnf (tree table.old id)) }
+    ensures grows { GrowsTo table.old table.new }
+    ensures symbols { table.new.symbols ≡ table.old.symbols }
+    ensures sorts { table.new.sorts ≡ table.old.sorts }
+{
+    let forms = *kept.get(body_of(table, id)).unwrap();
+    let positive = bind(alloc, table, id, is_universal(table, id), forms.positive)?;
+    Ok(positive)
+}
+
+// The positive form of a formula alone, which is all that is asked for where the formula is no operand.
+fn root_form(
+    alloc: Global,
+    table: &mut Table,
+    id: NodeId,
+    kept: &Kept<Forms>,
+) -> Result<NodeId, AllocError>
+    requires formula { IsFormula table.old id }
+    requires related { AreRelated HasForms table.old kept.now }
+    requires kids { HaveResults table.old (tree table.old id) kept.now }
+    ensures formula { IfOk result (IsFormula table.new) }
+    ensures term { IfOk result (λ k. tree table.new k ≡ plain.nnf (tree table.old id)) }
+    ensures grows { GrowsTo table.old table.new }
+    ensures symbols { table.new.symbols ≡ table.old.symbols }
+    ensures sorts { table.new.sorts ≡ table.old.sorts }
+{
+    match shape_of(table, id) {
+        Shape::Truth(_) => Ok(id),
+        Shape::Atom => Ok(id),
+        Shape::Quantified => {
+            let form = quantified_root(alloc, table, id, kept)?;
+            Ok(form)
+        }
+        Shape::Connected(connective) => {
+            let form = connected_root(alloc, table, id, connective, kept)?;
+            Ok(form)
+        }
+    }
+}
+
 // The forms of a formula.
 fn formula_forms(
     alloc: Global,
@@ -254,6 +329,30 @@ impl NodeStep for FormStep {
     ghost stays = { λ _ old new t r grows has. forms_stay old new t r grows has };
 }
 
+// Gives all subterms of a formula but itself their forms.
+fn walk_below<L: Ledger>(
+    alloc: Global,
+    table: &mut Table,
+    id: NodeId,
+    kept: &mut Kept<Forms>,
+    steps: &mut Steps<L>,
+) -> Result<(), AllocError>
+    requires formula { IsFormula table.old id }
+    requires fits { Fits HasForms table.old kept.old }
+    ensures kids { OnOk result (HaveResults table.new (tree table.old id) kept.new) }
+    ensures fits { Fits HasForms table.new kept.new }
+    ensures grows { GrowsTo table.old table.new }
+    ensures symbols { table.new.symbols ≡ table.old.symbols }
+    ensures sorts { table.new.sorts ≡ table.old.sorts }
+    ensures most { steps.new + 1 ≤ steps.old + places (all_subterms (tree table.old id ∷ [])) }
+{
+    let kids: SmallVec<NodeId, 4> = SmallVec::from_slice(alloc, table.kids(id))?;
+    let mut step = FormStep { alloc };
+    walk_all(alloc, table, &mut step, kept, &kids, steps)?;
+    let _ = table.len();
+    Ok(())
+}
+
 /// The negation normal form of a formula: the formula says the same, and has no connectives but `and`, `or`, and `not`
 /// over atoms. It takes one step for each distinct subterm, and one for each place of an operand.
 pub fn nnf<L: Ledger>(
@@ -276,7 +375,8 @@ pub fn nnf<L: Ledger>(
     Ok(normal)
 }
 
-/// As `nnf`, with what earlier calls over the table found, and keeps what it finds: no subterm is met twice.
+/// As `nnf`, with what earlier calls over the table found. It keeps the forms of all subterms but the formula itself, whose
+/// negation nobody asks for unless another formula has it as a subterm.
 pub fn nnf_kept<L: Ledger>(
     alloc: Global,
     table: &mut Table,
@@ -295,8 +395,11 @@ pub fn nnf_kept<L: Ledger>(
     ensures sorts { table.new.sorts ≡ table.old.sorts }
     ensures most { steps.new ≤ steps.old + places (all_subterms (tree table.old id ∷ [])) }
 {
-    let mut step = FormStep { alloc };
-    walk(alloc, table, &mut step, kept, id, steps)?;
-    let forms = kept.get(id).unwrap();
-    Ok(forms.positive)
+    if let Some(forms) = kept.get(id) {
+        return Ok(forms.positive);
+    }
+    walk_below(alloc, table, id, kept, steps)?;
+    steps.tick();
+    let normal = root_form(alloc, table, id, kept)?;
+    Ok(normal)
 }

@@ -1,24 +1,24 @@
-use Rattle.std.proofs.Common.{◌≡◌, Some, option_copied, ap, sym, ◌∙◌}
-use Rattle.smt_terms.specs.Rank.{sort_of}
+use Rattle.std.proofs.Common.{option_copied, ap, sym, ◌∙◌}
 use Rattle.smt_terms.specs.Shapes.{is_nnf}
-use Rattle.term_table.specs.Formulas.{no_tree, tree}
-use Rattle.term_walk.specs.Places.{result_at}
-use Rattle.normal_forms.specs.FormNodes.{AreForms}
-use Rattle.normal_forms.specs.Nnf.{nnf}
+use Rattle.term_table.specs.Formulas.{tree}
 use Rattle.normal_forms.proofs.NnfShape.{nnf-shape}
+use Rattle.normal_forms.proofs.Kept.{fits-stay}
 use Rattle.normal_forms.proofs.negation_normal_form.nnf_kept.Goals as goal
 
-same_term : (g : _) (c : goal.After-result-1 g) → tree c.walk.new.table c.args.id ≡ tree c.args.table.now c.args.id
-same_term g c = c.walk.ensures.grows.trees.same c.args.id.0 no_tree c.requires.formula.node
+pub returns-in-Some-clause-formula : goal.returns-in-Some-clause-formula
+returns-in-Some-clause-formula g c = (c.requires.fits.related.related c.args.id c.in-Some.forms.now (sym c.get.ensures ∙ ap option_copied c.in-Some.is) c.requires.formula.sort).positive
 
-found_forms : (g : _) (c : goal.After-result-1 g) → AreForms c.walk.new.table (tree c.walk.new.table c.args.id) c.unwrap-forms.result.now
-found_forms g c = c.walk.ensures.fits.related.related c.args.id c.unwrap-forms.result.now (sym c.get.ensures ∙ ap option_copied c.unwrap-forms.ensures) (ap sort_of (same_term g c) ∙ c.requires.formula.sort)
+pub returns-in-Some-clause-term : goal.returns-in-Some-clause-term
+returns-in-Some-clause-term g c = (c.requires.fits.related.related c.args.id c.in-Some.forms.now (sym c.get.ensures ∙ ap option_copied c.in-Some.is) c.requires.formula.sort).yes
 
-pub returns-clause-formula : goal.returns-clause-formula
-returns-clause-formula g c = (found_forms g c).positive
+pub returns-in-Some-clause-shape : goal.returns-in-Some-clause-shape
+returns-in-Some-clause-shape g c = ap is_nnf (c.requires.fits.related.related c.args.id c.in-Some.forms.now (sym c.get.ensures ∙ ap option_copied c.in-Some.is) c.requires.formula.sort).yes ∙ nnf-shape (tree c.args.table.now c.args.id)
 
-pub returns-clause-term : goal.returns-clause-term
-returns-clause-term g c = (found_forms g c).yes ∙ ap nnf (same_term g c)
+pub returns-in_err-normal-clause-fits : goal.returns-in_err-normal-clause-fits
+returns-in_err-normal-clause-fits g c = fits-stay c.walk_below.new.table c.root_form.new.table c.walk_below.new.kept c.root_form.ensures.grows c.walk_below.ensures.fits
 
 pub returns-clause-shape : goal.returns-clause-shape
-returns-clause-shape g c = ap is_nnf (found_forms g c).yes ∙ nnf-shape (tree c.walk.new.table c.args.id)
+returns-clause-shape g c = ap is_nnf c.in_ok-normal.ensures.term ∙ nnf-shape (tree c.walk_below.new.table c.args.id)
+
+pub returns-clause-fits : goal.returns-clause-fits
+returns-clause-fits g c = fits-stay c.walk_below.new.table c.root_form.new.table c.walk_below.new.kept c.root_form.ensures.grows c.walk_below.ensures.fits
