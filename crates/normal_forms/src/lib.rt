@@ -12,6 +12,7 @@ pub mod making;
 pub mod negation_normal_form;
 pub mod node_forms;
 mod opposites;
+pub mod room;
 pub mod shapes;
 #[cfg(test)]
 mod tests;
