@@ -1,6 +1,6 @@
 -- The subterms below a term: a walk over them alone costs less than one of the term itself.
-use Rattle.std.proofs.Common.{◌≡◌, ℕ, suc, ◌+◌, ◌<◌, ◌≤◌, inl, inr, Bool, true, false, not, cond, ◌&&◌, ◌||◌, List, [], ◌∷◌, ◌++◌, map, length, filter, refl, ap, sym, ◌∙◌, subst, arith, All, append-nil}
-use Rattle.std.proofs.lemmas.List.Elements.{All-head, All-tail, All-cons, All-nil, filter_agree}
+use Rattle.std.proofs.Common.{◌≡◌, ℕ, suc, ◌+◌, ◌<◌, ◌≤◌, inl, inr, Bool, true, false, not, cond, ◌&&◌, ◌||◌, List, [], ◌∷◌, ◌++◌, map, length, filter, refl, ap, arith, All, append-nil}
+use Rattle.std.proofs.lemmas.List.Elements.{All-cons, All-nil}
 use Rattle.smt_terms.specs.Equal.{term_eq}
 use Rattle.smt_terms.specs.Groups.{has_term, with_new}
 use Rattle.smt_terms.specs.Sorts.{Variable}
@@ -8,7 +8,7 @@ use Rattle.smt_terms.specs.Term.{Quantifier, Term, apply, quantified, Terms, non
 use Rattle.smt_terms.proofs.Tests.{both_true}
 use Rattle.term_table.specs.Formulas.{operands}
 use Rattle.term_walk.specs.Subterms.{subterms, subterms_of, all_subterms, places}
-use Rattle.term_walk.proofs.Below.{below, all-below}
+use Rattle.term_walk.proofs.Below.{below}
 use Rattle.term_walk.proofs.Members.{in_either}
 
 -- ---- no term is one of the subterms of its operands

@@ -1,5 +1,5 @@
 -- What is kept of formulas as the table gains, and of the operands of a formula.
-use Rattle.std.proofs.Common.{◌≡◌, ℕ, ◌<◌, List, map, length, get_or, All, IsSome, is_some, ap, sym, ◌∙◌, subst, arith}
+use Rattle.std.proofs.Common.{◌≡◌, ℕ, ◌<◌, List, length, get_or, All, IsSome, is_some, ap, sym, ◌∙◌, subst, arith}
 use Rattle.std.proofs.lemmas.List.{get_or-map, length-map}
 use Rattle.smt_terms.specs.declared.ids.NodeId.{NodeId}
 use Rattle.smt_terms.specs.Term.{Term}

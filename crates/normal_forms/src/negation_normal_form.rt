@@ -25,8 +25,11 @@ use smt_terms::NodeId;
 use std::alloc::{AllocError, Global};
 use std::sync::ledger::Ledger;
 use term_table::Table;
-use term_walk::walks::walk_all;
+use term_walk::walks::{walk, walk_all};
 use term_walk::{Kept, NodeStep, Steps};
+
+// So many operands take no memory.
+const FEW: usize = 4;
 
 // The positive forms and the negative forms of these nodes. Up to four take no memory.
 fn sides(
@@ -329,7 +332,7 @@ impl NodeStep for FormStep {
     ghost stays = { λ _ old new t r grows has. forms_stay old new t r grows has };
 }
 
-// Gives all subterms of a formula but itself their forms.
+// Gives all subterms of a formula but itself their forms, and counts a step for the formula.
 fn walk_below<L: Ledger>(
     alloc: Global,
     table: &mut Table,
@@ -344,12 +347,13 @@ fn walk_below<L: Ledger>(
     ensures grows { GrowsTo table.old table.new }
     ensures symbols { table.new.symbols ≡ table.old.symbols }
     ensures sorts { table.new.sorts ≡ table.old.sorts }
-    ensures most { steps.new + 1 ≤ steps.old + places (all_subterms (tree table.old id ∷ [])) }
+    ensures most { steps.new ≤ steps.old + places (all_subterms (tree table.old id ∷ [])) }
 {
     let kids: SmallVec<NodeId, 4> = SmallVec::from_slice(alloc, table.kids(id))?;
     let mut step = FormStep { alloc };
     walk_all(alloc, table, &mut step, kept, &kids, steps)?;
     let _ = table.len();
+    steps.tick();
     Ok(())
 }
 
@@ -375,8 +379,9 @@ pub fn nnf<L: Ledger>(
     Ok(normal)
 }
 
-/// As `nnf`, with what earlier calls over the table found. It keeps the forms of all subterms but the formula itself, whose
-/// negation nobody asks for unless another formula has it as a subterm.
+/// As `nnf`, with what earlier calls over the table found, and keeps what it finds. Of a formula of few operands the negation
+/// isn't made, as nobody asks for it unless another formula has it as a subterm: its own form is then made anew in each call,
+/// which takes no longer than looking it up.
 pub fn nnf_kept<L: Ledger>(
     alloc: Global,
     table: &mut Table,
@@ -395,11 +400,13 @@ pub fn nnf_kept<L: Ledger>(
     ensures sorts { table.new.sorts ≡ table.old.sorts }
     ensures most { steps.new ≤ steps.old + places (all_subterms (tree table.old id ∷ [])) }
 {
-    if let Some(forms) = kept.get(id) {
-        return Ok(forms.positive);
+    if table.kids(id).len() <= FEW && kept.get(id).is_none() {
+        walk_below(alloc, table, id, kept, steps)?;
+        let normal = root_form(alloc, table, id, kept)?;
+        return Ok(normal);
     }
-    walk_below(alloc, table, id, kept, steps)?;
-    steps.tick();
-    let normal = root_form(alloc, table, id, kept)?;
-    Ok(normal)
+    let mut step = FormStep { alloc };
+    walk(alloc, table, &mut step, kept, id, steps)?;
+    let forms = kept.get(id).unwrap();
+    Ok(forms.positive)
 }

@@ -1,4 +1,4 @@
-use Rattle.std.proofs.Common.{◌≡◌, Some, sym, ◌∙◌, ap}
+use Rattle.std.proofs.Common.{◌∙◌, ap}
 use Rattle.smt_terms.specs.Rank.{sort_of}
 use Rattle.term_table.specs.Formulas.{kind}
 use Rattle.normal_forms.proofs.MadeNodes.{makes-or, ranked-or, sort-or}

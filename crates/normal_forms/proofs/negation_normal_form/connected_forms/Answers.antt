@@ -1,4 +1,4 @@
-use Rattle.std.proofs.Common.{◌≡◌, ◌∙◌}
+use Rattle.std.proofs.Common.{◌∙◌}
 use Rattle.term_table.specs.Formulas.{tree, trees_at}
 use Rattle.normal_forms.specs.Nnf.{positive, negative}
 use Rattle.normal_forms.specs.Shape.{kind_seen}

@@ -1,14 +1,9 @@
-use Rattle.std.proofs.Common.{◌≡◌, Some, true, is_some, option_copied, ap, sym, ◌∙◌, subst}
-use Rattle.std.proofs.lemmas.Grind.{common_steps}
-use Rattle.smt_terms.specs.declared.ids.NodeId.{NodeId}
+use Rattle.std.proofs.Common.{◌≡◌, Some, is_some, option_copied, ap, sym, ◌∙◌}
 use Rattle.smt_terms.specs.Rank.{sort_of}
-use Rattle.smt_terms.specs.Term.{Term}
-use Rattle.term_table.specs.Formulas.{no_tree, tree}
+use Rattle.term_table.specs.Formulas.{tree}
 use Rattle.term_walk.specs.Places.{result_at}
-use Rattle.normal_forms.specs.FormNodes.{AreForms}
 use Rattle.normal_forms.specs.Nodes.{formula_stays}
-use Rattle.normal_forms.specs.Shape.{body_in}
-use Rattle.normal_forms.proofs.Taken.{copied-some, body-bool, nnf-quantified, not-quantified}
+use Rattle.normal_forms.proofs.Taken.{copied-some, body-bool}
 use Rattle.normal_forms.proofs.negation_normal_form.quantified_forms.Goals as goal
 
 pub unwrap-forms-requires : goal.unwrap-forms-requires

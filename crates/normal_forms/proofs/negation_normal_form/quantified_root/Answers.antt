@@ -1,8 +1,7 @@
 use Rattle.std.proofs.Common.{◌≡◌, Some, is_some, option_copied, ap, sym, ◌∙◌}
 use Rattle.smt_terms.specs.Rank.{sort_of}
 use Rattle.term_walk.specs.Places.{result_at}
-use Rattle.normal_forms.specs.FormNodes.{AreForms}
-use Rattle.normal_forms.proofs.Taken.{copied-some, body-bool, nnf-quantified}
+use Rattle.normal_forms.proofs.Taken.{copied-some, body-bool}
 use Rattle.term_table.specs.Formulas.{tree}
 use Rattle.normal_forms.proofs.negation_normal_form.quantified_root.Goals as goal
 

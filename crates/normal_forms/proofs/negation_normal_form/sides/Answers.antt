@@ -1,4 +1,4 @@
-use Rattle.std.proofs.Common.{◌≡◌, ℕ, ◌+◌, ◌≤◌, [], ◌∷◌, length, get_or, Some, option_copied, ap, sym, ◌∙◌, arith, length-append}
+use Rattle.std.proofs.Common.{◌≡◌, ◌+◌, [], ◌∷◌, length, get_or, Some, option_copied, ap, sym, ◌∙◌, arith, length-append}
 use Rattle.smt_terms.specs.declared.ids.NodeId.{NodeId}
 use Rattle.term_walk.specs.Places.{result_at}
 use Rattle.normal_forms.specs.declared.node_forms.Forms.{Forms}
