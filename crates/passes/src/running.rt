@@ -16,6 +16,7 @@ use crate::laws::passes_keep_commands;
 use crate::list::Passes;
 use crate::names::Pass;
 use crate::rewriters::{Expansion, Inversion, Negation, Prefix, Rewriter, SelfSubstitution};
+use normal_forms::room::make_room;
 use script_read::{Command, Commands, Script};
 use smt_terms::NodeId;
 use std::alloc::{AllocError, Global};
@@ -113,7 +114,7 @@ fn run_pass(
     }
 }
 
-/// `nnf`, with its steps counted in a ledger of their own.
+/// `nnf`, with its steps counted in a ledger of their own, in a table that has room for what is made.
 fn negate<L: Ledger>(
     alloc: Global,
     table: &mut Table,
@@ -133,6 +134,7 @@ fn negate<L: Ledger>(
     ensures drawn { NeverGivesGained fresh.new table.old.symbols table.new.symbols }
     ensures grows { GrowsTo table.old table.new }
 {
+    make_room(table);
     let mut negation = Negation {
         alloc,
         kept: Kept::new(alloc),
