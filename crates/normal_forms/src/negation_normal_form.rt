@@ -352,6 +352,7 @@ fn walk_below<L: Ledger>(
     let kids: SmallVec<NodeId, 4> = SmallVec::from_slice(alloc, table.kids(id))?;
     let mut step = FormStep { alloc };
     walk_all(alloc, table, &mut step, kept, &kids, steps)?;
+    // tells what holds of every table
     let _ = table.len();
     steps.tick();
     Ok(())

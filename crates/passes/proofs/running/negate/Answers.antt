@@ -3,7 +3,6 @@ use Rattle.smt_terms.specs.Sorts.{Symbol}
 use Rattle.smt_terms.specs.Term.{Term}
 use Rattle.term_subst.specs.Substituting.{NeverGivesGained}
 use Rattle.term_walk.proofs.Visits.{table-grows}
-use Rattle.script_read.specs.CommandLists.{commands_of}
 use Rattle.script_read.specs.Commands.{Command}
 use Rattle.script_read.proofs.CommandsStay.{commands_within, commands_stay}
 use Rattle.passes.specs.Behind.{nnf_form, in_form, AreRewritable}
