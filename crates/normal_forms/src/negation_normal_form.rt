@@ -382,7 +382,7 @@ pub fn nnf<L: Ledger>(
 
 /// As `nnf`, with what earlier calls over the table found, and keeps what it finds. Of a formula of few operands the negation
 /// isn't made, as nobody asks for it unless another formula has it as a subterm: its own form is then made anew in each call,
-/// which takes no longer than looking it up.
+/// which takes a few look-ups of nodes.
 pub fn nnf_kept<L: Ledger>(
     alloc: Global,
     table: &mut Table,
