@@ -40,3 +40,4 @@ pub mod DagTexts
 pub mod DagNodes
 pub mod DagTurns
 pub mod CommandLines
+pub mod PlainTexts

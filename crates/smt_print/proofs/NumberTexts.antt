@@ -20,7 +20,7 @@ onto_last k n after lt = grind (arith, nat_tests)
 onto_more : (k n : ℕ) (after : List ℕ) → 10 ≤ n → digits_onto (suc k) 10 false n after ≡ digits_onto k 10 false (n / 10) ((48 + n % 10) ∷ after)
 onto_more k n after le = grind (arith, nat_tests)
 
-before_last : (room n : ℕ) (after : List ℕ) → n < 10 → digits_before (suc room) n after ≡ (48 + n) ∷ after
+pub before_last : (room n : ℕ) (after : List ℕ) → n < 10 → digits_before (suc room) n after ≡ (48 + n) ∷ after
 before_last room n after lt = grind (arith, nat_tests)
 
 before_more : (room n : ℕ) (after : List ℕ) → 10 ≤ n → digits_before (suc room) n after ≡ digits_before room (n / 10) ((48 + n % 10) ∷ after)

@@ -3,6 +3,7 @@ pub mod DagSteps
 pub mod Defined
 pub mod Laws
 pub mod NodeForms
+pub mod PlainNames
 pub mod Prefix
 pub mod Sizes
 pub mod TermForms

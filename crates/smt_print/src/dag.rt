@@ -12,13 +12,13 @@ ghost use Rattle.smt_print.specs.TermForms.{definition_name, reference, dag_form
 
 use crate::draft::{Draft, pass_on};
 use crate::heads::{binding, push_application, push_binder, push_head};
+use crate::names::Printed;
 use crate::numbers::push_number;
 use crate::output::Output;
 use crate::scope::Scopes;
 use crate::stack::Stack;
 use smt_terms::NodeId;
 use std::alloc::{AllocError, Global};
-use term_table::Table;
 
 // What is still to be printed of a term.
 #[derive(Clone, Copy)]
@@ -45,8 +45,8 @@ fn push_name(number: usize, text: &mut Vec<u8>) -> Result<(), AllocError>
 fn push_let(number: usize, text: &mut Vec<u8>) -> Result<(), AllocError>
     ensures { OnOk result (text.new.items ≡ text.old.items ++ let_opening number) }
 {
-    text.extend_from_slice(b"(let ((")?;
-    push_name(number, text)?;
+    text.extend_from_slice(b"(let ((.def_")?;
+    push_number(number as u64, text)?;
     text.push(b' ')?;
     Ok(())
 }
@@ -54,7 +54,7 @@ fn push_let(number: usize, text: &mut Vec<u8>) -> Result<(), AllocError>
 // Appends a term as it stands behind definitions: by its name, or as it is where it has no operands.
 fn push_reference(
     alloc: Global,
-    table: &Table,
+    table: &Printed,
     scopes: &Scopes,
     id: NodeId,
     text: &mut Vec<u8>,
@@ -76,7 +76,7 @@ fn push_reference(
 // Appends the end of a term below definitions: the term, and the ends of their `let`s.
 fn push_end(
     alloc: Global,
-    table: &Table,
+    table: &Printed,
     scopes: &Scopes,
     id: NodeId,
     text: &mut Vec<u8>,
@@ -108,7 +108,7 @@ fn push_visits(steps: &mut Stack<Step>, ids: &[NodeId]) -> Result<(), AllocError
 // Appends the definition of an application, over the names of its operands.
 fn define(
     alloc: Global,
-    table: &Table,
+    table: &Printed,
     id: NodeId,
     scopes: &mut Scopes,
     text: &mut Vec<u8>,
@@ -133,7 +133,7 @@ fn define(
 // Begins the definition of a quantified term, whose body has definitions of its own.
 fn enter(
     alloc: Global,
-    table: &Table,
+    table: &Printed,
     id: NodeId,
     body: NodeId,
     scopes: &mut Scopes,
@@ -159,7 +159,7 @@ fn enter(
 // Lets the definitions that a term still needs be printed next: none where it has a name or no operands.
 fn visit(
     alloc: Global,
-    table: &Table,
+    table: &Printed,
     id: NodeId,
     scopes: &mut Scopes,
     steps: &mut Stack<Step>,
@@ -195,7 +195,7 @@ fn visit(
 // Appends the rest of a quantified term's definition, which stands in the scope around its body.
 fn close(
     alloc: Global,
-    table: &Table,
+    table: &Printed,
     id: NodeId,
     scopes: &mut Scopes,
     text: &mut Vec<u8>,
@@ -217,7 +217,7 @@ fn close(
 // Appends what a step prints.
 fn take_step(
     alloc: Global,
-    table: &Table,
+    table: &Printed,
     step: Step,
     scopes: &mut Scopes,
     steps: &mut Stack<Step>,
@@ -249,7 +249,7 @@ fn take_step(
 // Prints a term. What is begun waits on a stack.
 pub(crate) fn print_dag<O: Output>(
     alloc: Global,
-    table: &Table,
+    table: &Printed,
     root: NodeId,
     draft: &mut Draft,
     out: &mut O,

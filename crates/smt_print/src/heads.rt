@@ -11,16 +11,21 @@ ghost use Rattle.term_table.specs.Formulas.{tree, trees_at, IsNode, AreNodes, Is
 ghost use Rattle.term_table.specs.WrittenForms.{list_form, constant_array_form, variable_form};
 ghost use Rattle.smt_print.specs.NodeForms.{written, constant_op, first_form, opening, is_quantified, Binds};
 
+use crate::names::Printed;
 use crate::numbers::{push_indexed, push_separator};
-use smt_lex::symbol_text;
 use smt_terms::NodeId;
 use smt_values::{Op, Scalar, SortId};
 use std::alloc::{AllocError, Global};
-use term_table::{Table, scalar_text, sort_text};
+use term_table::scalar_text;
 
 // Appends what an operator is written as: a constant, a name, or the first part of its list.
 #[tactic(auto, unfolding(term_table::specs::Formulas::kind, crate::specs::TermForms::operator_form))]
-fn push_operator(alloc: Global, table: &Table, op: Op, out: &mut Vec<u8>) -> Result<(), AllocError>
+fn push_operator(
+    alloc: Global,
+    table: &Printed,
+    op: Op,
+    out: &mut Vec<u8>,
+) -> Result<(), AllocError>
     requires numbers { IsOpOf table.now op }
     requires scalar { (s : Scalar) → constant_op s ≡ op → IsScalar s }
     ensures { OnOk result (out.new.items ≡ out.old.items ++ form_text (written table.now op)) }
@@ -29,7 +34,7 @@ fn push_operator(alloc: Global, table: &Table, op: Op, out: &mut Vec<u8>) -> Res
         Op::Truth(b) => scalar_text(alloc, Scalar::Truth(b), out),
         Op::Whole(n) => scalar_text(alloc, Scalar::Whole(n), out),
         Op::Bits { width, bits } => scalar_text(alloc, Scalar::Bits { width, bits }, out),
-        Op::Sym(f) => symbol_text(alloc, table.symbol_name(f), out),
+        Op::Sym(f) => table.push_symbol(alloc, f, out),
         Op::ConstArray(sort) => push_constant_array(alloc, table, sort, out),
         Op::Forall => out.extend_from_slice(b"forall"),
         Op::Exists => out.extend_from_slice(b"exists"),
@@ -84,7 +89,7 @@ fn push_operator(alloc: Global, table: &Table, op: Op, out: &mut Vec<u8>) -> Res
 // Appends `(as const SORT)`.
 fn push_constant_array(
     alloc: Global,
-    table: &Table,
+    table: &Printed,
     sort: SortId,
     out: &mut Vec<u8>,
 ) -> Result<(), AllocError>
@@ -92,7 +97,7 @@ fn push_constant_array(
     ensures { OnOk result (out.new.items ≡ out.old.items ++ form_text (constant_array_form (sort_at table.now.sorts sort))) }
 {
     out.extend_from_slice(b"(as const ")?;
-    sort_text(alloc, table, sort, out)?;
+    table.push_sort(alloc, sort, out)?;
     out.push(b')')?;
     Ok(())
 }
@@ -100,7 +105,7 @@ fn push_constant_array(
 // Appends what a node is written with, before its operands.
 pub(crate) fn push_head(
     alloc: Global,
-    table: &Table,
+    table: &Printed,
     id: NodeId,
     out: &mut Vec<u8>,
 ) -> Result<(), AllocError>
@@ -113,7 +118,7 @@ pub(crate) fn push_head(
 
 // The variables and the body of a quantified node.
 #[tactic(auto, unfolding(term_table::specs::Formulas::kind))]
-pub(crate) fn binding(table: &Table, id: NodeId) -> Option<(&[NodeId], NodeId)>
+pub(crate) fn binding<'t>(table: &'t Printed, id: NodeId) -> Option<(&'t [NodeId], NodeId)>
     requires { IsNode table.now id }
     ensures none { IfNone result (is_quantified (tree table.now id) ≡ false) }
     ensures some { IfSome result (λ p. Binds table.now (tree table.now id) p.0.now p.1) }
@@ -131,7 +136,7 @@ pub(crate) fn binding(table: &Table, id: NodeId) -> Option<(&[NodeId], NodeId)>
 // Appends `(x SORT)`.
 fn push_variable(
     alloc: Global,
-    table: &Table,
+    table: &Printed,
     id: NodeId,
     out: &mut Vec<u8>,
 ) -> Result<(), AllocError>
@@ -141,7 +146,7 @@ fn push_variable(
     out.push(b'(')?;
     push_head(alloc, table, id, out)?;
     out.push(b' ')?;
-    sort_text(alloc, table, table.sort_of(id), out)?;
+    table.push_sort(alloc, table.sort_of(id), out)?;
     out.push(b')')?;
     Ok(())
 }
@@ -149,7 +154,7 @@ fn push_variable(
 // Appends `((x SORT) ..)`.
 fn push_variables(
     alloc: Global,
-    table: &Table,
+    table: &Printed,
     ids: &[NodeId],
     out: &mut Vec<u8>,
 ) -> Result<(), AllocError>
@@ -168,7 +173,7 @@ fn push_variables(
 // Appends the beginning of the list of an application: its head.
 pub(crate) fn push_application(
     alloc: Global,
-    table: &Table,
+    table: &Printed,
     id: NodeId,
     out: &mut Vec<u8>,
 ) -> Result<(), AllocError>
@@ -184,7 +189,7 @@ pub(crate) fn push_application(
 // Appends the beginning of the list of a quantified node: its head, and the variables that it binds.
 pub(crate) fn push_binder(
     alloc: Global,
-    table: &Table,
+    table: &Printed,
     id: NodeId,
     out: &mut Vec<u8>,
 ) -> Result<(), AllocError>

@@ -9,6 +9,7 @@ mod draft;
 mod heads;
 mod laws;
 mod layout;
+mod names;
 mod numbers;
 mod output;
 mod scope;

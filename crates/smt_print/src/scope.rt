@@ -12,15 +12,15 @@ use std::mem;
 #[derive(Drop)]
 struct Defined {
     node: NodeId,
-    around: usize,
+    around: u32,
 }
 
 // The nodes that have a definition in the current scope, which is that of the innermost quantifier's body, and in those
 // around it. The number of a definition is how many stand before it in its scope. Contracts see the latest first.
 #[derive(Drop)]
 pub(crate) struct Scopes {
-    // For each node that has a definition in the current scope its place there; for another node any number.
-    places: Vec<usize>,
+    // For each node that has a definition in the current scope its place there, in four bytes; for another node any number.
+    places: Vec<u32>,
     current: Vec<Defined>,
     outer: Vec<Vec<Defined>>,
 }
@@ -71,11 +71,11 @@ impl Scopes {
         let Some(place) = self.places.get(id.0 as usize) else {
             return None;
         };
-        let Some(defined) = self.current.get(*place) else {
+        let Some(defined) = self.current.get(*place as usize) else {
             return None;
         };
         if defined.node.0 == id.0 {
-            return Some(*place);
+            return Some(*place as usize);
         }
         None
     }
@@ -85,9 +85,11 @@ impl Scopes {
         ensures current { OnOk result (self.new.current ≡ id ∷ self.old.current) }
         ensures outer { OnOk result (self.new.outer ≡ self.old.outer) }
     {
+        let Ok(number) = u32::try_from(self.current.len()) else {
+            return Err(AllocError);
+        };
         let node = id.0 as usize;
         make_room(&mut self.places, node)?;
-        let number = self.current.len();
         self.current.push(Defined {
             node: id,
             around: self.places[node],
@@ -124,7 +126,7 @@ impl Scopes {
 }
 
 // Makes room for the place of a node.
-fn make_room(places: &mut Vec<usize>, node: usize) -> Result<(), AllocError>
+fn make_room(places: &mut Vec<u32>, node: usize) -> Result<(), AllocError>
     ensures room { OnOk result (node < length places.new.items) }
     ensures same { place_in places.new.items ≡ place_in places.old.items }
     ensures longer { length places.old.items ≤ length places.new.items }
@@ -138,7 +140,7 @@ fn make_room(places: &mut Vec<usize>, node: usize) -> Result<(), AllocError>
 }
 
 // Takes definitions back, so that each node has the place again that it had before.
-fn take_back(places: &mut Vec<usize>, definitions: &mut Vec<Defined>)
+fn take_back(places: &mut Vec<u32>, definitions: &mut Vec<Defined>)
     requires { All (λ d. d.node.0 < length places.old.items) definitions.old.items }
     ensures none { definitions.new.items ≡ [] }
     ensures places { place_in places.new.items ≡ taken_back (place_in places.old.items) (reverse definitions.old.items) }

@@ -13,6 +13,7 @@ ghost use Rattle.term_table.specs.Formulas.{tree, IsNode};
 use crate::commands::push_command;
 use crate::draft::{Draft, pass_all, pass_on};
 use crate::layout::Layout;
+use crate::names::Printed;
 use crate::output::Output;
 use crate::terms::print_term;
 use script_read::{Command, Script};
@@ -24,7 +25,7 @@ use term_table::Table;
 // Prints the line of an assertion.
 fn print_assertion<O: Output>(
     alloc: Global,
-    table: &Table,
+    table: &Printed,
     id: NodeId,
     layout: Layout,
     draft: &mut Draft,
@@ -43,7 +44,7 @@ fn print_assertion<O: Output>(
 // Prints the line of a command that is no assertion.
 fn print_short(
     alloc: Global,
-    table: &Table,
+    table: &Printed,
     command: &Command,
     text: &mut Vec<u8>,
 ) -> Result<(), AllocError>
@@ -51,7 +52,7 @@ fn print_short(
     requires other { is_assertion command.now ≡ false }
     ensures { (layout : Layout) → OnOk result (text.new.items ≡ text.old.items ++ (command_text (term_form layout) (command_of table.now command.now) ++ line_feed ∷ [])) }
 {
-    push_command(alloc, table, command, text)?;
+    push_command(alloc, table.table(), command, text)?;
     text.push(b'\n')?;
     Ok(())
 }
@@ -59,7 +60,7 @@ fn print_short(
 // Prints the line of a command.
 fn print_command<O: Output>(
     alloc: Global,
-    table: &Table,
+    table: &Printed,
     command: &Command,
     layout: Layout,
     draft: &mut Draft,
@@ -75,10 +76,10 @@ fn print_command<O: Output>(
     }
 }
 
-// Prints a script.
-fn print_script<O: Output>(
+// Prints the commands of a script.
+fn print_commands<O: Output>(
     alloc: Global,
-    table: &Table,
+    table: &Printed,
     script: &Script,
     layout: Layout,
     out: &mut O,
@@ -100,6 +101,23 @@ fn print_script<O: Output>(
         pass_on(&mut draft.text, out)?;
     }
     pass_all(&mut draft.text, out)?;
+    Ok(())
+}
+
+// Prints a script.
+fn print_script<O: Output>(
+    alloc: Global,
+    table: &Table,
+    script: &Script,
+    layout: Layout,
+    out: &mut O,
+) -> Result<(), AllocError>
+    requires { AreCommandsOf table.now script.now.commands }
+    ensures ok { OnOk result (O.text out.new ≡ O.text out.old ++ lines layout (commands_of table.now script.now.commands)) }
+    ensures prefix { OnErr result (AppendsPrefix (O.text out.old) (O.text out.new) (lines layout (commands_of table.now script.now.commands))) }
+{
+    let printed = Printed::of_script(alloc, table, script)?;
+    print_commands(alloc, &printed, script, layout, out)?;
     Ok(())
 }
 

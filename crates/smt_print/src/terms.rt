@@ -8,6 +8,7 @@ ghost use Rattle.smt_print.specs.Text.{text};
 use crate::dag::print_dag;
 use crate::draft::Draft;
 use crate::layout::Layout;
+use crate::names::Printed;
 use crate::output::Output;
 use crate::tree::print_tree;
 use smt_terms::NodeId;
@@ -17,7 +18,7 @@ use term_table::Table;
 // Prints a term.
 pub(crate) fn print_term<O: Output>(
     alloc: Global,
-    table: &Table,
+    table: &Printed,
     id: NodeId,
     layout: Layout,
     draft: &mut Draft,
@@ -44,8 +45,9 @@ pub(crate) fn push_term(
     requires { IsNode table.now id }
     ensures { OnOk result (out.new.items ≡ out.old.items ++ text layout (tree table.now id)) }
 {
+    let printed = Printed::new(alloc, table);
     let mut draft = Draft::new(alloc);
-    print_term(alloc, table, id, layout, &mut draft, out)?;
+    print_term(alloc, &printed, id, layout, &mut draft, out)?;
     out.extend_from_slice(&draft.text)?;
     Ok(())
 }

@@ -9,11 +9,11 @@ ghost use Rattle.smt_print.specs.TreeSteps.{Leads, weights, operand_steps};
 
 use crate::draft::{Draft, pass_on};
 use crate::heads::{binding, push_application, push_binder, push_head};
+use crate::names::Printed;
 use crate::output::Output;
 use crate::stack::Stack;
 use smt_terms::NodeId;
 use std::alloc::{AllocError, Global};
-use term_table::Table;
 
 // What is still to be printed of a term.
 #[derive(Clone, Copy)]
@@ -39,7 +39,7 @@ fn push_operands(steps: &mut Stack<Step>, ids: &[NodeId]) -> Result<(), AllocErr
 // Appends a term that has no operands, or the beginning of another one, of which the rest is left to be printed.
 fn open_term(
     alloc: Global,
-    table: &Table,
+    table: &Printed,
     id: NodeId,
     steps: &mut Stack<Step>,
     text: &mut Vec<u8>,
@@ -73,7 +73,7 @@ fn open_term(
 // Appends what a step prints.
 fn take_step(
     alloc: Global,
-    table: &Table,
+    table: &Printed,
     step: Step,
     steps: &mut Stack<Step>,
     text: &mut Vec<u8>,
@@ -98,7 +98,7 @@ fn take_step(
 // Prints a term. The terms that are begun wait on a stack.
 pub(crate) fn print_tree<O: Output>(
     alloc: Global,
-    table: &Table,
+    table: &Printed,
     root: NodeId,
     draft: &mut Draft,
     out: &mut O,

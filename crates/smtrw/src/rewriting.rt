@@ -15,6 +15,7 @@ use smt_lex::Forest;
 use smt_print::{Layout, script_into};
 use smtrw_answers::Status;
 use std::alloc::Global;
+use std::mem::ManuallyDrop;
 use term_table::Table;
 
 /// The text of a script behind the passes, in a layout.
@@ -35,6 +36,8 @@ pub fn rewritten(
     let mut table = Table::new(alloc);
     let (script, mut fresh) = read_script(alloc, &mut table, forest)?;
     let script = run_passes(alloc, &mut table, script, passes, &mut fresh)?;
+    // Left to the end of the program, which gives back all memory at once: to free each node first takes a walk through them.
+    let table = ManuallyDrop::new(table);
     let mut text = Pieces::new(alloc);
     script_into(alloc, &table, &script, layout, &mut text)?;
     Ok(text)

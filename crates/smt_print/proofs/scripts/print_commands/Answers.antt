@@ -5,7 +5,7 @@ use Rattle.smt_print.specs.Prefix.{AppendsPrefix, Drafts}
 use Rattle.smt_print.specs.Text.{lines}
 use Rattle.smt_print.proofs.CommandLines.{line_of, lines-more, lines-split}
 use Rattle.smt_print.proofs.Prefixes.{on_err, drafts-waiting, drafts-more, drafts-all, prefix-behind, prefix-waiting}
-use Rattle.smt_print.proofs.scripts.print_script.Goals as goal
+use Rattle.smt_print.proofs.scripts.print_commands.Goals as goal
 
 pub loop-i-init : goal.loop-i-init
 loop-i-init g c = drafts-waiting (g.O.Output.text c.args.out.now) [] c.new-draft.result.text.items [] c.new-draft.ensures
