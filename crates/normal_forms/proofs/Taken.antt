@@ -1,5 +1,5 @@
 -- Parts of kept results, as the terms that they name.
-use Rattle.std.proofs.Common.{◌≡◌, ℕ, ◌+◌, ◌<◌, inl, inr, true, not, List, [], ◌∷◌, ◌++◌, map, length, get_or, All, Option, Some, None, option_map, option_copied, is_some, Bor, refl, ap, sym, ◌∙◌, subst, arith}
+use Rattle.std.proofs.Common.{◌≡◌, ℕ, ◌+◌, ◌<◌, inl, inr, Bool, true, not, List, [], ◌∷◌, ◌++◌, map, length, get_or, All, Option, Some, None, option_map, option_copied, is_some, Bor, refl, ap, sym, ◌∙◌, subst, arith}
 use Rattle.std.proofs.Math.ListN.{get_or-append}
 use Rattle.std.proofs.Math.Seq.{get_or-append_seam}
 use Rattle.std.proofs.lemmas.Bool.Decides.{eqb_tells}
@@ -16,7 +16,7 @@ use Rattle.term_walk.specs.declared.kept.Place.{Place}
 use Rattle.term_walk.specs.Places.{result_at}
 use Rattle.term_walk.specs.Walking.{GrowsTo, AreRelated}
 use Rattle.normal_forms.specs.declared.node_forms.Forms.{Forms}
-use Rattle.normal_forms.specs.FormNodes.{AreForms, HasForms, AreTaken}
+use Rattle.normal_forms.specs.FormNodes.{AreForms, HasForms, AreTaken, positive_of, negative_of}
 use Rattle.normal_forms.specs.Nodes.{IsFormula, formula_stays}
 use Rattle.normal_forms.specs.Nnf.{positive, negative, nnf, nnf_not, nnf_each, nnf_not_each}
 use Rattle.normal_forms.specs.Shape.{IsOfKind, is_quantified, is_universally_quantified, quantifier_seen, variables_of, body_in}
@@ -68,11 +68,20 @@ module _ (t : Formulas) (u : Term) (ks : List (Place Forms)) (kids ids : List No
       ext_get_or no_tree (trees_at t ids) (map form (operands u)) (omega (arith, n, count, ids_count, forms_count))
       (λ i lt. get_or-map (tree_in t.trees) ids i zero_node no_tree (omega (arith, ids_count)) ∙ (each-taken i zero_node (omega (arith, n, ids_count))).1 ∙ sym (get_or-map form (operands u) i no_tree no_tree (omega (arith, n, count, ids_count))))
 
-pub positive-good : (t : Formulas) (v : Term) (f : Forms) → AreForms t v f → IsFormula t f.positive × (tree t f.positive ≡ nnf v)
+pub positive-good : (t : Formulas) (v : Term) (f : Forms) → AreForms t v f → IsFormula t (positive_of f) × (tree t (positive_of f) ≡ nnf v)
 positive-good t v f h = (h.positive, h.yes)
 
-pub negative-good : (t : Formulas) (v : Term) (f : Forms) → AreForms t v f → IsFormula t f.negative × (tree t f.negative ≡ nnf_not v)
+pub negative-good : (t : Formulas) (v : Term) (f : Forms) → AreForms t v f → IsFormula t (negative_of f) × (tree t (negative_of f) ≡ nnf_not v)
 negative-good t v f h = (h.negative, h.no)
+
+-- forms that were kept of these two nodes
+forms-are : (t : Formulas) (u : Term) (f : Forms) (p n : NodeId) → positive_of f ≡ p → negative_of f ≡ n → IsFormula t p → IsFormula t n → tree t p ≡ nnf u → tree t n ≡ nnf_not u → AreForms t u f
+forms-are t u f p n is_positive is_negative p_formula n_formula p_term n_term = record {
+  positive = subst (IsFormula t) (sym is_positive) p_formula;
+  negative = subst (IsFormula t) (sym is_negative) n_formula;
+  yes = ap (tree t) is_positive ∙ p_term;
+  no = ap (tree t) is_negative ∙ n_term;
+}
 
 -- ---- the definitions, by a term's kind
 
@@ -106,6 +115,11 @@ pub body-bool : (u : Term) → is_quantified u ≡ true → sort_of u ≡ Some b
 body-bool (quantified q xs t) e has = (quantified_sort q xs t bool has).body
 body-bool (apply h ts) e has = absurd cc
 
+-- what is kept of the body of a quantified formula
+pub body-forms : (t : Formulas) (ks : List (Place Forms)) (id k : NodeId) (f : Forms) → IsFormula t id → is_quantified (tree t id) ≡ true → AreRelated HasForms t ks → tree t k ≡ body_in (tree t id) → result_at ks k.0 ≡ Some f → AreForms t (body_in (tree t id)) f
+body-forms t ks id k f formula seen related term found =
+    subst (λ u. AreForms t u f) term (related.related k f found (ap sort_of term ∙ body-bool (tree t id) seen formula.sort))
+
 -- ---- a list of formulas as the table gains
 
 module _ (old new : Formulas) (ks : List NodeId) (grows : GrowsTo old new) (formulas : All (IsFormula old) ks) where
@@ -125,25 +139,44 @@ copied-some None h = h
 
 -- ---- the two forms of a connective, made one after the other
 
-pub connected-forms : (t0 t1 t2 : Formulas) (u : Term) (k : Kind) (ps ns : List NodeId) (p n : NodeId)
+pub connected-forms : (t0 t1 t2 : Formulas) (u : Term) (k : Kind) (ps ns : List NodeId) (p n : NodeId) (f : Forms)
+    → positive_of f ≡ p → negative_of f ≡ n
     → IsOfKind u k
     → All (IsFormula t0) ps → All (IsFormula t0) ns
     → trees_at t0 ps ≡ map nnf (operands u) → trees_at t0 ns ≡ map nnf_not (operands u)
     → GrowsTo t0 t1 → GrowsTo t1 t2
     → IsFormula t1 p → tree t1 p ≡ positive k u (trees_at t0 ps) (trees_at t0 ns)
     → IsFormula t2 n → tree t2 n ≡ negative k u (trees_at t1 ps) (trees_at t1 ns)
-    → AreForms t2 u (record { positive = p; negative = n })
-connected-forms t0 t1 t2 u k ps ns p n kind ps_formulas ns_formulas ps_terms ns_terms grows grows_on p_formula p_term n_formula n_term = record {
-  positive = formula_stays t1 t2 p grows_on p_formula;
-  negative = n_formula;
-  yes =
-      grows_on.trees.same p.0 no_tree p_formula.node
-      ∙ p_term
-      ∙ (λ i. positive k u (ps_terms i) (ns_terms i))
-      ∙ sym (nnf-kind u k kind);
-  no =
-      n_term
-      ∙ (λ i. negative k u (trees-stay t0 t1 ps grows ps_formulas i) (trees-stay t0 t1 ns grows ns_formulas i))
-      ∙ (λ i. negative k u (ps_terms i) (ns_terms i))
-      ∙ sym (not-kind u k kind);
-}
+    → AreForms t2 u f
+connected-forms t0 t1 t2 u k ps ns p n f is_positive is_negative kind ps_formulas ns_formulas ps_terms ns_terms grows grows_on p_formula p_term n_formula n_term =
+    forms-are t2 u f p n is_positive is_negative (formula_stays t1 t2 p grows_on p_formula) n_formula
+    (grows_on.trees.same p.0 no_tree p_formula.node
+    ∙ p_term
+    ∙ (λ i. positive k u (ps_terms i) (ns_terms i))
+    ∙ sym (nnf-kind u k kind))
+    (n_term
+    ∙ (λ i. negative k u (trees-stay t0 t1 ps grows ps_formulas i) (trees-stay t0 t1 ns grows ns_formulas i))
+    ∙ (λ i. negative k u (ps_terms i) (ns_terms i))
+    ∙ sym (not-kind u k kind))
+
+-- ---- the two forms of a quantified formula, bound one after the other
+
+pub bound-forms : (t0 t1 t2 : Formulas) (id : NodeId) (body f : Forms) (p n : NodeId) (b : Bool)
+    → positive_of f ≡ p → negative_of f ≡ n
+    → IsFormula t0 id → is_quantified (tree t0 id) ≡ true → b ≡ is_universally_quantified (tree t0 id)
+    → AreForms t0 (body_in (tree t0 id)) body
+    → GrowsTo t0 t1 → GrowsTo t1 t2
+    → IsFormula t1 p → tree t1 p ≡ quantified (quantifier_seen b) (variables_of (tree t0 id)) (tree t0 (positive_of body))
+    → IsFormula t2 n → tree t2 n ≡ quantified (quantifier_seen (not b)) (variables_of (tree t1 id)) (tree t1 (negative_of body))
+    → AreForms t2 (tree t0 id) f
+bound-forms t0 t1 t2 id body f p n b is_positive is_negative formula seen universal_is forms grows grows_on p_formula p_term n_formula n_term =
+    let same : tree t1 id ≡ tree t0 id = grows.trees.same id.0 no_tree formula.node in
+    let no : tree t1 (negative_of body) ≡ nnf_not (body_in (tree t0 id)) = grows.trees.same (negative_of body).0 no_tree forms.negative.node ∙ forms.no in
+    forms-are t2 (tree t0 id) f p n is_positive is_negative (formula_stays t1 t2 p grows_on p_formula) n_formula
+    (grows_on.trees.same p.0 no_tree p_formula.node
+    ∙ p_term
+    ∙ (λ i. quantified (quantifier_seen (universal_is i)) (variables_of (tree t0 id)) (forms.yes i))
+    ∙ sym (nnf-quantified (tree t0 id) seen))
+    (n_term
+    ∙ (λ i. quantified (quantifier_seen (not (universal_is i))) (variables_of (same i)) (no i))
+    ∙ sym (not-quantified (tree t0 id) seen))

@@ -13,11 +13,18 @@ use Rattle.normal_forms.specs.declared.node_forms.Forms.{Forms}
 use Rattle.normal_forms.specs.Nnf.{nnf, nnf_not}
 use Rattle.normal_forms.specs.Nodes.{IsFormula, formula_stays}
 
+-- the two nodes that are kept
+abbrev pub positive_of : Forms → NodeId
+positive_of r = record { 0 = r.positive }
+
+abbrev pub negative_of : Forms → NodeId
+negative_of r = record { 0 = r.negative }
+
 pub record AreForms (t : Formulas) (u : Term) (r : Forms) : Type 0 where
-  pub positive : IsFormula t r.positive
-  pub negative : IsFormula t r.negative
-  pub yes : tree t r.positive ≡ nnf u
-  pub no : tree t r.negative ≡ nnf_not u
+  pub positive : IsFormula t (positive_of r)
+  pub negative : IsFormula t (negative_of r)
+  pub yes : tree t (positive_of r) ≡ nnf u
+  pub no : tree t (negative_of r) ≡ nnf_not u
 
 -- the forms of a term, where it is a formula
 abbrev pub HasForms : Formulas → Term → Forms → Type 0
@@ -28,10 +35,10 @@ pub forms_stay : (old new : Formulas) (u : Term) (r : Forms) → GrowsTo old new
 forms_stay old new u r grows has is =
     let f = has is in
     record {
-      positive = formula_stays old new r.positive grows f.positive;
-      negative = formula_stays old new r.negative grows f.negative;
-      yes = grows.trees.same r.positive.0 no_tree f.positive.node ∙ f.yes;
-      no = grows.trees.same r.negative.0 no_tree f.negative.node ∙ f.no;
+      positive = formula_stays old new (positive_of r) grows f.positive;
+      negative = formula_stays old new (negative_of r) grows f.negative;
+      yes = grows.trees.same (positive_of r).0 no_tree f.positive.node ∙ f.yes;
+      no = grows.trees.same (negative_of r).0 no_tree f.negative.node ∙ f.no;
     }
 
 -- parts of the results of these nodes, one for each

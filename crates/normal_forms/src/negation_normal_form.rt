@@ -12,7 +12,7 @@ ghost use Rattle.term_walk.specs.Walking.{GrowsTo, AreRelated, Fits, HaveResults
 ghost use Rattle.normal_forms.specs.Nnf as plain;
 ghost use Rattle.normal_forms.specs.Nodes.{IsFormula};
 ghost use Rattle.normal_forms.specs.Shape.{Takes, IsOfKind, kind_seen, is_quantified};
-ghost use Rattle.normal_forms.specs.FormNodes.{AreForms, HasForms, AreTaken};
+ghost use Rattle.normal_forms.specs.FormNodes.{AreForms, HasForms, AreTaken, positive_of, negative_of};
 
 use crate::binding::{bind, body_of, is_universal};
 use crate::connective::{Connective, Shape};
@@ -38,15 +38,15 @@ fn sides(
     kids: &[NodeId],
 ) -> Result<(SmallVec<NodeId, 4>, SmallVec<NodeId, 4>), AllocError>
     requires { All (λ k. IsSome (result_at kept.now k.0)) kids.now }
-    ensures positive { IfOk result (λ s. AreTaken (λ f. f.positive) kept.now kids.now s.0.items) }
-    ensures negative { IfOk result (λ s. AreTaken (λ f. f.negative) kept.now kids.now s.1.items) }
+    ensures positive { IfOk result (λ s. AreTaken positive_of kept.now kids.now s.0.items) }
+    ensures negative { IfOk result (λ s. AreTaken negative_of kept.now kids.now s.1.items) }
 {
     let mut positives = SmallVec::with_capacity(alloc, kids.len())?;
     let mut negatives = SmallVec::with_capacity(alloc, kids.len())?;
     for kid in kids {
-        let forms = kept.get(*kid).unwrap();
-        positives.push(forms.positive)?;
-        negatives.push(forms.negative)?;
+        let forms = *kept.get(*kid).unwrap();
+        positives.push(forms.positive())?;
+        negatives.push(forms.negative())?;
     }
     Ok((positives, negatives))
 }
@@ -134,7 +134,8 @@ fn connected_forms(
     let (positives, negatives) = operand_forms(alloc, table, id, connective, kept)?;
     let positive = connected_positive(table, id, connective, &positives, &negatives)?;
     let negative = negative_form(table, connective, &positives, &negatives)?;
-    Ok(Forms { positive, negative })
+    let forms = Forms::new(positive, negative)?;
+    Ok(forms)
 }
 
 // The forms of a quantified formula.
@@ -155,9 +156,10 @@ fn quantified_forms(
 {
     let forms = *kept.get(body_of(table, id)).unwrap();
     let universal = is_universal(table, id);
-    let positive = bind(alloc, table, id, universal, forms.positive)?;
-    let negative = bind(alloc, table, id, !universal, forms.negative)?;
-    Ok(Forms { positive, negative })
+    let positive = bind(alloc, table, id, universal, forms.positive())?;
+    let negative = bind(alloc, table, id, !universal, forms.negative())?;
+    let bound = Forms::new(positive, negative)?;
+    Ok(bound)
 }
 
 // The positive form of a connective alone.
@@ -201,7 +203,7 @@ fn quantified_root(
     ensures sorts { table.new.sorts ≡ table.old.sorts }
 {
     let forms = *kept.get(body_of(table, id)).unwrap();
-    let positive = bind(alloc, table, id, is_universal(table, id), forms.positive)?;
+    let positive = bind(alloc, table, id, is_universal(table, id), forms.positive())?;
     Ok(positive)
 }
 
@@ -253,17 +255,13 @@ fn formula_forms(
     match shape_of(table, id) {
         Shape::Truth(value) => {
             let negative = truth(table, !value)?;
-            Ok(Forms {
-                positive: id,
-                negative,
-            })
+            let forms = Forms::new(id, negative)?;
+            Ok(forms)
         }
         Shape::Atom => {
             let negative = negation(table, id)?;
-            Ok(Forms {
-                positive: id,
-                negative,
-            })
+            let forms = Forms::new(id, negative)?;
+            Ok(forms)
         }
         Shape::Quantified => {
             let forms = quantified_forms(alloc, table, id, kept)?;
@@ -295,10 +293,8 @@ fn forms_of(
         let forms = formula_forms(alloc, table, id, kept)?;
         return Ok(forms);
     }
-    Ok(Forms {
-        positive: id,
-        negative: id,
-    })
+    let forms = Forms::new(id, id)?;
+    Ok(forms)
 }
 
 #[derive(Drop)]
@@ -330,6 +326,19 @@ impl NodeStep for FormStep {
     }
 
     ghost stays = { λ _ old new t r grows has. forms_stay old new t r grows has };
+}
+
+// Whether a formula is its own positive form by its shape alone, as an atom or a truth constant is.
+fn is_own_form(table: &Table, id: NodeId) -> bool
+    requires { IsFormula table.now id }
+    ensures { IsTrue result → plain.nnf (tree table.now id) ≡ tree table.now id }
+{
+    match shape_of(table, id) {
+        Shape::Truth(_) => true,
+        Shape::Atom => true,
+        Shape::Quantified => false,
+        Shape::Connected(_) => false,
+    }
 }
 
 // Gives all subterms of a formula but itself their forms, and counts a step for the formula.
@@ -380,9 +389,9 @@ pub fn nnf<L: Ledger>(
     Ok(normal)
 }
 
-/// As `nnf`, with what earlier calls over the table found, and keeps what it finds. Of a formula of few operands the negation
-/// isn't made, as nobody asks for it unless another formula has it as a subterm: its own form is then made anew in each call,
-/// which takes a few look-ups of nodes.
+/// As `nnf`, with what earlier calls over the table found, and keeps what it finds. An atom is its own form, and nothing below
+/// it is walked. Of a formula of few operands the negation isn't made, as nobody asks for it unless another formula has it as
+/// a subterm: its own form is then made anew in each call, which takes a few look-ups of nodes.
 pub fn nnf_kept<L: Ledger>(
     alloc: Global,
     table: &mut Table,
@@ -401,6 +410,9 @@ pub fn nnf_kept<L: Ledger>(
     ensures sorts { table.new.sorts ≡ table.old.sorts }
     ensures most { steps.new ≤ steps.old + places (all_subterms (tree table.old id ∷ [])) }
 {
+    if is_own_form(table, id) {
+        return Ok(id);
+    }
     if table.kids(id).len() <= FEW && kept.get(id).is_none() {
         walk_below(alloc, table, id, kept, steps)?;
         let normal = root_form(alloc, table, id, kept)?;
@@ -408,6 +420,6 @@ pub fn nnf_kept<L: Ledger>(
     }
     let mut step = FormStep { alloc };
     walk(alloc, table, &mut step, kept, id, steps)?;
-    let forms = kept.get(id).unwrap();
-    Ok(forms.positive)
+    let forms = *kept.get(id).unwrap();
+    Ok(forms.positive())
 }

@@ -12,7 +12,8 @@ returns-clause-forms c =
     let u = tree t0 c.args.id in
     let k = kind_seen c.args.connective in
     let found = c.in_ok-positives.ensures in
-    connected-forms t0 t1 c.negative_form.new.table u k c.in_ok-positives.positives.items c.in_ok-positives.negatives.items c.in_ok-positive.positive c.in_ok-negative.negative
+    connected-forms t0 t1 c.negative_form.new.table u k c.in_ok-positives.positives.items c.in_ok-positives.negatives.items c.in_ok-positive.positive c.in_ok-negative.negative c.in_ok-forms.forms
+    c.in_ok-forms.ensures.positive c.in_ok-forms.ensures.negative
     c.requires.shape found.positives found.negatives found.yes found.no c.connected_positive.ensures.grows c.negative_form.ensures.grows
     c.in_ok-positive.ensures.formula
     (c.in_ok-positive.ensures.term ∙ (λ i. positive k u (trees_at t0 (c.deref.ensures i)) (trees_at t0 (c.deref-2.ensures i))))

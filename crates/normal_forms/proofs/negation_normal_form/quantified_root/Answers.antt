@@ -1,8 +1,7 @@
-use Rattle.std.proofs.Common.{◌≡◌, Some, is_some, option_copied, ap, sym, ◌∙◌}
-use Rattle.smt_terms.specs.Rank.{sort_of}
+use Rattle.std.proofs.Common.{is_some, option_copied, ap, sym, ◌∙◌, subst}
 use Rattle.term_walk.specs.Places.{result_at}
-use Rattle.normal_forms.proofs.Taken.{copied-some, body-bool}
-use Rattle.term_table.specs.Formulas.{tree}
+use Rattle.normal_forms.specs.Nodes.{IsFormula}
+use Rattle.normal_forms.proofs.Taken.{copied-some, body-forms}
 use Rattle.normal_forms.proofs.negation_normal_form.quantified_root.Goals as goal
 
 pub unwrap-forms-requires : goal.unwrap-forms-requires
@@ -11,6 +10,6 @@ unwrap-forms-requires c =
 
 pub bind-requires-clause-body : goal.bind-requires-clause-body
 bind-requires-clause-body c =
-    let found : result_at c.args.kept.now c.body_of.result.0 ≡ Some c.unwrap-forms.result.now = sym c.get.ensures ∙ ap option_copied c.unwrap-forms.ensures in
-    let sort = ap sort_of c.body_of.ensures.term ∙ body-bool (tree c.args.table.now c.args.id) c.requires.quantified c.requires.formula.sort in
-    (c.requires.related.related c.body_of.result c.unwrap-forms.result.now found sort).positive
+    let found = sym c.get.ensures ∙ ap option_copied c.unwrap-forms.ensures in
+    let body = body-forms c.args.table.now c.args.kept.now c.args.id c.body_of.result c.unwrap-forms.result.now c.requires.formula c.requires.quantified c.requires.related c.body_of.ensures.term found in
+    subst (IsFormula c.args.table.now) (sym c.positive.ensures) body.positive

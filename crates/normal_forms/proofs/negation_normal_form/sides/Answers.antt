@@ -1,7 +1,8 @@
-use Rattle.std.proofs.Common.{◌≡◌, ◌+◌, [], ◌∷◌, length, get_or, Some, option_copied, ap, sym, ◌∙◌, arith, length-append}
+use Rattle.std.proofs.Common.{◌≡◌, ◌+◌, [], ◌∷◌, ◌++◌, length, get_or, Some, option_copied, ap, sym, ◌∙◌, arith, length-append}
 use Rattle.smt_terms.specs.declared.ids.NodeId.{NodeId}
 use Rattle.term_walk.specs.Places.{result_at}
 use Rattle.normal_forms.specs.declared.node_forms.Forms.{Forms}
+use Rattle.normal_forms.specs.FormNodes.{positive_of, negative_of}
 use Rattle.normal_forms.proofs.Taken.{taken-push}
 use Rattle.normal_forms.proofs.negation_normal_form.sides.Goals as goal
 
@@ -12,10 +13,10 @@ loop-kid-preserved c =
     let f : Forms = c.unwrap-forms.result.now in
     let found : result_at c.args.kept.now (get_or c.args.kids.now c.loop-kid.kid-index none_yet).0 ≡ Some f = sym c.get.ensures ∙ ap option_copied c.unwrap-forms.ensures in
     record {
-      positives = ap length c.in_ok-push.ensures.ok ∙ length-append c.loop-kid.positives.items (f.positive ∷ []) ∙ ap (λ n. n + 1) inv.positives;
-      negatives = ap length c.in_ok-push-2.ensures.ok ∙ length-append c.loop-kid.negatives.items (f.negative ∷ []) ∙ ap (λ n. n + 1) inv.negatives;
-      yes = taken-push (λ g. g.positive) c.args.kept.now c.args.kids.now c.loop-kid.positives.items c.push.new.self.items c.loop-kid.kid-index none_yet f inv.positives c.loop-kid-test.true inv.yes found c.in_ok-push.ensures.ok;
-      no = taken-push (λ g. g.negative) c.args.kept.now c.args.kids.now c.loop-kid.negatives.items c.push-in-loop-kid.new.self.items c.loop-kid.kid-index none_yet f inv.negatives c.loop-kid-test.true inv.no found c.in_ok-push-2.ensures.ok;
+      positives = ap length c.in_ok-push.ensures.ok ∙ length-append c.loop-kid.positives.items (c.positive.result ∷ []) ∙ ap (λ n. n + 1) inv.positives;
+      negatives = ap length c.in_ok-push-2.ensures.ok ∙ length-append c.loop-kid.negatives.items (c.negative.result ∷ []) ∙ ap (λ n. n + 1) inv.negatives;
+      yes = taken-push positive_of c.args.kept.now c.args.kids.now c.loop-kid.positives.items c.push.new.self.items c.loop-kid.kid-index none_yet f inv.positives c.loop-kid-test.true inv.yes found (c.in_ok-push.ensures.ok ∙ ap (λ k. c.loop-kid.positives.items ++ k ∷ []) c.positive.ensures);
+      no = taken-push negative_of c.args.kept.now c.args.kids.now c.loop-kid.negatives.items c.push-in-loop-kid.new.self.items c.loop-kid.kid-index none_yet f inv.negatives c.loop-kid-test.true inv.no found (c.in_ok-push-2.ensures.ok ∙ ap (λ k. c.loop-kid.negatives.items ++ k ∷ []) c.negative.ensures);
     }
 
 pub returns-clause-positive : goal.returns-clause-positive
