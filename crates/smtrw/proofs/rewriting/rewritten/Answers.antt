@@ -8,6 +8,7 @@ use Rattle.passes.proofs.RunnableLists.{all_keep}
 use Rattle.script_read.specs.CommandLists.{commands_of}
 use Rattle.script_read.specs.Commands.{Command}
 use Rattle.script_terms.specs.Refusals.{Unaccepted}
+use Rattle.term_table.specs.Formulas.{Formulas}
 use Rattle.smtrw_answers.specs.Outputs.{read_or_none, rewritten}
 use Rattle.smtrw_answers.specs.Endings.{script_end}
 use Rattle.smtrw.proofs.Endings.{accepted_ends, memory_ends}
@@ -33,6 +34,7 @@ returns-clause-text c =
     let is = c.in_ok-script.ensures.script in
     let text : c.script_into.new.out ≡ rewritten b c.args.passes.now c.args.layout =
     c.in_ok-script_into.ensures.ok
+    ∙ ap (λ (t : Formulas). c.new-text.result ++ lines c.args.layout (commands_of t c.in_ok-script-2.script.commands)) (c.deref.ensures ∙ c.new-table-2.ensures)
     ∙ ap (λ (old : List ℕ). old ++ lines c.args.layout (commands_of c.run_passes.new.table c.in_ok-script-2.script.commands)) c.new-text.ensures
     ∙ ap (λ (cs : List (Command Term)). lines c.args.layout cs) c.in_ok-script-2.ensures.commands
     ∙ ap (λ (r : Result (List (Command Term) × Supply) Unaccepted). lines c.args.layout (passed c.args.passes.now (read_or_none r).0 (read_or_none r).1).0) (sym is) in
