@@ -20,8 +20,9 @@ const TOGETHER: u64 = 0x00FF_FFFF;
 /// A hasher that keeps neighbours together. Neighbours are values whose numbers of eight bytes are near each other: of
 /// nodes, those of one operator over operands that were made at about the same times. An index table looks for
 /// neighbours first in the same group, and next in those that lie behind it in memory, so nodes that are made one after
-/// the other over one another are found without a walk through all of the table. At most 1,024 nodes of one operator over
-/// two operands are neighbours, and at most 32 where one of the two is early, so that no group is first for many.
+/// the other over one another are found without a walk through all of the table. Of one operator at most 1,024 pairs of
+/// late operands are neighbours, each pair in either order, and at most 32 pairs where one of the two is early, so that
+/// no group is first for many.
 #[derive(Clone, Copy)]
 pub(crate) struct NodeHasher {
     /// All that was written.
