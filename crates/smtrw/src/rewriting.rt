@@ -21,20 +21,22 @@ use term_table::Table;
 /// The text of a script behind the passes, in a layout.
 pub fn rewritten(
     alloc: Global,
-    forest: &Forest,
+    forest: Forest,
     passes: &Passes,
     layout: Layout,
 ) -> Result<Pieces, Status>
-    requires read { IsRead forest.now }
-    requires short { length forest.now.bytes ≤ longest_text }
-    ensures text { Writes forest.now.bytes (rewritten forest.now.bytes passes.now layout) result }
+    requires read { IsRead forest }
+    requires short { length forest.bytes ≤ longest_text }
+    ensures text { Writes forest.bytes (rewritten forest.bytes passes.now layout) result }
     ensures passes { OnOk result (list_all keeps_values passes.now ≡ true) }
 {
     let _ = passes.len();
     reading_gives_a_printable_script();
     names_left_are_new();
     let mut table = Table::new(alloc);
-    let (script, mut fresh) = read_script(alloc, &mut table, forest)?;
+    let (script, mut fresh) = read_script(alloc, &mut table, &forest)?;
+    // The script stands by itself. What it was read from takes much memory.
+    drop(forest);
     let script = run_passes(alloc, &mut table, script, passes, &mut fresh)?;
     // Left to the end of the program, which gives back all memory at once: to free each node first takes a walk through them.
     let table = ManuallyDrop::new(table);

@@ -117,7 +117,7 @@ fn written(alloc: Global, asked: &Asked, bytes: Vec<u8>) -> Result<Pieces, Statu
 {
     let forest = scan(alloc, bytes, Until::Exit)?;
     match asked {
-        Asked::Rewrite { passes, layout, .. } => rewritten(alloc, &forest, passes, *layout),
+        Asked::Rewrite { passes, layout, .. } => rewritten(alloc, forest, passes, *layout),
         Asked::Stats { .. } => counted(alloc, &forest),
     }
 }

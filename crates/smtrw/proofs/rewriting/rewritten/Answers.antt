@@ -16,7 +16,7 @@ use Rattle.smtrw.proofs.rewriting.rewritten.Goals as goal
 
 pub run_passes-requires-clause-ready : goal.run_passes-requires-clause-ready
 run_passes-requires-clause-ready c =
-    let b = c.args.forest.now.bytes in
+    let b = c.args.forest.bytes in
     let read : List (Command Term) × Supply = (commands_of c.read_script.new.table c.in_ok-script.script.commands, c.in_ok-script.fresh) in
     let ready : IsReady read.0 read.1 = record {
       printable = c.reading_gives_a_printable_script.ensures b read c.in_ok-script.ensures.script;
@@ -25,11 +25,11 @@ run_passes-requires-clause-ready c =
     ready
 
 pub returns-in_err-script_into-clause-text : goal.returns-in_err-script_into-clause-text
-returns-in_err-script_into-clause-text c = memory_ends c.args.forest.now.bytes (rewritten c.args.forest.now.bytes c.args.passes.now c.args.layout) c.from_residual-in_err-script_into.result c.from_residual-in_err-script_into.ensures.1
+returns-in_err-script_into-clause-text c = memory_ends c.args.forest.bytes (rewritten c.args.forest.bytes c.args.passes.now c.args.layout) c.from_residual-in_err-script_into.result c.from_residual-in_err-script_into.ensures.1
 
 pub returns-clause-text : goal.returns-clause-text
 returns-clause-text c =
-    let b = c.args.forest.now.bytes in
+    let b = c.args.forest.bytes in
     let read : List (Command Term) × Supply = (commands_of c.read_script.new.table c.in_ok-script.script.commands, c.in_ok-script.fresh) in
     let is = c.in_ok-script.ensures.script in
     let text : c.script_into.new.out ≡ rewritten b c.args.passes.now c.args.layout =
