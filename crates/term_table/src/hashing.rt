@@ -1,7 +1,7 @@
 //! How nodes are hashed.
 
-ghost use Rattle.std.specs.Prelude.{◌≡◌};
-ghost use Rattle.term_table.specs.Hashing.{initial, counted, ranked, written, finished};
+ghost use Rattle.std.specs.Prelude.{◌≡◌, ◌≤◌};
+ghost use Rattle.term_table.specs.Hashing.{initial, block_of, counted, is_far_from, ranked, written, finished};
 
 use std::hash::{BuildHasher, FoldHasher, Hasher};
 
@@ -10,6 +10,12 @@ const EARLY: u64 = 4096;
 
 /// How many later numbers, one after the other, count alike.
 const BLOCK: u64 = 32;
+
+/// From this distance on a later number is far from a greater one.
+const FAR: u64 = 65_536;
+
+/// How many numbers count alike among those that are far from each other.
+const FAR_BLOCK: u64 = 64;
 
 /// The bits of a hash that tell neighbours apart, which are those of the tag.
 const APART: u64 = 0xFF00_0000;
@@ -20,9 +26,9 @@ const TOGETHER: u64 = 0x00FF_FFFF;
 /// A hasher that keeps neighbours together. Neighbours are values whose numbers of eight bytes are near each other: of
 /// nodes, those of one operator over operands that were made at about the same times. An index table looks for
 /// neighbours first in the same group, and next in those that lie behind it in memory, so nodes that are made one after
-/// the other over one another are found without a walk through all of the table. Of one operator at most 1,024 pairs of
-/// late operands are neighbours, each pair in either order, and at most 32 pairs where one of the two is early, so that
-/// no group is first for many.
+/// the other over one another are found without a walk through all of the table. Of one operator at most 32 pairs are
+/// neighbours where one of the two is early, 1,024 pairs of late operands that are near each other, and 4,096 that are
+/// far, each pair in either order, so that no group is first for many.
 #[derive(Clone, Copy)]
 pub(crate) struct NodeHasher {
     /// All that was written.
@@ -30,6 +36,8 @@ pub(crate) struct NodeHasher {
     /// What neighbours write alike, but for the greatest number, which goes in last.
     block: FoldHasher,
     greatest: u64,
+    /// Whether a late number was far from a greater one.
+    is_far: bool,
 }
 
 /// What makes the hashers of a map whose keys are nodes.
@@ -46,6 +54,7 @@ impl BuildHasher for BuildNodeHasher {
             whole: FoldHasher::default(),
             block: FoldHasher::default(),
             greatest: 0,
+            is_far: false,
         }
     }
 }
@@ -54,20 +63,42 @@ impl NodeHasher {
     fn rank(&mut self, number: u64)
         ensures { self.new ≡ ranked self.old number }
     {
-        self.whole.write_u64(number);
-        self.block.write_u64(counted(self.greatest.min(number)));
+        let less = self.greatest.min(number);
         self.greatest = self.greatest.max(number);
+        let is_far = is_far_from(less, self.greatest);
+        self.is_far = self.is_far || is_far;
+        self.whole.write_u64(number);
+        self.block.write_u64(counted(less, is_far));
+    }
+}
+
+// Whether this is a late number, far from a greater one.
+fn is_far_from(number: u64, greater: u64) -> bool
+    requires { number ≤ greater }
+    ensures { result ≡ is_far_from number greater }
+{
+    EARLY <= number && FAR <= greater - number
+}
+
+// The block of a number, where it is far from the others or where it isn't.
+fn block_of(number: u64, is_far: bool) -> u64
+    ensures { result ≡ block_of number is_far }
+{
+    if is_far {
+        number / FAR_BLOCK
+    } else {
+        number / BLOCK
     }
 }
 
 // What a number that isn't the greatest counts for.
-fn counted(number: u64) -> u64
-    ensures { result ≡ counted number }
+fn counted(number: u64, is_far: bool) -> u64
+    ensures { result ≡ counted number is_far }
 {
     if number < EARLY {
         return number;
     }
-    EARLY + number / BLOCK
+    EARLY + block_of(number, is_far)
 }
 
 impl Hasher for NodeHasher {
@@ -77,7 +108,7 @@ impl Hasher for NodeHasher {
 
     fn finish(&self) -> u64 {
         let mut block = self.block;
-        block.write_u64(self.greatest / BLOCK);
+        block.write_u64(block_of(self.greatest, self.is_far));
         self.whole.finish() & APART | block.finish() & TOGETHER
     }
 
