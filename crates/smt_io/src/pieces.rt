@@ -14,12 +14,14 @@ use std::mem;
 const PIECE: usize = 65_536;
 
 /// A text in pieces of 65,536 bytes, the last one being at most as long, so that a long text is never
-/// copied as a whole. Contracts see the list of its bytes.
+/// copied as a whole. Where memory was given to begin with, the first piece fills that. Contracts see the list of its bytes.
 #[derive(Drop)]
 pub struct Pieces {
     alloc: Global,
     full: Vec<Vec<u8>>,
     last: Vec<u8>,
+    // How many bytes the last piece takes.
+    room: usize,
     len: usize,
 }
 
@@ -40,6 +42,22 @@ impl Pieces {
             alloc,
             full: Vec::new(alloc),
             last: Vec::new(alloc),
+            room: PIECE,
+            len: 0,
+        }
+    }
+
+    /// An empty text that is written over these bytes, whose memory was touched before, and behind them into memory of its
+    /// own. It takes no memory.
+    pub fn over(alloc: Global, mut bytes: Vec<u8>) -> Pieces
+        ensures { result ≡ [] }
+    {
+        bytes.clear();
+        Pieces {
+            alloc,
+            full: Vec::new(alloc),
+            room: bytes.capacity(),
+            last: bytes,
             len: 0,
         }
     }
@@ -71,8 +89,8 @@ impl Pieces {
         ensures ok { IfOk result (λ n. self.new ≡ self.old ++ take n bytes.now) }
         ensures err { OnErr result (self.new ≡ self.old) }
     {
-        make_room(self.alloc, &mut self.full, &mut self.last)?;
-        let n = bytes.len().min(PIECE - self.last.len());
+        make_room(self.alloc, &mut self.full, &mut self.last, &mut self.room)?;
+        let n = bytes.len().min(self.room - self.last.len());
         let len = self.len.checked_add(n).ok_or(AllocError)?;
         self.last.extend_from_slice(&bytes[..n])?;
         self.len = len;
@@ -81,17 +99,25 @@ impl Pieces {
 }
 
 // Leaves room in the last piece: where it is full, it goes to the full ones, and a new one begins.
-fn make_room(alloc: Global, full: &mut Vec<Vec<u8>>, last: &mut Vec<u8>) -> Result<(), AllocError>
+fn make_room(
+    alloc: Global,
+    full: &mut Vec<Vec<u8>>,
+    last: &mut Vec<u8>,
+    room: &mut usize,
+) -> Result<(), AllocError>
     ensures bytes { flat_map (λ piece. piece.items) full.new.items ++ last.new.items
         ≡ flat_map (λ piece. piece.items) full.old.items ++ last.old.items }
-    ensures room { OnOk result (vec_len last.new < PIECE) }
+    ensures room { OnOk result (vec_len last.new < room.new) }
 {
-    if last.len() < PIECE {
+    if last.len() < *room {
         return Ok(());
     }
     let next = Vec::with_capacity(alloc, PIECE)?;
     match full.push(mem::replace(last, next)) {
-        Ok(()) => Ok(()),
+        Ok(()) => {
+            *room = PIECE;
+            Ok(())
+        }
         Err(refused) => {
             *last = refused.value;
             Err(AllocError)

@@ -13,6 +13,9 @@ pub const LONGEST_TEXT: usize = 67_108_864;
 // The room for the first read of a text, in bytes.
 const FIRST_BLOCK: usize = 65_536;
 
+// The most bytes of room that one read has. Room is cleared before it is read into, so more would be cleared for nothing.
+const LARGEST_BLOCK: usize = 262_144;
+
 /// Reads the whole text of that name, up to its end. After an answer it has at most 67,108,864
 /// bytes, whether the text is told or not.
 ///
@@ -81,8 +84,8 @@ fn read_block<I: Inputs>(
     }
 }
 
-// Leaves room behind what is filled: more is made only where there is none, and then twice as much
-// as before, so that what is copied stays linear.
+// Leaves room behind what is filled: more is made only where there is none, and then twice as much as before, up to a
+// block. A vector that grows doubles the memory that it has, so what is copied stays linear.
 fn make_room(bytes: &mut Vec<u8>, filled: usize) -> Result<(), AllocError>
     requires within { filled ≤ vec_len bytes.old }
     requires below { filled ≤ longest_text }
@@ -95,8 +98,8 @@ fn make_room(bytes: &mut Vec<u8>, filled: usize) -> Result<(), AllocError>
     if filled < bytes.len() {
         return Ok(());
     }
-    let len = (2 * filled).max(FIRST_BLOCK).min(LONGEST_TEXT + 1);
-    bytes.resize(len, 0)
+    let block = filled.max(FIRST_BLOCK).min(LARGEST_BLOCK);
+    bytes.resize((filled + block).min(LONGEST_TEXT + 1), 0)
 }
 
 /// Sends all bytes, and flushes. After an error a prefix of the bytes was sent. It takes no memory.

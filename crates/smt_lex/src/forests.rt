@@ -61,6 +61,13 @@ impl Forest {
         self.bytes.as_slice()
     }
 
+    /// The bytes that `scan` was given. The tokens are given up.
+    pub fn into_bytes(self) -> Vec<u8>
+        ensures { result.items ≡ self.bytes }
+    {
+        self.bytes
+    }
+
     /// The kind of token `i`.
     pub fn item(&self, i: usize) -> Item
         requires { i < length self.now.tokens }

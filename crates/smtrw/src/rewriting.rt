@@ -35,12 +35,12 @@ pub fn rewritten(
     names_left_are_new();
     let mut table = Table::new(alloc);
     let (script, mut fresh) = read_script(alloc, &mut table, &forest)?;
-    // The script stands by itself. What it was read from takes much memory.
-    drop(forest);
+    // The script stands by itself. Of what it was read from the memory of the text is written over again.
+    let bytes = forest.into_bytes();
     let script = run_passes(alloc, &mut table, script, passes, &mut fresh)?;
     // Left to the end of the program, which gives back all memory at once: to free each node first takes a walk through them.
     let table = ManuallyDrop::new(table);
-    let mut text = Pieces::new(alloc);
+    let mut text = Pieces::over(alloc, bytes);
     script_into(alloc, &table, &script, layout, &mut text)?;
     Ok(text)
 }
