@@ -120,6 +120,20 @@ fn pieces_are_sent_whole(rt: HostRuntime) -> Result<(), Fail> {
 }
 
 #[test]
+fn a_text_is_written_over_another(rt: HostRuntime) -> Result<(), Fail> {
+    let alloc = rt.alloc();
+    let long = vec![in alloc; 120u8; 70_000]?;
+    let mut text = Pieces::over(alloc, vec![in alloc; 45u8; 10]?);
+    text.push(b"begin ")?;
+    text.push(&long)?;
+    let mut sink = MemSink::new(alloc, 4_096, 70_006)?;
+    assert_eq!(rt; send_pieces(&mut sink, &text), Ok(()));
+    assert!(rt; sink.bytes().starts_with(b"begin xxx"));
+    assert_eq!(rt; sink.bytes().len(), 70_006);
+    Ok(())
+}
+
+#[test]
 fn the_host_is_read_by_name(rt: HostRuntime) {
     let alloc = rt.alloc();
     let mut inputs = HostInputs::new(alloc, rt);

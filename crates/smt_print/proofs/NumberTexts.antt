@@ -50,6 +50,10 @@ pub decimal-numeral : (n : ℕ) → n < 2 ^ 128 → decimal n ≡ numeral n
 unfolding digits
 decimal-numeral n h = digits-numeral 63 (suc n) n [] (omega arith) (omega arith)
 
+pub two-digits : (n : ℕ) → 10 ≤ n → n < 100 → numeral n ≡ (48 + n / 10) ∷ (48 + n % 10) ∷ []
+two-digits zero le lt = absurd (omega arith)
+two-digits (suc m) le lt = before_more (suc m) (suc m) [] le ∙ before_last m (suc m / 10) ((48 + suc m % 10) ∷ []) (fewer 1 (suc m) lt)
+
 -- ---- indices
 
 -- numerals with a space in front of each

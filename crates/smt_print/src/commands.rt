@@ -15,16 +15,16 @@ ghost use Rattle.smt_print.specs.CommandTexts.{is_assertion};
 
 use crate::layout::Layout;
 use crate::numbers::{push_number, push_separator};
+use crate::page::Page;
 use crate::terms::push_term;
 use script_read::Command;
-use smt_lex::symbol_text;
 use smt_values::{SortId, SymId};
 use std::alloc::{AllocError, Global};
-use term_table::{Bytes, Nodes, Table, sort_text};
+use term_table::{Bytes, Nodes, Table};
 
 // Appends bytes.
-fn push_bytes(bytes: &Bytes, out: &mut Vec<u8>) -> Result<(), AllocError>
-    ensures { OnOk result (out.new.items ≡ out.old.items ++ bytes.now) }
+fn push_bytes(bytes: &Bytes, out: &mut Page) -> Result<(), AllocError>
+    ensures { OnOk result (out.new ≡ out.old ++ bytes.now) }
 {
     for i in 0..bytes.len() {
         out.push(bytes.get(i))?;
@@ -37,14 +37,14 @@ fn push_sort_name(
     alloc: Global,
     table: &Table,
     sort: SortId,
-    out: &mut Vec<u8>,
+    out: &mut Page,
 ) -> Result<(), AllocError>
     requires { IsSortId table.now.sorts sort }
-    ensures { OnOk result (out.new.items ≡ out.old.items ++ printed_symbol (free_name (sort_at table.now.sorts sort))) }
+    ensures { OnOk result (out.new ≡ out.old ++ printed_symbol (free_name (sort_at table.now.sorts sort))) }
 {
     match table.sorts().name(sort) {
-        Some(name) => symbol_text(alloc, name, out),
-        None => symbol_text(alloc, b"", out),
+        Some(name) => out.push_symbol(alloc, name),
+        None => out.push_symbol(alloc, b""),
     }
 }
 
@@ -53,14 +53,14 @@ fn push_sort_declaration(
     alloc: Global,
     table: &Table,
     sort: SortId,
-    out: &mut Vec<u8>,
+    out: &mut Page,
 ) -> Result<(), AllocError>
     requires { IsSortId table.now.sorts sort }
-    ensures { OnOk result (out.new.items ≡ out.old.items ++ form_text (sort_declaration (free_name (sort_at table.now.sorts sort)))) }
+    ensures { OnOk result (out.new ≡ out.old ++ form_text (sort_declaration (free_name (sort_at table.now.sorts sort)))) }
 {
-    out.extend_from_slice(b"(declare-sort ")?;
+    out.push_short(b"(declare-sort ")?;
     push_sort_name(alloc, table, sort, out)?;
-    out.extend_from_slice(b" 0)")?;
+    out.push_short(b" 0)")?;
     Ok(())
 }
 
@@ -69,15 +69,15 @@ fn push_sorts(
     alloc: Global,
     table: &Table,
     sorts: &[SortId],
-    out: &mut Vec<u8>,
+    out: &mut Page,
 ) -> Result<(), AllocError>
     requires { All (IsSortId table.now.sorts) sorts.now }
-    ensures { OnOk result (out.new.items ≡ out.old.items ++ form_text (list_form (map sort_form (map (sort_at table.now.sorts) sorts.now)))) }
+    ensures { OnOk result (out.new ≡ out.old ++ form_text (list_form (map sort_form (map (sort_at table.now.sorts) sorts.now)))) }
 {
     out.push(b'(')?;
     for (place, sort) in sorts.iter().enumerate() {
         push_separator(place, out)?;
-        sort_text(alloc, table, *sort, out)?;
+        out.push_sort(alloc, table, *sort)?;
     }
     out.push(b')')?;
     Ok(())
@@ -88,18 +88,18 @@ fn push_declaration(
     alloc: Global,
     table: &Table,
     symbol: SymId,
-    out: &mut Vec<u8>,
+    out: &mut Page,
 ) -> Result<(), AllocError>
     requires { IsSymbol table.now symbol }
-    ensures { OnOk result (out.new.items ≡ out.old.items ++ form_text (declaration (symbol_at table.now symbol))) }
+    ensures { OnOk result (out.new ≡ out.old ++ form_text (declaration (symbol_at table.now symbol))) }
 {
     let (args, to) = table.symbol_rank(symbol);
-    out.extend_from_slice(b"(declare-fun ")?;
-    symbol_text(alloc, table.symbol_name(symbol), out)?;
+    out.push_short(b"(declare-fun ")?;
+    out.push_symbol(alloc, table.symbol_name(symbol))?;
     out.push(b' ')?;
     push_sorts(alloc, table, args, out)?;
     out.push(b' ')?;
-    sort_text(alloc, table, to, out)?;
+    out.push_sort(alloc, table, to)?;
     out.push(b')')?;
     Ok(())
 }
@@ -109,23 +109,23 @@ fn push_assumptions(
     alloc: Global,
     table: &Table,
     literals: &Nodes,
-    out: &mut Vec<u8>,
+    out: &mut Page,
 ) -> Result<(), AllocError>
     requires { AreNodes table.now literals.now }
-    ensures { OnOk result (out.new.items ≡ out.old.items ++ form_text (command_form (codes "check-sat-assuming") (list_form (map tree_form (trees_at table.now literals.now)) ∷ []))) }
+    ensures { OnOk result (out.new ≡ out.old ++ form_text (command_form (codes "check-sat-assuming") (list_form (map tree_form (trees_at table.now literals.now)) ∷ []))) }
 {
-    out.extend_from_slice(b"(check-sat-assuming (")?;
+    out.push_short(b"(check-sat-assuming (")?;
     for i in 0..literals.len() {
         push_separator(i, out)?;
         push_term(alloc, table, literals.get(i), Layout::Tree, out)?;
     }
-    out.extend_from_slice(b"))")?;
+    out.push_short(b"))")?;
     Ok(())
 }
 
 // Appends a command over a number of levels.
-fn push_levels(name: &[u8], levels: u32, out: &mut Vec<u8>) -> Result<(), AllocError>
-    ensures { OnOk result (out.new.items ≡ out.old.items ++ form_text (command_form name.now (numeral_form levels ∷ []))) }
+fn push_levels(name: &[u8], levels: u32, out: &mut Page) -> Result<(), AllocError>
+    ensures { OnOk result (out.new ≡ out.old ++ form_text (command_form name.now (numeral_form levels ∷ []))) }
 {
     out.push(b'(')?;
     out.extend_from_slice(name)?;
@@ -136,13 +136,14 @@ fn push_levels(name: &[u8], levels: u32, out: &mut Vec<u8>) -> Result<(), AllocE
 }
 
 // Appends `(set-option :global-declarations BOOL)`.
-fn push_globals(value: bool, out: &mut Vec<u8>) -> Result<(), AllocError>
-    ensures { OnOk result (out.new.items ≡ out.old.items ++ form_text (globals_option value)) }
+fn push_globals(value: bool, out: &mut Page) -> Result<(), AllocError>
+    ensures { OnOk result (out.new ≡ out.old ++ form_text (globals_option value)) }
 {
-    if value {
-        return out.extend_from_slice(b"(set-option :global-declarations true)");
+    match value {
+        true => out.push_short(b"(set-option :global-declarations true)")?,
+        false => out.push_short(b"(set-option :global-declarations false)")?,
     }
-    out.extend_from_slice(b"(set-option :global-declarations false)")
+    Ok(())
 }
 
 // Appends a command that is no assertion.
@@ -150,24 +151,24 @@ pub(crate) fn push_command(
     alloc: Global,
     table: &Table,
     command: &Command,
-    out: &mut Vec<u8>,
+    out: &mut Page,
 ) -> Result<(), AllocError>
     requires numbers { IsCommandOf table.now command.now }
     requires other { is_assertion command.now ≡ false }
-    ensures { (form : Term → Form) → OnOk result (out.new.items ≡ out.old.items ++ command_text form (command_of table.now command.now)) }
+    ensures { (form : Term → Form) → OnOk result (out.new ≡ out.old ++ command_text form (command_of table.now command.now)) }
 {
     match command {
         Command::Passed(text) => push_bytes(text, out),
         Command::DeclareSort(sort) => push_sort_declaration(alloc, table, *sort, out),
         Command::Declare(symbol) => push_declaration(alloc, table, *symbol, out),
         Command::Assert { .. } => unreachable!(),
-        Command::Check => out.extend_from_slice(b"(check-sat)"),
+        Command::Check => out.push_short(b"(check-sat)"),
         Command::CheckAssuming(literals) => push_assumptions(alloc, table, literals, out),
         Command::Push(levels) => push_levels(b"push", *levels, out),
         Command::Pop(levels) => push_levels(b"pop", *levels, out),
-        Command::Reset => out.extend_from_slice(b"(reset)"),
-        Command::ResetAssertions => out.extend_from_slice(b"(reset-assertions)"),
+        Command::Reset => out.push_short(b"(reset)"),
+        Command::ResetAssertions => out.push_short(b"(reset-assertions)"),
         Command::Globals(value) => push_globals(*value, out),
-        Command::Exit => out.extend_from_slice(b"(exit)"),
+        Command::Exit => out.push_short(b"(exit)"),
     }
 }

@@ -15,6 +15,7 @@ use crate::heads::{binding, push_application, push_binder, push_head};
 use crate::names::Printed;
 use crate::numbers::push_number;
 use crate::output::Output;
+use crate::page::Page;
 use crate::scope::Scopes;
 use crate::stack::Stack;
 use smt_terms::NodeId;
@@ -32,20 +33,20 @@ pub(crate) enum Step {
 }
 
 // Appends the name of a definition.
-fn push_name(number: usize, text: &mut Vec<u8>) -> Result<(), AllocError>
-    ensures { OnOk result (text.new.items ≡ text.old.items ++ definition_name number) }
+fn push_name(number: usize, text: &mut Page) -> Result<(), AllocError>
+    ensures { OnOk result (text.new ≡ text.old ++ definition_name number) }
 {
-    text.extend_from_slice(b".def_")?;
+    text.push_short(b".def_")?;
     push_number(number as u64, text)?;
     Ok(())
 }
 
 // Appends the beginning of a `let` that gives a name.
 #[tactic(auto, unfolding(crate::specs::DagSteps::let_opening))]
-fn push_let(number: usize, text: &mut Vec<u8>) -> Result<(), AllocError>
-    ensures { OnOk result (text.new.items ≡ text.old.items ++ let_opening number) }
+fn push_let(number: usize, text: &mut Page) -> Result<(), AllocError>
+    ensures { OnOk result (text.new ≡ text.old ++ let_opening number) }
 {
-    text.extend_from_slice(b"(let ((.def_")?;
+    text.push_short(b"(let ((.def_")?;
     push_number(number as u64, text)?;
     text.push(b' ')?;
     Ok(())
@@ -57,12 +58,12 @@ fn push_reference(
     table: &Printed,
     scopes: &Scopes,
     id: NodeId,
-    text: &mut Vec<u8>,
+    text: &mut Page,
 ) -> Result<(), AllocError>
     requires node { IsNode table.now id }
     requires scope { IsScope table.now scopes.now.current }
     requires known { IsKnown (definitions_at table.now scopes.now.current) (tree table.now id) }
-    ensures { OnOk result (text.new.items ≡ text.old.items ++ form_text (reference (definitions_at table.now scopes.now.current) (tree table.now id))) }
+    ensures { OnOk result (text.new ≡ text.old ++ form_text (reference (definitions_at table.now scopes.now.current) (tree table.now id))) }
 {
     let kids = table.kids(id);
     if kids.is_empty() {
@@ -79,12 +80,12 @@ fn push_end(
     table: &Printed,
     scopes: &Scopes,
     id: NodeId,
-    text: &mut Vec<u8>,
+    text: &mut Page,
 ) -> Result<(), AllocError>
     requires node { IsNode table.now id }
     requires scope { IsScope table.now scopes.now.current }
     requires known { IsKnown (definitions_at table.now scopes.now.current) (tree table.now id) }
-    ensures { OnOk result (text.new.items ≡ text.old.items ++ end_text (definitions_at table.now scopes.now.current) (tree table.now id)) }
+    ensures { OnOk result (text.new ≡ text.old ++ end_text (definitions_at table.now scopes.now.current) (tree table.now id)) }
 {
     push_reference(alloc, table, scopes, id, text)?;
     for _ in 0..scopes.len() {
@@ -111,11 +112,11 @@ fn define(
     table: &Printed,
     id: NodeId,
     scopes: &mut Scopes,
-    text: &mut Vec<u8>,
+    text: &mut Page,
 ) -> Result<(), AllocError>
     requires scope { IsScope table.now scopes.old.current }
     requires definable { IsDefinable table.now (definitions_at table.now scopes.old.current) id }
-    ensures text { OnOk result (text.new.items ≡ text.old.items ++ let_text (length scopes.old.current) (definition_of (tree table.now id) (definitions_at table.now scopes.old.current)).form) }
+    ensures text { OnOk result (text.new ≡ text.old ++ let_text (length scopes.old.current) (definition_of (tree table.now id) (definitions_at table.now scopes.old.current)).form) }
     ensures current { OnOk result (scopes.new.current ≡ id ∷ scopes.old.current) }
     ensures outer { OnOk result (scopes.new.outer ≡ scopes.old.outer) }
 {
@@ -125,7 +126,7 @@ fn define(
         text.push(b' ')?;
         push_reference(alloc, table, scopes, *kid, text)?;
     }
-    text.extend_from_slice(b"))) ")?;
+    text.push_short(b"))) ")?;
     scopes.define(id)?;
     Ok(())
 }
@@ -138,11 +139,11 @@ fn enter(
     body: NodeId,
     scopes: &mut Scopes,
     steps: &mut Stack<Step>,
-    text: &mut Vec<u8>,
+    text: &mut Page,
 ) -> Result<(), AllocError>
     requires node { IsNode table.now id }
     requires quantified { is_quantified (tree table.now id) ≡ true }
-    ensures text { OnOk result (text.new.items ≡ text.old.items ++ (let_opening (length scopes.old.current) ++ (opening (tree table.now id) ++ space ∷ []))) }
+    ensures text { OnOk result (text.new ≡ text.old ++ (let_opening (length scopes.old.current) ++ (opening (tree table.now id) ++ space ∷ []))) }
     ensures current { OnOk result (scopes.new.current ≡ []) }
     ensures outer { OnOk result (scopes.new.outer ≡ scopes.old.current ∷ scopes.old.outer) }
     ensures steps { OnOk result (steps.new ≡ Step.Visit body ∷ (Step.Close id ∷ steps.old)) }
@@ -163,12 +164,12 @@ fn visit(
     id: NodeId,
     scopes: &mut Scopes,
     steps: &mut Stack<Step>,
-    text: &mut Vec<u8>,
+    text: &mut Page,
 ) -> Result<(), AllocError>
     requires node { IsNode table.now id }
     requires scopes { AreScopes table.now scopes.old }
-    ensures leads { (root : NodeId) (done whole : List ℕ) → LeadsFrom table.now root scopes.old (Step.Visit id ∷ steps.old) (done ++ text.old.items) whole
-        → OnOk result (LeadsFrom table.now root scopes.new steps.new (done ++ text.new.items) whole) }
+    ensures leads { (root : NodeId) (done whole : List ℕ) → LeadsFrom table.now root scopes.old (Step.Visit id ∷ steps.old) (done ++ text.old) whole
+        → OnOk result (LeadsFrom table.now root scopes.new steps.new (done ++ text.new) whole) }
     ensures scopes { OnOk result (AreScopes table.now scopes.new) }
     ensures nearer { OnOk result (weights table.now steps.new < weights table.now (Step.Visit id ∷ steps.old)) }
 {
@@ -198,17 +199,17 @@ fn close(
     table: &Printed,
     id: NodeId,
     scopes: &mut Scopes,
-    text: &mut Vec<u8>,
+    text: &mut Page,
 ) -> Result<(), AllocError>
     requires scopes { AreScopes table.now scopes.old }
     requires closable { (root : NodeId) × (steps : List Step) × (done : List ℕ) × (whole : List ℕ) × LeadsFrom table.now root scopes.old (Step.Close id ∷ steps) done whole }
-    ensures leads { (root : NodeId) (steps : List Step) (done whole : List ℕ) → LeadsFrom table.now root scopes.old (Step.Close id ∷ steps) (done ++ text.old.items) whole
-        → OnOk result (LeadsFrom table.now root scopes.new steps (done ++ text.new.items) whole) }
+    ensures leads { (root : NodeId) (steps : List Step) (done whole : List ℕ) → LeadsFrom table.now root scopes.old (Step.Close id ∷ steps) (done ++ text.old) whole
+        → OnOk result (LeadsFrom table.now root scopes.new steps (done ++ text.new) whole) }
     ensures scopes { OnOk result (AreScopes table.now scopes.new) }
 {
     let (_, body) = binding(table, id).unwrap();
     push_end(alloc, table, scopes, body, text)?;
-    text.extend_from_slice(b"))) ")?;
+    text.push_short(b"))) ")?;
     scopes.leave();
     scopes.define(id)?;
     Ok(())
@@ -221,12 +222,12 @@ fn take_step(
     step: Step,
     scopes: &mut Scopes,
     steps: &mut Stack<Step>,
-    text: &mut Vec<u8>,
+    text: &mut Page,
 ) -> Result<(), AllocError>
     requires scopes { AreScopes table.now scopes.old }
     requires standing { (root : NodeId) × (done : List ℕ) × (whole : List ℕ) × LeadsFrom table.now root scopes.old (step ∷ steps.old) done whole }
-    ensures leads { (root : NodeId) (done whole : List ℕ) → LeadsFrom table.now root scopes.old (step ∷ steps.old) (done ++ text.old.items) whole
-        → OnOk result (LeadsFrom table.now root scopes.new steps.new (done ++ text.new.items) whole) }
+    ensures leads { (root : NodeId) (done whole : List ℕ) → LeadsFrom table.now root scopes.old (step ∷ steps.old) (done ++ text.old) whole
+        → OnOk result (LeadsFrom table.now root scopes.new steps.new (done ++ text.new) whole) }
     ensures scopes { OnOk result (AreScopes table.now scopes.new) }
     ensures nearer { OnOk result (weights table.now steps.new < weights table.now (step ∷ steps.old)) }
 {
@@ -255,8 +256,8 @@ pub(crate) fn print_dag<O: Output>(
     out: &mut O,
 ) -> Result<(), AllocError>
     requires { IsNode table.now root }
-    ensures ok { OnOk result (Drafts (O.text out.old) draft.old.text.items (O.text out.new) draft.new.text.items (form_text (dag_form (tree table.now root)))) }
-    ensures prefix { OnErr result (AppendsPrefix (O.text out.old) (O.text out.new) (draft.old.text.items ++ form_text (dag_form (tree table.now root)))) }
+    ensures ok { OnOk result (Drafts (O.text out.old) draft.old.text (O.text out.new) draft.new.text (form_text (dag_form (tree table.now root)))) }
+    ensures prefix { OnErr result (AppendsPrefix (O.text out.old) (O.text out.new) (draft.old.text ++ form_text (dag_form (tree table.now root)))) }
 {
     draft.scopes.clear();
     draft.dag.clear();

@@ -4,6 +4,7 @@ ghost use Rattle.std.specs.Prelude.{◌≡◌, ◌++◌, [], OnOk, OnErr};
 ghost use Rattle.smt_print.specs.Prefix.{AppendsPrefix, Drafts};
 
 use crate::output::Output;
+use crate::page::Page;
 use crate::scope::Scopes;
 use crate::stack::Stack;
 use crate::{dag, tree};
@@ -15,7 +16,7 @@ const PART: usize = 16_384;
 // What is at hand while terms are printed: the text that isn't appended yet, and memory that each term uses anew.
 #[derive(Drop)]
 pub(crate) struct Draft {
-    pub(crate) text: Vec<u8>,
+    pub(crate) text: Page,
     pub(crate) tree: Stack<tree::Step>,
     pub(crate) dag: Stack<dag::Step>,
     pub(crate) scopes: Scopes,
@@ -23,10 +24,10 @@ pub(crate) struct Draft {
 
 impl Draft {
     pub(crate) fn new(alloc: Global) -> Draft
-        ensures { result.text.items ≡ [] }
+        ensures { result.text ≡ [] }
     {
         Draft {
-            text: Vec::new(alloc),
+            text: Page::new(alloc),
             tree: Stack::new(alloc),
             dag: Stack::new(alloc),
             scopes: Scopes::new(alloc),
@@ -35,9 +36,9 @@ impl Draft {
 }
 
 // Appends the text where it is long.
-pub(crate) fn pass_on<O: Output>(text: &mut Vec<u8>, out: &mut O) -> Result<(), AllocError>
-    ensures ok { OnOk result (Drafts (O.text out.old) text.old.items (O.text out.new) text.new.items []) }
-    ensures prefix { OnErr result (AppendsPrefix (O.text out.old) (O.text out.new) text.old.items) }
+pub(crate) fn pass_on<O: Output>(text: &mut Page, out: &mut O) -> Result<(), AllocError>
+    ensures ok { OnOk result (Drafts (O.text out.old) text.old (O.text out.new) text.new []) }
+    ensures prefix { OnErr result (AppendsPrefix (O.text out.old) (O.text out.new) text.old) }
 {
     if text.len() < PART {
         return Ok(());
@@ -47,12 +48,12 @@ pub(crate) fn pass_on<O: Output>(text: &mut Vec<u8>, out: &mut O) -> Result<(), 
 }
 
 // Appends the text.
-pub(crate) fn pass_all<O: Output>(text: &mut Vec<u8>, out: &mut O) -> Result<(), AllocError>
-    ensures ok { OnOk result (O.text out.new ≡ O.text out.old ++ text.old.items) }
-    ensures empty { OnOk result (text.new.items ≡ []) }
-    ensures prefix { OnErr result (AppendsPrefix (O.text out.old) (O.text out.new) text.old.items) }
+pub(crate) fn pass_all<O: Output>(text: &mut Page, out: &mut O) -> Result<(), AllocError>
+    ensures ok { OnOk result (O.text out.new ≡ O.text out.old ++ text.old) }
+    ensures empty { OnOk result (text.new ≡ []) }
+    ensures prefix { OnErr result (AppendsPrefix (O.text out.old) (O.text out.new) text.old) }
 {
-    out.append(text)?;
+    out.append(text.as_slice())?;
     text.clear();
     Ok(())
 }

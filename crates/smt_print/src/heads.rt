@@ -13,76 +13,71 @@ ghost use Rattle.smt_print.specs.NodeForms.{written, constant_op, first_form, op
 
 use crate::names::Printed;
 use crate::numbers::{push_indexed, push_separator};
+use crate::page::Page;
 use smt_terms::NodeId;
 use smt_values::{Op, Scalar, SortId};
 use std::alloc::{AllocError, Global};
-use term_table::scalar_text;
 
 // Appends what an operator is written as: a constant, a name, or the first part of its list.
 #[tactic(auto, unfolding(term_table::specs::Formulas::kind, crate::specs::TermForms::operator_form))]
-fn push_operator(
-    alloc: Global,
-    table: &Printed,
-    op: Op,
-    out: &mut Vec<u8>,
-) -> Result<(), AllocError>
+fn push_operator(alloc: Global, table: &Printed, op: Op, out: &mut Page) -> Result<(), AllocError>
     requires numbers { IsOpOf table.now op }
     requires scalar { (s : Scalar) → constant_op s ≡ op → IsScalar s }
-    ensures { OnOk result (out.new.items ≡ out.old.items ++ form_text (written table.now op)) }
+    ensures { OnOk result (out.new ≡ out.old ++ form_text (written table.now op)) }
 {
     match op {
-        Op::Truth(b) => scalar_text(alloc, Scalar::Truth(b), out),
-        Op::Whole(n) => scalar_text(alloc, Scalar::Whole(n), out),
-        Op::Bits { width, bits } => scalar_text(alloc, Scalar::Bits { width, bits }, out),
+        Op::Truth(b) => out.push_scalar(alloc, Scalar::Truth(b)),
+        Op::Whole(n) => out.push_scalar(alloc, Scalar::Whole(n)),
+        Op::Bits { width, bits } => out.push_scalar(alloc, Scalar::Bits { width, bits }),
         Op::Sym(f) => table.push_symbol(alloc, f, out),
         Op::ConstArray(sort) => push_constant_array(alloc, table, sort, out),
-        Op::Forall => out.extend_from_slice(b"forall"),
-        Op::Exists => out.extend_from_slice(b"exists"),
-        Op::Not => out.extend_from_slice(b"not"),
-        Op::And => out.extend_from_slice(b"and"),
-        Op::Or => out.extend_from_slice(b"or"),
-        Op::Xor => out.extend_from_slice(b"xor"),
-        Op::Implies => out.extend_from_slice(b"=>"),
-        Op::Equal => out.extend_from_slice(b"="),
-        Op::Distinct => out.extend_from_slice(b"distinct"),
-        Op::Ite => out.extend_from_slice(b"ite"),
-        Op::Neg | Op::Sub => out.extend_from_slice(b"-"),
-        Op::Add => out.extend_from_slice(b"+"),
-        Op::Mul => out.extend_from_slice(b"*"),
-        Op::Div => out.extend_from_slice(b"div"),
-        Op::Mod => out.extend_from_slice(b"mod"),
-        Op::Abs => out.extend_from_slice(b"abs"),
-        Op::Le => out.extend_from_slice(b"<="),
-        Op::Lt => out.extend_from_slice(b"<"),
-        Op::Concat => out.extend_from_slice(b"concat"),
+        Op::Forall => out.push_short(b"forall"),
+        Op::Exists => out.push_short(b"exists"),
+        Op::Not => out.push_short(b"not"),
+        Op::And => out.push_short(b"and"),
+        Op::Or => out.push_short(b"or"),
+        Op::Xor => out.push_short(b"xor"),
+        Op::Implies => out.push_short(b"=>"),
+        Op::Equal => out.push_short(b"="),
+        Op::Distinct => out.push_short(b"distinct"),
+        Op::Ite => out.push_short(b"ite"),
+        Op::Neg | Op::Sub => out.push_short(b"-"),
+        Op::Add => out.push_short(b"+"),
+        Op::Mul => out.push_short(b"*"),
+        Op::Div => out.push_short(b"div"),
+        Op::Mod => out.push_short(b"mod"),
+        Op::Abs => out.push_short(b"abs"),
+        Op::Le => out.push_short(b"<="),
+        Op::Lt => out.push_short(b"<"),
+        Op::Concat => out.push_short(b"concat"),
         Op::Extract { high, low } => push_indexed(b"extract", &[high, low], out),
-        Op::BvNot => out.extend_from_slice(b"bvnot"),
-        Op::BvNeg => out.extend_from_slice(b"bvneg"),
-        Op::BvAnd => out.extend_from_slice(b"bvand"),
-        Op::BvOr => out.extend_from_slice(b"bvor"),
-        Op::BvXor => out.extend_from_slice(b"bvxor"),
-        Op::BvAdd => out.extend_from_slice(b"bvadd"),
-        Op::BvMul => out.extend_from_slice(b"bvmul"),
-        Op::BvSub => out.extend_from_slice(b"bvsub"),
-        Op::BvUdiv => out.extend_from_slice(b"bvudiv"),
-        Op::BvUrem => out.extend_from_slice(b"bvurem"),
-        Op::BvSdiv => out.extend_from_slice(b"bvsdiv"),
-        Op::BvSrem => out.extend_from_slice(b"bvsrem"),
-        Op::BvSmod => out.extend_from_slice(b"bvsmod"),
-        Op::BvShl => out.extend_from_slice(b"bvshl"),
-        Op::BvLshr => out.extend_from_slice(b"bvlshr"),
-        Op::BvAshr => out.extend_from_slice(b"bvashr"),
-        Op::BvComp => out.extend_from_slice(b"bvcomp"),
-        Op::BvUlt => out.extend_from_slice(b"bvult"),
-        Op::BvUle => out.extend_from_slice(b"bvule"),
-        Op::BvSlt => out.extend_from_slice(b"bvslt"),
-        Op::BvSle => out.extend_from_slice(b"bvsle"),
+        Op::BvNot => out.push_short(b"bvnot"),
+        Op::BvNeg => out.push_short(b"bvneg"),
+        Op::BvAnd => out.push_short(b"bvand"),
+        Op::BvOr => out.push_short(b"bvor"),
+        Op::BvXor => out.push_short(b"bvxor"),
+        Op::BvAdd => out.push_short(b"bvadd"),
+        Op::BvMul => out.push_short(b"bvmul"),
+        Op::BvSub => out.push_short(b"bvsub"),
+        Op::BvUdiv => out.push_short(b"bvudiv"),
+        Op::BvUrem => out.push_short(b"bvurem"),
+        Op::BvSdiv => out.push_short(b"bvsdiv"),
+        Op::BvSrem => out.push_short(b"bvsrem"),
+        Op::BvSmod => out.push_short(b"bvsmod"),
+        Op::BvShl => out.push_short(b"bvshl"),
+        Op::BvLshr => out.push_short(b"bvlshr"),
+        Op::BvAshr => out.push_short(b"bvashr"),
+        Op::BvComp => out.push_short(b"bvcomp"),
+        Op::BvUlt => out.push_short(b"bvult"),
+        Op::BvUle => out.push_short(b"bvule"),
+        Op::BvSlt => out.push_short(b"bvslt"),
+        Op::BvSle => out.push_short(b"bvsle"),
         Op::ZeroExt(by) => push_indexed(b"zero_extend", &[by], out),
         Op::SignExt(by) => push_indexed(b"sign_extend", &[by], out),
         Op::RotL(by) => push_indexed(b"rotate_left", &[by], out),
         Op::RotR(by) => push_indexed(b"rotate_right", &[by], out),
-        Op::Select => out.extend_from_slice(b"select"),
-        Op::Store => out.extend_from_slice(b"store"),
+        Op::Select => out.push_short(b"select"),
+        Op::Store => out.push_short(b"store"),
     }
 }
 
@@ -91,12 +86,12 @@ fn push_constant_array(
     alloc: Global,
     table: &Printed,
     sort: SortId,
-    out: &mut Vec<u8>,
+    out: &mut Page,
 ) -> Result<(), AllocError>
     requires { IsSortId table.now.sorts sort }
-    ensures { OnOk result (out.new.items ≡ out.old.items ++ form_text (constant_array_form (sort_at table.now.sorts sort))) }
+    ensures { OnOk result (out.new ≡ out.old ++ form_text (constant_array_form (sort_at table.now.sorts sort))) }
 {
-    out.extend_from_slice(b"(as const ")?;
+    out.push_short(b"(as const ")?;
     table.push_sort(alloc, sort, out)?;
     out.push(b')')?;
     Ok(())
@@ -107,10 +102,10 @@ pub(crate) fn push_head(
     alloc: Global,
     table: &Printed,
     id: NodeId,
-    out: &mut Vec<u8>,
+    out: &mut Page,
 ) -> Result<(), AllocError>
     requires { IsNode table.now id }
-    ensures { OnOk result (out.new.items ≡ out.old.items ++ form_text (first_form (tree table.now id))) }
+    ensures { OnOk result (out.new ≡ out.old ++ form_text (first_form (tree table.now id))) }
 {
     push_operator(alloc, table, table.op(id), out)?;
     Ok(())
@@ -138,10 +133,10 @@ fn push_variable(
     alloc: Global,
     table: &Printed,
     id: NodeId,
-    out: &mut Vec<u8>,
+    out: &mut Page,
 ) -> Result<(), AllocError>
     requires { IsNode table.now id }
-    ensures { (x : Variable) → tree table.now id ≡ variable x → OnOk result (out.new.items ≡ out.old.items ++ form_text (variable_form x)) }
+    ensures { (x : Variable) → tree table.now id ≡ variable x → OnOk result (out.new ≡ out.old ++ form_text (variable_form x)) }
 {
     out.push(b'(')?;
     push_head(alloc, table, id, out)?;
@@ -156,10 +151,10 @@ fn push_variables(
     alloc: Global,
     table: &Printed,
     ids: &[NodeId],
-    out: &mut Vec<u8>,
+    out: &mut Page,
 ) -> Result<(), AllocError>
     requires { AreNodes table.now ids.now }
-    ensures { (xs : List Variable) → trees_at table.now ids.now ≡ map variable xs → OnOk result (out.new.items ≡ out.old.items ++ form_text (list_form (map variable_form xs))) }
+    ensures { (xs : List Variable) → trees_at table.now ids.now ≡ map variable xs → OnOk result (out.new ≡ out.old ++ form_text (list_form (map variable_form xs))) }
 {
     out.push(b'(')?;
     for (place, id) in ids.iter().enumerate() {
@@ -175,11 +170,11 @@ pub(crate) fn push_application(
     alloc: Global,
     table: &Printed,
     id: NodeId,
-    out: &mut Vec<u8>,
+    out: &mut Page,
 ) -> Result<(), AllocError>
     requires node { IsNode table.now id }
     requires applied { is_quantified (tree table.now id) ≡ false }
-    ensures { OnOk result (out.new.items ≡ out.old.items ++ opening (tree table.now id)) }
+    ensures { OnOk result (out.new ≡ out.old ++ opening (tree table.now id)) }
 {
     out.push(b'(')?;
     push_head(alloc, table, id, out)?;
@@ -191,11 +186,11 @@ pub(crate) fn push_binder(
     alloc: Global,
     table: &Printed,
     id: NodeId,
-    out: &mut Vec<u8>,
+    out: &mut Page,
 ) -> Result<(), AllocError>
     requires node { IsNode table.now id }
     requires quantified { is_quantified (tree table.now id) ≡ true }
-    ensures { OnOk result (out.new.items ≡ out.old.items ++ opening (tree table.now id)) }
+    ensures { OnOk result (out.new ≡ out.old ++ opening (tree table.now id)) }
 {
     let (variables, _) = binding(table, id).unwrap();
     out.push(b'(')?;

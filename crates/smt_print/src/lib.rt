@@ -12,6 +12,7 @@ mod layout;
 mod names;
 mod numbers;
 mod output;
+mod page;
 mod scope;
 mod scripts;
 mod stack;

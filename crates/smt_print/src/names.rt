@@ -1,6 +1,6 @@
 // What terms are printed of: a table, and which of its symbols need no bars.
 
-ghost use Rattle.std.specs.Prelude.{◌≡◌, ◌<◌, ◌++◌, ◌⊎◌, ℕ, get_or, IfOk, OnOk, OnErr, All, Some, true, false, IsTrue};
+ghost use Rattle.std.specs.Prelude.{◌≡◌, ◌<◌, ◌++◌, ◌⊎◌, ℕ, get_or, IfOk, OnOk, All, Some, true, false, IsTrue};
 ghost use Rattle.smt_lex.specs.FormText.{form_text};
 ghost use Rattle.smt_lex.specs.Names.{is_simple, printed_symbol};
 ghost use Rattle.smt_terms.specs.Rank.{sort_of};
@@ -9,13 +9,14 @@ ghost use Rattle.term_table.specs.Formulas.{tree, trees_at, symbol_at, term_over
 ghost use Rattle.term_table.specs.WrittenForms.{sort_form};
 ghost use Rattle.script_read.specs.CommandLists.{AreCommandsOf};
 
+use crate::page::Page;
 use script_read::{Command, Script};
 use smt_lex::symbol_text;
 use smt_terms::NodeId;
 use smt_values::{Op, SortId, SymId};
 use std::alloc::{AllocError, Global};
 use std::marker::Model;
-use term_table::{Table, sort_text};
+use term_table::Table;
 
 // A table, and which of its symbols are known to be printed without bars, so that a name is looked through once and not
 // wherever it occurs. Contracts see the table.
@@ -124,13 +125,12 @@ impl<'a> Printed<'a> {
         &self,
         alloc: Global,
         sort: SortId,
-        out: &mut Vec<u8>,
+        out: &mut Page,
     ) -> Result<(), AllocError>
         requires { IsSortId self.now.sorts sort }
-        ensures ok { OnOk result (out.new.items ≡ out.old.items ++ form_text (sort_form (sort_at self.now.sorts sort))) }
-        ensures refused { OnErr result (out.new.items ≡ out.old.items) }
+        ensures { OnOk result (out.new ≡ out.old ++ form_text (sort_form (sort_at self.now.sorts sort))) }
     {
-        sort_text(alloc, self.table, sort, out)
+        out.push_sort(alloc, self.table, sort)
     }
 
     // Appends a symbol.
@@ -138,16 +138,16 @@ impl<'a> Printed<'a> {
         &self,
         alloc: Global,
         symbol: SymId,
-        out: &mut Vec<u8>,
+        out: &mut Page,
     ) -> Result<(), AllocError>
         requires { IsSymbol self.now symbol }
-        ensures { OnOk result (out.new.items ≡ out.old.items ++ printed_symbol (symbol_at self.now symbol).name) }
+        ensures { OnOk result (out.new ≡ out.old ++ printed_symbol (symbol_at self.now symbol).name) }
     {
         let name = self.table.symbol_name(symbol);
         if self.is_plain(symbol) {
             return out.extend_from_slice(name);
         }
-        symbol_text(alloc, name, out)
+        out.push_symbol(alloc, name)
     }
 
     // Whether a symbol is known to be printed without bars.

@@ -125,6 +125,9 @@ impl Scopes {
     }
 }
 
+// How many places are made at once.
+const PLACES: usize = 1024;
+
 // Makes room for the place of a node.
 fn make_room(places: &mut Vec<u32>, node: usize) -> Result<(), AllocError>
     ensures room { OnOk result (node < length places.new.items) }
@@ -134,7 +137,7 @@ fn make_room(places: &mut Vec<u32>, node: usize) -> Result<(), AllocError>
     if node < places.len() {
         return Ok(());
     }
-    let len = node.checked_add(1).ok_or(AllocError)?;
+    let len = node.checked_add(PLACES).ok_or(AllocError)?;
     places.resize(len, 0)?;
     Ok(())
 }

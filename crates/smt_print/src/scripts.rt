@@ -15,6 +15,7 @@ use crate::draft::{Draft, pass_all, pass_on};
 use crate::layout::Layout;
 use crate::names::Printed;
 use crate::output::Output;
+use crate::page::Page;
 use crate::terms::print_term;
 use script_read::{Command, Script};
 use smt_io::Pieces;
@@ -32,12 +33,12 @@ fn print_assertion<O: Output>(
     out: &mut O,
 ) -> Result<(), AllocError>
     requires { IsNode table.now id }
-    ensures ok { OnOk result (Drafts (O.text out.old) draft.old.text.items (O.text out.new) draft.new.text.items (form_text (command_form (codes "assert") (term_form layout (tree table.now id) ∷ [])) ++ line_feed ∷ [])) }
-    ensures prefix { OnErr result (AppendsPrefix (O.text out.old) (O.text out.new) (draft.old.text.items ++ (form_text (command_form (codes "assert") (term_form layout (tree table.now id) ∷ [])) ++ line_feed ∷ []))) }
+    ensures ok { OnOk result (Drafts (O.text out.old) draft.old.text (O.text out.new) draft.new.text (form_text (command_form (codes "assert") (term_form layout (tree table.now id) ∷ [])) ++ line_feed ∷ [])) }
+    ensures prefix { OnErr result (AppendsPrefix (O.text out.old) (O.text out.new) (draft.old.text ++ (form_text (command_form (codes "assert") (term_form layout (tree table.now id) ∷ [])) ++ line_feed ∷ []))) }
 {
-    draft.text.extend_from_slice(b"(assert ")?;
+    draft.text.push_short(b"(assert ")?;
     print_term(alloc, table, id, layout, draft, out)?;
-    draft.text.extend_from_slice(b")\n")?;
+    draft.text.push_short(b")\n")?;
     Ok(())
 }
 
@@ -46,11 +47,11 @@ fn print_short(
     alloc: Global,
     table: &Printed,
     command: &Command,
-    text: &mut Vec<u8>,
+    text: &mut Page,
 ) -> Result<(), AllocError>
     requires numbers { IsCommandOf table.now command.now }
     requires other { is_assertion command.now ≡ false }
-    ensures { (layout : Layout) → OnOk result (text.new.items ≡ text.old.items ++ (command_text (term_form layout) (command_of table.now command.now) ++ line_feed ∷ [])) }
+    ensures { (layout : Layout) → OnOk result (text.new ≡ text.old ++ (command_text (term_form layout) (command_of table.now command.now) ++ line_feed ∷ [])) }
 {
     push_command(alloc, table.table(), command, text)?;
     text.push(b'\n')?;
@@ -67,8 +68,8 @@ fn print_command<O: Output>(
     out: &mut O,
 ) -> Result<(), AllocError>
     requires { IsCommandOf table.now command.now }
-    ensures ok { OnOk result (Drafts (O.text out.old) draft.old.text.items (O.text out.new) draft.new.text.items (command_text (term_form layout) (command_of table.now command.now) ++ line_feed ∷ [])) }
-    ensures prefix { OnErr result (AppendsPrefix (O.text out.old) (O.text out.new) (draft.old.text.items ++ (command_text (term_form layout) (command_of table.now command.now) ++ line_feed ∷ []))) }
+    ensures ok { OnOk result (Drafts (O.text out.old) draft.old.text (O.text out.new) draft.new.text (command_text (term_form layout) (command_of table.now command.now) ++ line_feed ∷ [])) }
+    ensures prefix { OnErr result (AppendsPrefix (O.text out.old) (O.text out.new) (draft.old.text ++ (command_text (term_form layout) (command_of table.now command.now) ++ line_feed ∷ []))) }
 {
     match command {
         Command::Assert { id, .. } => print_assertion(alloc, table, *id, layout, draft, out),

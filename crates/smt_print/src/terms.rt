@@ -25,8 +25,8 @@ pub(crate) fn print_term<O: Output>(
     out: &mut O,
 ) -> Result<(), AllocError>
     requires { IsNode table.now id }
-    ensures ok { OnOk result (Drafts (O.text out.old) draft.old.text.items (O.text out.new) draft.new.text.items (text layout (tree table.now id))) }
-    ensures prefix { OnErr result (AppendsPrefix (O.text out.old) (O.text out.new) (draft.old.text.items ++ text layout (tree table.now id))) }
+    ensures ok { OnOk result (Drafts (O.text out.old) draft.old.text (O.text out.new) draft.new.text (text layout (tree table.now id))) }
+    ensures prefix { OnErr result (AppendsPrefix (O.text out.old) (O.text out.new) (draft.old.text ++ text layout (tree table.now id))) }
 {
     match layout {
         Layout::Tree => print_tree(alloc, table, id, draft, out),
@@ -35,20 +35,20 @@ pub(crate) fn print_term<O: Output>(
 }
 
 // Appends the text of a term.
-pub(crate) fn push_term(
+pub(crate) fn push_term<O: Output>(
     alloc: Global,
     table: &Table,
     id: NodeId,
     layout: Layout,
-    out: &mut Vec<u8>,
+    out: &mut O,
 ) -> Result<(), AllocError>
     requires { IsNode table.now id }
-    ensures { OnOk result (out.new.items ≡ out.old.items ++ text layout (tree table.now id)) }
+    ensures { OnOk result (O.text out.new ≡ O.text out.old ++ text layout (tree table.now id)) }
 {
     let printed = Printed::new(alloc, table);
     let mut draft = Draft::new(alloc);
     print_term(alloc, &printed, id, layout, &mut draft, out)?;
-    out.extend_from_slice(&draft.text)?;
+    out.append(draft.text.as_slice())?;
     Ok(())
 }
 

@@ -11,6 +11,7 @@ use crate::draft::{Draft, pass_on};
 use crate::heads::{binding, push_application, push_binder, push_head};
 use crate::names::Printed;
 use crate::output::Output;
+use crate::page::Page;
 use crate::stack::Stack;
 use smt_terms::NodeId;
 use std::alloc::{AllocError, Global};
@@ -42,11 +43,11 @@ fn open_term(
     table: &Printed,
     id: NodeId,
     steps: &mut Stack<Step>,
-    text: &mut Vec<u8>,
+    text: &mut Page,
 ) -> Result<(), AllocError>
     requires { IsNode table.now id }
-    ensures leads { (done whole : List ℕ) → Leads table.now steps.old (done ++ (text.old.items ++ form_text (tree_form (tree table.now id)))) whole
-        → OnOk result (Leads table.now steps.new (done ++ text.new.items) whole) }
+    ensures leads { (done whole : List ℕ) → Leads table.now steps.old (done ++ (text.old ++ form_text (tree_form (tree table.now id)))) whole
+        → OnOk result (Leads table.now steps.new (done ++ text.new) whole) }
     ensures nearer { OnOk result (weights table.now steps.new < weights table.now (Step.Operand id ∷ steps.old)) }
 {
     let kids = table.kids(id);
@@ -76,10 +77,10 @@ fn take_step(
     table: &Printed,
     step: Step,
     steps: &mut Stack<Step>,
-    text: &mut Vec<u8>,
+    text: &mut Page,
 ) -> Result<(), AllocError>
     requires { (done whole : List ℕ) × Leads table.now (step ∷ steps.old) done whole }
-    ensures leads { (done whole : List ℕ) → Leads table.now (step ∷ steps.old) (done ++ text.old.items) whole → OnOk result (Leads table.now steps.new (done ++ text.new.items) whole) }
+    ensures leads { (done whole : List ℕ) → Leads table.now (step ∷ steps.old) (done ++ text.old) whole → OnOk result (Leads table.now steps.new (done ++ text.new) whole) }
     ensures nearer { OnOk result (weights table.now steps.new < weights table.now (step ∷ steps.old)) }
 {
     match step {
@@ -104,8 +105,8 @@ pub(crate) fn print_tree<O: Output>(
     out: &mut O,
 ) -> Result<(), AllocError>
     requires { IsNode table.now root }
-    ensures ok { OnOk result (Drafts (O.text out.old) draft.old.text.items (O.text out.new) draft.new.text.items (form_text (tree_form (tree table.now root)))) }
-    ensures prefix { OnErr result (AppendsPrefix (O.text out.old) (O.text out.new) (draft.old.text.items ++ form_text (tree_form (tree table.now root)))) }
+    ensures ok { OnOk result (Drafts (O.text out.old) draft.old.text (O.text out.new) draft.new.text (form_text (tree_form (tree table.now root)))) }
+    ensures prefix { OnErr result (AppendsPrefix (O.text out.old) (O.text out.new) (draft.old.text ++ form_text (tree_form (tree table.now root)))) }
 {
     draft.tree.clear();
     open_term(alloc, table, root, &mut draft.tree, &mut draft.text)?;

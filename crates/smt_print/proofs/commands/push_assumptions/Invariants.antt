@@ -6,4 +6,4 @@ use Rattle.smt_print.proofs.ListTexts.{list_begun}
 use Rattle.smt_print.proofs.commands.push_assumptions.Given as goal
 
 abbrev pub invariant-loop-i : goal.invariant-loop-i
-invariant-loop-i l = l.out.items ≡ (l.fn.out.items ++ codes "(check-sat-assuming ") ++ list_begun (λ k. tree_form (tree l.fn.table k)) l.literals l.i
+invariant-loop-i l = l.out ≡ (l.fn.out ++ codes "(check-sat-assuming ") ++ list_begun (λ k. tree_form (tree l.fn.table k)) l.literals l.i

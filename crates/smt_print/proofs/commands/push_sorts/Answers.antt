@@ -8,11 +8,11 @@ use Rattle.smt_print.proofs.commands.push_sorts.Goals as goal
 
 pub loop-place-preserved : goal.loop-place-preserved
 loop-place-preserved c =
-    part-more (λ s. sort_form (sort_at c.args.table.now.sorts s)) c.args.sorts.now c.args.out.now.items c.loop-place.out.items c.push_separator.new.out.items c.sort_text.new.out.items c.loop-place.place (record { 0 = 0 })
-    c.loop-place-test.true c.loop-place.invariant c.in_ok-push_separator.ensures c.in_ok-sort_text.ensures.ok
+    part-more (λ s. sort_form (sort_at c.args.table.now.sorts s)) c.args.sorts.now c.args.out.now c.loop-place.out c.push_separator.new.out c.push_sort.new.self c.loop-place.place (record { 0 = 0 })
+    c.loop-place-test.true c.loop-place.invariant c.in_ok-push_separator.ensures c.in_ok-push_sort.ensures
 
 pub returns : goal.returns
 returns c =
     let past = c.loop-place-test.false in
-    parts-end (λ s. sort_form (sort_at c.args.table.now.sorts s)) c.args.sorts.now c.args.out.now.items c.loop-place.out.items c.push-2.new.self.items c.loop-place.place (omega arith) c.loop-place.invariant c.in_ok-push-2.ensures.items
-    ∙ ap (λ fs. c.args.out.now.items ++ form_text (list_form fs)) (map-map sort_form (sort_at c.args.table.now.sorts) c.args.sorts.now)
+    parts-end (λ s. sort_form (sort_at c.args.table.now.sorts s)) c.args.sorts.now c.args.out.now c.loop-place.out c.push-2.new.self c.loop-place.place (omega arith) c.loop-place.invariant c.in_ok-push-2.ensures
+    ∙ ap (λ fs. c.args.out.now ++ form_text (list_form fs)) (map-map sort_form (sort_at c.args.table.now.sorts) c.args.sorts.now)

@@ -15,22 +15,22 @@ loop-step-init g c = record {
   printed = (
     [],
     sym (append-nil (g.O.Output.text c.args.out.now)),
-    root-begun c.args.table.now c.args.root c.clear.new.self c.push.new.self c.args.draft.now.text.items c.requires c.clear.ensures.current c.clear.ensures.outer
+    root-begun c.args.table.now c.args.root c.clear.new.self c.push.new.self c.args.draft.now.text c.requires c.clear.ensures.current c.clear.ensures.outer
         (c.in_ok-push.ensures.ok ∙ ap (λ ss. Visit c.args.root ∷ ss) c.clear-2.ensures),
   );
 }
 
 pub take_step-requires-clause-standing : goal.take_step-requires-clause-standing
 take_step-requires-clause-standing g c =
-    let whole = c.args.draft.now.text.items ++ form_text (dag_form (tree c.args.table.now c.args.root)) in
+    let whole = c.args.draft.now.text ++ form_text (dag_form (tree c.args.table.now c.args.root)) in
     let (done, is, leads) = c.loop-step.invariant.printed in
-    let before = done ++ c.loop-step.draft.text.items in
+    let before = done ++ c.loop-step.draft.text in
     (c.args.root, before, whole, next-step c.args.table.now c.args.root c.loop-step.draft.scopes c.loop-step.draft.dag (c.in-Some.step ∷ c.pop.new.self) before whole c.in-Some.ensures leads)
 
 pub loop-step-preserved : goal.loop-step-preserved
 loop-step-preserved g c =
     let t = c.args.table.now in
-    let whole = c.args.draft.now.text.items ++ form_text (dag_form (tree t c.args.root)) in
+    let whole = c.args.draft.now.text ++ form_text (dag_form (tree t c.args.root)) in
     let (done, is, leads) = c.loop-step.invariant.printed in
     let (more, after, same) = c.in_ok-pass_on.ensures.ok in
     record {
@@ -38,16 +38,16 @@ loop-step-preserved g c =
       printed = (
         done ++ more,
         after ∙ ap (λ xs. xs ++ more) is ∙ append_assoc (g.O.Output.text c.args.out.now) done more,
-        subst (λ (xs : List ℕ). LeadsFrom t c.args.root c.take_step.new.scopes c.take_step.new.steps xs whole) (passed done c.take_step.new.text.items more c.pass_on.new.text.items same)
+        subst (λ (xs : List ℕ). LeadsFrom t c.args.root c.take_step.new.scopes c.take_step.new.steps xs whole) (passed done c.take_step.new.text more c.pass_on.new.text same)
             (c.in_ok-take_step.ensures.leads c.args.root done whole
-            (next-step t c.args.root c.loop-step.draft.scopes c.loop-step.draft.dag (c.in-Some.step ∷ c.pop.new.self) (done ++ c.loop-step.draft.text.items) whole c.in-Some.ensures leads)),
+            (next-step t c.args.root c.loop-step.draft.scopes c.loop-step.draft.dag (c.in-Some.step ∷ c.pop.new.self) (done ++ c.loop-step.draft.text) whole c.in-Some.ensures leads)),
       );
     }
 
 pub returns-in_err-take_step-clause-prefix : goal.returns-in_err-take_step-clause-prefix
 returns-in_err-take_step-clause-prefix g c =
-    let waits = c.loop-step.draft.text.items in
-    let whole = c.args.draft.now.text.items ++ form_text (dag_form (tree c.args.table.now c.args.root)) in
+    let waits = c.loop-step.draft.text in
+    let whole = c.args.draft.now.text ++ form_text (dag_form (tree c.args.table.now c.args.root)) in
     let (done, is, leads) = c.loop-step.invariant.printed in
     let (rest, all) = leads-whole-from c.args.table.now c.args.root c.loop-step.draft.scopes c.loop-step.draft.dag (done ++ waits) whole leads in
     on_err c.from_residual-in_err-take_step.result (AppendsPrefix (g.O.Output.text c.args.out.now) (g.O.Output.text c.loop-step.out) whole)
@@ -56,21 +56,21 @@ returns-in_err-take_step-clause-prefix g c =
 pub returns-in_err-pass_on-clause-prefix : goal.returns-in_err-pass_on-clause-prefix
 returns-in_err-pass_on-clause-prefix g c =
     let t = c.args.table.now in
-    let whole = c.args.draft.now.text.items ++ form_text (dag_form (tree t c.args.root)) in
+    let whole = c.args.draft.now.text ++ form_text (dag_form (tree t c.args.root)) in
     let (done, is, leads) = c.loop-step.invariant.printed in
     let more =
     c.in_ok-take_step.ensures.leads c.args.root done whole
-    (next-step t c.args.root c.loop-step.draft.scopes c.loop-step.draft.dag (c.in-Some.step ∷ c.pop.new.self) (done ++ c.loop-step.draft.text.items) whole c.in-Some.ensures leads)
+    (next-step t c.args.root c.loop-step.draft.scopes c.loop-step.draft.dag (c.in-Some.step ∷ c.pop.new.self) (done ++ c.loop-step.draft.text) whole c.in-Some.ensures leads)
     in
-    let (rest, all) = leads-whole-from t c.args.root c.take_step.new.scopes c.take_step.new.steps (done ++ c.take_step.new.text.items) whole more in
+    let (rest, all) = leads-whole-from t c.args.root c.take_step.new.scopes c.take_step.new.steps (done ++ c.take_step.new.text) whole more in
     on_err c.from_residual-in_err-pass_on.result (AppendsPrefix (g.O.Output.text c.args.out.now) (g.O.Output.text c.pass_on.new.out) whole)
-    (prefix-piece (g.O.Output.text c.args.out.now) (g.O.Output.text c.loop-step.out) (g.O.Output.text c.pass_on.new.out) done c.take_step.new.text.items c.take_step.new.text.items rest whole
+    (prefix-piece (g.O.Output.text c.args.out.now) (g.O.Output.text c.loop-step.out) (g.O.Output.text c.pass_on.new.out) done c.take_step.new.text c.take_step.new.text rest whole
     is c.in_err-pass_on.ensures.prefix refl all)
 
 pub returns-in_err-push_end-clause-prefix : goal.returns-in_err-push_end-clause-prefix
 returns-in_err-push_end-clause-prefix g c =
-    let waits = c.loop-step.draft.text.items in
-    let whole = c.args.draft.now.text.items ++ form_text (dag_form (tree c.args.table.now c.args.root)) in
+    let waits = c.loop-step.draft.text in
+    let whole = c.args.draft.now.text ++ form_text (dag_form (tree c.args.table.now c.args.root)) in
     let (done, is, leads) = c.loop-step.invariant.printed in
     let (rest, all) = leads-whole-from c.args.table.now c.args.root c.loop-step.draft.scopes c.loop-step.draft.dag (done ++ waits) whole leads in
     on_err c.from_residual-in_err-push_end.result (AppendsPrefix (g.O.Output.text c.args.out.now) (g.O.Output.text c.loop-step.out) whole)
@@ -78,8 +78,8 @@ returns-in_err-push_end-clause-prefix g c =
 
 pub returns-clause-ok : goal.returns-clause-ok
 returns-clause-ok g c =
-    let waits = c.loop-step.draft.text.items in
-    let whole = c.args.draft.now.text.items ++ form_text (dag_form (tree c.args.table.now c.args.root)) in
+    let waits = c.loop-step.draft.text in
+    let whole = c.args.draft.now.text ++ form_text (dag_form (tree c.args.table.now c.args.root)) in
     let (done, is, leads) = c.loop-step.invariant.printed in
     let last = end_text (definitions_at c.args.table.now c.loop-step.draft.scopes.current) (tree c.args.table.now c.args.root) in
     let (known, all) = root-left c.args.table.now c.args.root c.loop-step.draft.scopes c.loop-step.draft.dag (done ++ waits) whole c.in_default.ensures.0 leads in

@@ -9,7 +9,7 @@ abbrev pub invariant-loop-step : goal.invariant-loop-step
 invariant-loop-step g l = record {
   scopes : AreScopes l.table l.draft.scopes;
   printed : (done : List ℕ) × (g.O.Output.text l.out ≡ g.O.Output.text l.fn.out ++ done)
-      × LeadsFrom l.table l.fn.root l.draft.scopes l.draft.dag (done ++ l.draft.text.items) (l.fn.draft.text.items ++ form_text (dag_form (tree l.table l.fn.root)));
+      × LeadsFrom l.table l.fn.root l.draft.scopes l.draft.dag (done ++ l.draft.text) (l.fn.draft.text ++ form_text (dag_form (tree l.table l.fn.root)));
 }
 
 abbrev pub decreases-loop-step : goal.decreases-loop-step

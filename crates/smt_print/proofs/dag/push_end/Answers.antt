@@ -13,5 +13,5 @@ returns c =
     let past = c.loop-test.false in
     let most = c.loop.auto.counter-end in
     let all : c.loop.counter ≡ length ds = omega (arith, c.len-end.ensures, length-definitions c.args.table.now c.args.scopes.now.current) in
-    c.loop.invariant ∙ ap (λ xs. xs ++ replicate c.loop.counter 41) c.in_ok-push_reference.ensures ∙ append_assoc c.args.text.now.items shown (replicate c.loop.counter 41)
-    ∙ ap (λ n. c.args.text.now.items ++ (shown ++ replicate n 41)) all
+    c.loop.invariant ∙ ap (λ xs. xs ++ replicate c.loop.counter 41) c.in_ok-push_reference.ensures ∙ append_assoc c.args.text.now shown (replicate c.loop.counter 41)
+    ∙ ap (λ n. c.args.text.now ++ (shown ++ replicate n 41)) all

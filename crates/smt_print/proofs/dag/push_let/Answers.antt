@@ -11,6 +11,6 @@ opened old k = append_assoc (old ++ codes "(let ((.def_") (numeral k) (space ∷
 
 pub returns : goal.returns
 returns c =
-    c.in_ok-push.ensures.items
-    ∙ ap (λ xs. xs ++ space ∷ []) (c.in_ok-push_number.ensures ∙ ap (λ xs. xs ++ numeral c.args.number) c.in_ok-extend_from_slice.ensures.items)
-    ∙ opened c.args.text.now.items c.args.number
+    c.in_ok-push.ensures
+    ∙ ap (λ xs. xs ++ space ∷ []) (c.in_ok-push_number.ensures ∙ ap (λ xs. xs ++ numeral c.args.number) c.in_ok-push_short.ensures)
+    ∙ opened c.args.text.now c.args.number

@@ -15,7 +15,7 @@ pub returns-then-is_empty : goal.returns-then-is_empty
 returns-then-is_empty c =
     let u = tree c.args.table.now c.args.id in
     let leaf = none-below c.args.table.now u c.kids-kids.result.now c.is_empty.result c.is_empty.ensures c.if-is_empty.true c.kids-kids.ensures.terms in
-    c.in_ok-push_head.ensures ∙ ap (λ f. c.args.text.now.items ++ form_text f) (leaf-reference (definitions_at c.args.table.now c.args.scopes.now.current) u leaf)
+    c.in_ok-push_head.ensures ∙ ap (λ f. c.args.text.now ++ form_text f) (leaf-reference (definitions_at c.args.table.now c.args.scopes.now.current) u leaf)
 
 pub unwrap-requires : goal.unwrap-requires
 unwrap-requires c =
@@ -30,5 +30,5 @@ returns c =
     let some = some-below t (tree t c.args.id) c.kids-kids.result.now c.is_empty.result c.is_empty.ensures c.if-is_empty.false c.kids-kids.ensures.terms in
     let has = known-has t c.args.scopes.now.current c.args.id c.kids-kids.ensures.table c.requires.scope.nodes c.requires.node some c.requires.known in
     let number = some_same (sym c.unwrap.ensures ∙ number-is c.number.result c.args.scopes.now.current c.args.id c.number.ensures has) in
-    c.in_ok-push_name.ensures ∙ ap (λ n. c.args.text.now.items ++ definition_name n) number
-    ∙ ap (λ xs. c.args.text.now.items ++ xs) (reference-text t c.args.scopes.now.current c.args.id c.kids-kids.ensures.table c.requires.scope.nodes c.requires.node some has)
+    c.in_ok-push_name.ensures ∙ ap (λ n. c.args.text.now ++ definition_name n) number
+    ∙ ap (λ xs. c.args.text.now ++ xs) (reference-text t c.args.scopes.now.current c.args.id c.kids-kids.ensures.table c.requires.scope.nodes c.requires.node some has)

@@ -11,13 +11,13 @@ close-requires-clause-closable c =
 pub returns-in_ok-visit-in-Visit-clause-leads : goal.returns-in_ok-visit-in-Visit-clause-leads
 returns-in_ok-visit-in-Visit-clause-leads c root done whole leads =
     c.in_ok-visit-in-Visit.ensures.leads root done whole
-    (step-is c.args.table.now root c.args.scopes.now c.args.step (Visit c.in-Visit.id) c.args.steps.now (done ++ c.args.text.now.items) whole c.in-Visit.is leads)
+    (step-is c.args.table.now root c.args.scopes.now c.args.step (Visit c.in-Visit.id) c.args.steps.now (done ++ c.args.text.now) whole c.in-Visit.is leads)
 
 pub returns-in_ok-define-in-Define-clause-leads : goal.returns-in_ok-define-in-Define-clause-leads
 returns-in_ok-define-in-Define-clause-leads c root done whole leads =
-    define-leads c.args.table.now root c.args.scopes.now c.define.new.scopes c.in-Define.id c.args.steps.now c.args.text.now.items c.define.new.text.items done whole
+    define-leads c.args.table.now root c.args.scopes.now c.define.new.scopes c.in-Define.id c.args.steps.now c.args.text.now c.define.new.text done whole
     c.in_ok-define-in-Define.ensures.text c.in_ok-define-in-Define.ensures.current c.in_ok-define-in-Define.ensures.outer
-    (step-is c.args.table.now root c.args.scopes.now c.args.step (Define c.in-Define.id) c.args.steps.now (done ++ c.args.text.now.items) whole c.in-Define.is leads)
+    (step-is c.args.table.now root c.args.scopes.now c.args.step (Define c.in-Define.id) c.args.steps.now (done ++ c.args.text.now) whole c.in-Define.is leads)
 
 pub returns-in_ok-define-in-Define-clause-scopes : goal.returns-in_ok-define-in-Define-clause-scopes
 returns-in_ok-define-in-Define-clause-scopes c =
@@ -29,4 +29,4 @@ returns-in_ok-define-in-Define-clause-scopes c =
 pub returns-in_ok-close-in-Close-clause-leads : goal.returns-in_ok-close-in-Close-clause-leads
 returns-in_ok-close-in-Close-clause-leads c root done whole leads =
     c.in_ok-close-in-Close.ensures.leads root c.args.steps.now done whole
-    (step-is c.args.table.now root c.args.scopes.now c.args.step (Close c.in-Close.id) c.args.steps.now (done ++ c.args.text.now.items) whole c.in-Close.is leads)
+    (step-is c.args.table.now root c.args.scopes.now c.args.step (Close c.in-Close.id) c.args.steps.now (done ++ c.args.text.now) whole c.in-Close.is leads)

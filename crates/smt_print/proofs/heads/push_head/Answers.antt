@@ -11,4 +11,4 @@ push_operator-requires-clause-scalar c s same = constant-scalar c.args.table.now
 pub returns : goal.returns
 returns c =
     c.in_ok-push_operator.ensures
-    ∙ ap (λ f. c.args.out.now.items ++ form_text f) (sym (ap first_form c.op.ensures.term ∙ first-kind c.args.table.now.symbols c.args.table.now.sorts (kind c.op.result) (operands (tree c.args.table.now c.args.id))))
+    ∙ ap (λ f. c.args.out.now ++ form_text f) (sym (ap first_form c.op.ensures.term ∙ first-kind c.args.table.now.symbols c.args.table.now.sorts (kind c.op.result) (operands (tree c.args.table.now c.args.id))))

@@ -5,6 +5,6 @@ use Rattle.smt_print.proofs.heads.push_variable.Goals as goal
 
 pub returns : goal.returns
 returns c x is =
-    variable-text c.args.out.now.items c.push.new.self.items c.push_head.new.out.items c.push-2.new.self.items c.push_sort.new.out.items c.push-3.new.self.items
+    variable-text c.args.out.now c.push.new.self c.push_head.new.out c.push-2.new.self c.push_sort.new.out c.push-3.new.self
     (tree c.args.table.now c.args.id) (sort_at c.args.table.now.sorts c.sort_of.result) x is c.sort_of.ensures.sort
-    c.in_ok-push.ensures.items c.in_ok-push_head.ensures c.in_ok-push-2.ensures.items c.in_ok-push_sort.ensures.ok c.in_ok-push-3.ensures.items
+    c.in_ok-push.ensures c.in_ok-push_head.ensures c.in_ok-push-2.ensures c.in_ok-push_sort.ensures c.in_ok-push-3.ensures

@@ -10,5 +10,5 @@ loop-place-preserved c xs same =
     let i = c.loop-place.place in
     let d : Variable = record { name = []; sort = bool } in
     let at = variable-at c.args.table.now c.args.ids.now xs i (record { 0 = 0 }) d same c.loop-place-test.true in
-    part-more variable_form xs c.args.out.now.items c.loop-place.out.items c.push_separator.new.out.items c.push_variable.new.out.items i d at.0 (c.loop-place.invariant xs same)
+    part-more variable_form xs c.args.out.now c.loop-place.out c.push_separator.new.out c.push_variable.new.out i d at.0 (c.loop-place.invariant xs same)
     c.in_ok-push_separator.ensures (c.in_ok-push_variable.ensures (get_or xs i d) at.1)

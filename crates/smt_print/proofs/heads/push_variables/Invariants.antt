@@ -7,4 +7,4 @@ use Rattle.smt_print.proofs.ListTexts.{list_begun}
 use Rattle.smt_print.proofs.heads.push_variables.Given as goal
 
 abbrev pub invariant-loop-place : goal.invariant-loop-place
-invariant-loop-place l = (xs : List Variable) → trees_at l.fn.table l.ids ≡ map variable xs → l.out.items ≡ l.fn.out.items ++ list_begun variable_form xs l.place
+invariant-loop-place l = (xs : List Variable) → trees_at l.fn.table l.ids ≡ map variable xs → l.out ≡ l.fn.out ++ list_begun variable_form xs l.place

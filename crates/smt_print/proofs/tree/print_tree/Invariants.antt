@@ -8,7 +8,7 @@ use Rattle.smt_print.proofs.tree.print_tree.Given as goal
 abbrev pub invariant-loop-step : goal.invariant-loop-step
 invariant-loop-step g l = record {
   printed : (done : List ℕ) × (g.O.Output.text l.out ≡ g.O.Output.text l.fn.out ++ done)
-      × Leads l.table l.draft.tree (done ++ l.draft.text.items) (l.fn.draft.text.items ++ form_text (tree_form (tree l.table l.fn.root)));
+      × Leads l.table l.draft.tree (done ++ l.draft.text) (l.fn.draft.text ++ form_text (tree_form (tree l.table l.fn.root)));
 }
 
 abbrev pub decreases-loop-step : goal.decreases-loop-step
