@@ -34,8 +34,8 @@ returns-clause-text c =
     let is = c.in_ok-script.ensures.script in
     let text : c.script_into.new.out ≡ rewritten b c.args.passes.now c.args.layout =
     c.in_ok-script_into.ensures.ok
-    ∙ ap (λ (t : Formulas). c.new-text.result ++ lines c.args.layout (commands_of t c.in_ok-script-2.script.commands)) (c.deref.ensures ∙ c.new-table-2.ensures)
-    ∙ ap (λ (old : List ℕ). old ++ lines c.args.layout (commands_of c.run_passes.new.table c.in_ok-script-2.script.commands)) c.new-text.ensures
+    ∙ ap (λ (t : Formulas). c.over-text.result ++ lines c.args.layout (commands_of t c.in_ok-script-2.script.commands)) (c.deref.ensures ∙ c.new-table-2.ensures)
+    ∙ ap (λ (old : List ℕ). old ++ lines c.args.layout (commands_of c.run_passes.new.table c.in_ok-script-2.script.commands)) c.over-text.ensures
     ∙ ap (λ (cs : List (Command Term)). lines c.args.layout cs) c.in_ok-script-2.ensures.commands
     ∙ ap (λ (r : Result (List (Command Term) × Supply) Unaccepted). lines c.args.layout (passed c.args.passes.now (read_or_none r).0 (read_or_none r).1).0) (sym is) in
     let accepted : script_end b ≡ None = accepted_ends b c.requires.short read is in
