@@ -44,7 +44,7 @@ pub fn read_script(
 fn make_room(table: &mut Table, forest: &Forest)
     ensures { IsUnchanged table.old table.new }
 {
-    let _ = table.reserve(forest.len() / 5);
+    let _ = table.reserve(forest.len() / 4);
 }
 
 // Reads all commands of a text.
