@@ -1,4 +1,4 @@
--- Models as they are printed: SMT-LIB 2.6, section 4.1.9, with `(@sort S ELEMENT ..)` for the elements of a free sort, and the
+-- Models as they are printed: SMT-LIB 2.6, section 4.2.6, with `(@sort S ELEMENT ..)` for the elements of a free sort, and the
 -- names `@div0` and `@mod0` for the tables of `div` and `mod` by zero.
 use Rattle.std.specs.Prelude.{ℕ, zero, suc, Bool, true, not, if◌then◌else◌, List, [], ◌∷◌, ◌++◌, map, flat_map, codes, pos, unwrap_or}
 use Rattle.std.specs.Ordering.{int_eq}

@@ -1,4 +1,4 @@
--- The model that a text gives: SMT-LIB 2.6, section 4.1.9 (`get-model` answers with definitions), with further entries for
+-- The model that a text gives: SMT-LIB 2.6, section 4.2.6 (`get-model` answers with definitions), with further entries for
 -- the elements of free sorts and for `div` and `mod` by zero.
 use Rattle.std.specs.Prelude.{ℕ, if◌then◌else◌, List, [], ◌∷◌, map, length, codes, Result, Ok, Err, Option, Some, None, unwrap_or}
 use Rattle.std.specs.List.{list_any}

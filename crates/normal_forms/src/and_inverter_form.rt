@@ -1,4 +1,17 @@
-//! And-inverter form.
+//! And-inverter form: `aig t`, which has the value of the formula t, through connectives and quantifiers to the atoms, with
+//! only `and` and `not`, and no `not` over a `not`. Over the forms of the operands, and with `!a` for a without its `not`,
+//! or else `(not a)`:
+//!
+//! - `(not a)`: `!a`
+//! - `(and a ..)`: `(and a ..)`
+//! - `(or a ..)`: `!(and !a ..)`
+//! - `(=> a b)`: `!(and a !b)`
+//! - `(= a b)`: `(and !(and a !b) !(and !a b))`
+//! - `(xor a b)`: `!(and !(and a !b) !(and !a b))`
+//! - `(distinct a b)` as `(xor a b)`; of three or more truth values `false`
+//! - `(ite c a b)`: `(and !(and c !a) !(and !c !b))`
+//! - `(forall (x) a)`: itself over the form of a, and so `exists`
+//! - `true`, `false`, an atom: itself
 
 ghost use Rattle.std.specs.Prelude.{◌≡◌, ◌∷◌, [], ◌+◌, ◌≤◌, length, map, true, Some, All, IsSome, IsTrue, IfOk};
 ghost use Rattle.smt_terms.specs.Connectives.{all_of, opposite};

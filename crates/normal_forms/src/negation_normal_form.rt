@@ -1,4 +1,18 @@
-//! Negation normal form.
+//! Negation normal form: `nnf t`, which has the value of the formula t, beside `nnf_not t`, which has the other one. Both go
+//! through connectives and quantifiers to the atoms, and hold only `and`, `or`, and `not` over atoms. With + for `nnf` and -
+//! for `nnf_not` of the operands:
+//!
+//! - `(not a)`: a-; and a+
+//! - `(and a ..)`: `(and a+ ..)`; and `(or a- ..)`
+//! - `(or a ..)`: `(or a+ ..)`; and `(and a- ..)`
+//! - `(=> a b)`: `(or a- b+)`; and `(and a+ b-)`
+//! - `(= a b)`: `(and (or a- b+) (or a+ b-))`; and the form of `(xor a b)`
+//! - `(xor a b)`: `(or (and a+ b-) (and a- b+))`; and the form of `(= a b)`
+//! - `(distinct a b)` as `(xor a b)`; of three or more truth values `false`; and `true`
+//! - `(ite c a b)`: `(and (or c- a+) (or c+ b+))`; and `(and (or c- a-) (or c+ b-))`
+//! - `(forall (x) a)`: `(forall (x) a+)`; and `(exists (x) a-)`, and the other way round
+//! - `true` and `false`: itself; and the other one
+//! - an atom p: p; and `(not p)`
 
 ghost use Rattle.std.specs.Prelude.{◌≡◌, ◌∷◌, [], ◌+◌, ◌≤◌, List, length, map, true, Some, All, IsSome, IsTrue, IfOk, OnOk};
 ghost use Rattle.smt_terms.specs.Sorts.{bool};

@@ -1,4 +1,4 @@
--- Scripts behind passes. A pass goes through the assertions in order (SMT-LIB 2.6, section 4.2.2) and puts a group in the
+-- Scripts behind passes. A pass goes through the assertions in order (SMT-LIB 2.6, section 4.2.4) and puts a group in the
 -- place of each: the declarations of its new symbols in the order in which they were drawn, and then its assertions, which
 -- keep the number of the one that they replace. An equivalence pass puts one assertion there and declares nothing. Other
 -- commands stay, but the removal of applications takes the declarations of functions with arguments away.

@@ -1,5 +1,5 @@
--- Commands, and the state of a script at its checks: SMT-LIB 2.6, sections 4.1.4 (levels), 4.2.1 and 4.2.2 (declarations,
--- assertions and checks), and `:global-declarations` of section 4.1.7. What an assertion holds is left open: a term, or a
+-- Commands, and the state of a script at its checks: SMT-LIB 2.6, sections 4.1.4 and 4.2.1 to 4.2.5 (levels, resets,
+-- declarations, assertions and checks), and `:global-declarations` of section 4.1.7. What an assertion holds is left open: a term, or a
 -- form with what is bound where it stands.
 use Rattle.std.specs.Prelude.{ℕ, zero, suc, Bool, true, false, List, [], ◌∷◌, ◌++◌, map, flat_map, drop, replicate, count_by, Option, Some, None}
 use Rattle.smt_terms.specs.Sorts.{Name, Symbol}

@@ -8,27 +8,33 @@ use std::alloc::{AllocError, AllocFailed, Global};
 use std::marker::Model;
 use term_table::{Bytes, Nodes};
 
-/// A command of a script (SMT-LIB 2.6, section 3.9). Definitions, names of terms and names of sorts are gone: each term
-/// has what they stand for.
+/// A command of a script (SMT-LIB 2.6, sections 3.9 and 4.2). Definitions, names of terms and names of sorts are gone: each
+/// term has what they stand for.
 #[derive(Drop)]
 pub enum Command {
-    /// Passed on as it is written: its text.
+    /// Passed on: its text as it is printed, which is its tokens with one space between forms.
     Passed(Bytes),
+    /// `declare-sort`: this sort, which has no parameters.
     DeclareSort(SortId),
+    /// `declare-fun` or `declare-const`: this symbol.
     Declare(SymId),
     /// An assertion, with its number among those of the script that was read, from 1 on.
     Assert { id: NodeId, number: u64 },
+    /// `check-sat`.
     Check,
-    /// A check under literals.
+    /// `check-sat-assuming`: a check under literals, each a constant or the negation of one.
     CheckAssuming(Nodes),
     /// So many levels are opened, at most 1,000,000.
     Push(u32),
     /// So many levels are closed.
     Pop(u32),
+    /// `reset`: everything is as at the beginning.
     Reset,
+    /// `reset-assertions`: all levels are closed, and the assertions of the first are gone.
     ResetAssertions,
     /// `:global-declarations` is set.
     Globals(bool),
+    /// `exit`, behind which nothing is read or printed.
     Exit,
 }
 

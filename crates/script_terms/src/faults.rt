@@ -7,7 +7,9 @@ use thiserror::Error;
 /// What is wrong, and the first byte of the form that it is wrong with.
 #[derive(Clone, Copy, Debug, PartialEq, Eq)]
 pub struct Fault {
+    /// What is wrong.
     pub cause: Cause,
+    /// The form's first byte, counted from 0.
     pub place: u32,
 }
 
@@ -58,9 +60,13 @@ impl<T: Drop> From<AllocFailed<T>> for ReadFault {
 #[derive(Clone, Copy, Debug, PartialEq, Eq, Error)]
 #[error("line {line}, byte {byte}: command {command} is refused with {code}")]
 pub struct Refusal {
+    /// The number of the cause.
     pub code: u16,
+    /// The command, counted from 1; 0 where the text as a whole is refused.
     pub command: u64,
+    /// The line, counted from 1; 0 for a text that is too long.
     pub line: u64,
+    /// The byte of the text, counted from 0.
     pub byte: u64,
 }
 

@@ -10,11 +10,12 @@ use std::alloc::{AllocError, Global};
 use std::marker::Model;
 use std::mem;
 
-// The bytes of a full piece.
+// The bytes of a piece that is taken anew.
 const PIECE: usize = 65_536;
 
-/// A text in pieces of 65,536 bytes, the last one being at most as long, so that a long text is never
-/// copied as a whole. Where memory was given to begin with, the first piece fills that. Contracts see the list of its bytes.
+/// A text in pieces, so that a long text is never copied as a whole. A piece has 65,536 bytes, the last one at most so
+/// many; where memory was given to begin with, the first piece fills that instead, however long it is. Contracts see the
+/// list of the bytes.
 #[derive(Drop)]
 pub struct Pieces {
     alloc: Global,

@@ -38,6 +38,8 @@ pub enum Item {
 /// A part of a text: from the byte at `start` to the one before `end`, counted from 0.
 #[derive(Clone, Copy, Debug, PartialEq, Eq)]
 pub struct Span {
+    /// The first byte.
     pub start: u32,
+    /// The byte behind the last one.
     pub end: u32,
 }

@@ -1,6 +1,6 @@
-// Cuts a text into the tokens of SMT-LIB 2.6, section 3.1, and checks that its parentheses match. What comes
-// of it is one flat list of tokens, in which each token knows where the form that begins there ends. Beside
-// it stands how a symbol is printed, with bars where it needs them, and which words are reserved.
+//! Cuts a text into the tokens of SMT-LIB 2.6, section 3.1, and checks that its parentheses match. What comes
+//! of it is one flat list of tokens, in which each token knows where the form that begins there ends. Beside
+//! it stands how a symbol is printed, with bars where it needs them, and which words are reserved.
 #![tactic(auto)]
 
 mod builders;

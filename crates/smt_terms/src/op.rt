@@ -23,46 +23,85 @@ pub enum Op {
     Exists,
     /// The array of this sort that has its operand everywhere.
     ConstArray(SortId),
+    /// `not`.
     Not,
+    /// `and` of two or more.
     And,
+    /// `or` of two or more.
     Or,
+    /// `xor` of two.
     Xor,
+    /// `=>` of two.
     Implies,
+    /// `=` of two.
     Equal,
+    /// `distinct` of two or more.
     Distinct,
+    /// `ite`.
     Ite,
+    /// `-` of one.
     Neg,
+    /// `-` of two.
     Sub,
+    /// `+` of two or more.
     Add,
+    /// `*` of two or more.
     Mul,
+    /// `div`.
     Div,
+    /// `mod`.
     Mod,
+    /// `abs`.
     Abs,
+    /// `<=`.
     Le,
+    /// `<`.
     Lt,
+    /// `concat`.
     Concat,
     /// The bits from `low` to `high`, both included.
     Extract { high: u32, low: u32 },
+    /// `bvnot`.
     BvNot,
+    /// `bvneg`.
     BvNeg,
+    /// `bvand`.
     BvAnd,
+    /// `bvor`.
     BvOr,
+    /// `bvxor`.
     BvXor,
+    /// `bvadd`.
     BvAdd,
+    /// `bvmul`.
     BvMul,
+    /// `bvsub`.
     BvSub,
+    /// `bvudiv`.
     BvUdiv,
+    /// `bvurem`.
     BvUrem,
+    /// `bvsdiv`.
     BvSdiv,
+    /// `bvsrem`.
     BvSrem,
+    /// `bvsmod`.
     BvSmod,
+    /// `bvshl`.
     BvShl,
+    /// `bvlshr`.
     BvLshr,
+    /// `bvashr`.
     BvAshr,
+    /// `bvcomp`.
     BvComp,
+    /// `bvult`.
     BvUlt,
+    /// `bvule`.
     BvUle,
+    /// `bvslt`.
     BvSlt,
+    /// `bvsle`.
     BvSle,
     /// Extension by so many zeros.
     ZeroExt(u32),
@@ -72,7 +111,9 @@ pub enum Op {
     RotL(u32),
     /// Rotation to the right, by less than the width.
     RotR(u32),
+    /// `select`.
     Select,
+    /// `store`.
     Store,
 }
 

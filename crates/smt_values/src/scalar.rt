@@ -4,7 +4,10 @@
 /// magnitude of at most 2^127 - 1, or its width is from 1 to 128 and its bits are below `2^width`.
 #[derive(Clone, Copy, Debug, PartialEq, Eq)]
 pub enum Scalar {
+    /// A truth value, of the sort `Bool`.
     Truth(bool),
+    /// A whole number, of the sort `Int`.
     Whole(i128),
+    /// A bit vector of so many bits, as the number that they are in base 2.
     Bits { width: u32, bits: u128 },
 }

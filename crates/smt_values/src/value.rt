@@ -20,8 +20,11 @@ pub struct ArrayValue {
 #[cycle(values)]
 #[derive(Drop)]
 pub enum Value {
+    /// A truth value, a whole number or a bit vector.
     Scalar(Scalar),
+    /// The element with this number, from 0 on, of a declared sort.
     Element(u64),
+    /// An array: a value for all keys but those of its pairs.
     Array(Box<ArrayValue>),
 }
 

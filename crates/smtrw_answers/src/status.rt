@@ -19,7 +19,7 @@ pub enum Why {
     Repeated,
     /// The word is no value of its option, no number that the command takes, or empty.
     BadValue,
-    /// A name in the list isn't that of a pass, or there are more than 32.
+    /// A name in the list isn't that of a pass, or of one that can't be run yet, or there are more than 32.
     BadPass,
     /// `ite`, `cnf` or `ackermann` stands behind `rules` in the list.
     AfterRules,
@@ -40,7 +40,9 @@ pub enum Why {
 #[derive(Clone, Copy, Debug, PartialEq, Eq, Error)]
 #[error("word {word}: {why:?}")]
 pub struct Usage {
+    /// The number of the word, counted from 1; 0 for a check that isn't there.
     pub word: u32,
+    /// What is wrong with it.
     pub why: Why,
 }
 
@@ -61,7 +63,7 @@ pub enum Status {
     OutOfMemory,
     /// The model's text is refused: the number of its cause, with line and byte as for a script.
     ModelRefused { code: u16, line: u64, byte: u64 },
-    /// A term of this assertion that has to be evaluated is a whole number of more than 128 bits.
+    /// A term of this assertion that has to be evaluated is a whole number beyond 2^127 - 1 in magnitude.
     Beyond128 { assertion: u64 },
     /// A pass, or the evaluation of a term for it, refuses this assertion.
     PassRefused { code: u16, assertion: u64 },

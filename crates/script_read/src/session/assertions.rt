@@ -1,4 +1,4 @@
-//! `assert` (SMT-LIB 2.6, section 4.2.2).
+//! `assert` (SMT-LIB 2.6, section 4.2.4).
 
 ghost use Rattle.std.specs.Prelude.{◌≡◌, ◌+◌, ◌<◌, ◌≤◌, ◌^◌, IfOk};
 ghost use Rattle.term_subst.specs.Substituting.{IsLater};

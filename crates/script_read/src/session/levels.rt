@@ -1,4 +1,4 @@
-//! `push` and `pop` (SMT-LIB 2.6, section 4.1.4).
+//! `push` and `pop` (SMT-LIB 2.6, sections 4.1.4 and 4.2.2).
 
 ghost use Rattle.std.specs.Prelude.{◌≡◌, option_map};
 ghost use Rattle.term_table.specs.Formulas.{Formulas};

@@ -1,4 +1,4 @@
-//! `:global-declarations`, `check-sat`, `reset` and `reset-assertions` (SMT-LIB 2.6, sections 4.1.4, 4.1.7 and 4.2.5).
+//! `:global-declarations`, `check-sat`, `reset` and `reset-assertions` (SMT-LIB 2.6, sections 4.1.7, 4.2.5, 4.2.1 and 4.2.2).
 
 ghost use Rattle.std.specs.Prelude.{◌≡◌, option_map};
 ghost use Rattle.smt_lex.specs.Forest.{token_at};

@@ -1,4 +1,4 @@
-//! `declare-sort` and `define-sort` (SMT-LIB 2.6, section 4.2.1).
+//! `declare-sort` and `define-sort` (SMT-LIB 2.6, section 4.2.3).
 
 ghost use Rattle.std.specs.Prelude.{◌≡◌, IfOk};
 ghost use Rattle.term_walk.specs.Walking.{GrowsTo};
