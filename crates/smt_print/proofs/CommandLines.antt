@@ -15,7 +15,7 @@ use Rattle.term_table.specs.Formulas.{Formulas}
 use Rattle.term_table.specs.WrittenForms.{list_form, sort_form}
 use Rattle.smt_print.specs.declared.layout.Layout.{Layout}
 use Rattle.smt_print.specs.Text.{term_form, command_form, command_text, declaration, sort_declaration, lines}
-use Rattle.smt_print.proofs.ListTexts.{list_begun, parts-end}
+use Rattle.smt_print.proofs.ListTexts.{list_begun, parts-end, parts-split}
 
 -- one byte more
 pub byte-more : (old now new bytes : List ℕ) (i b : ℕ) → i < length bytes → slice_get bytes i ≡ Some b → now ≡ old ++ take i bytes → new ≡ now ++ b ∷ [] → new ≡ old ++ take (i + 1) bytes
@@ -59,6 +59,24 @@ list-command-ended to xs old now new name i past before after =
   where
     pieces : (old name whole : List ℕ) → ((old ++ (left_parenthesis ∷ (name ++ space ∷ []))) ++ whole) ++ right_parenthesis ∷ [] ≡ old ++ (left_parenthesis ∷ ((name ++ (space ∷ (whole ++ []))) ++ right_parenthesis ∷ []))
     pieces old name whole = simp (append_assoc, append-nil)
+
+-- its line begins as the list does
+pub list-command-split : {X : Type 0} (to : X → Form) (xs : List X) (name : List ℕ) (i : ℕ)
+    → (rest : List ℕ) × (((left_parenthesis ∷ (name ++ space ∷ [])) ++ list_begun to xs i) ++ rest ≡ form_text (command_form name (list_form (map to xs) ∷ [])) ++ line_feed ∷ [])
+list-command-split to xs name i =
+    let (rest, same) = parts-split to xs i in
+    let whole = form_text (list_form (map to xs)) in
+    let begun = list_begun to xs i in (
+      rest ++ (right_parenthesis ∷ (line_feed ∷ [])),
+      around name begun rest (right_parenthesis ∷ []) (line_feed ∷ []) ∙ ap (λ ys. left_parenthesis ∷ (name ++ (space ∷ (ys ++ (right_parenthesis ∷ [] ++ line_feed ∷ []))))) same
+          ∙ ended name whole (right_parenthesis ∷ []) (line_feed ∷ []),
+    )
+  where
+    around : (name begun rest end feed : List ℕ) → ((left_parenthesis ∷ (name ++ space ∷ [])) ++ begun) ++ (rest ++ (end ++ feed)) ≡ left_parenthesis ∷ (name ++ (space ∷ ((begun ++ rest) ++ (end ++ feed))))
+    around name begun rest end feed = simp (append_assoc, append-nil)
+
+    ended : (name whole end feed : List ℕ) → left_parenthesis ∷ (name ++ (space ∷ (whole ++ (end ++ feed)))) ≡ (left_parenthesis ∷ ((name ++ (space ∷ (whole ++ []))) ++ end)) ++ feed
+    ended name whole end feed = simp (append_assoc, append-nil)
 
 -- ---- lines
 

@@ -1,8 +1,8 @@
 -- The text of a list of forms, part by part.
-use Rattle.std.proofs.Common.{◌≡◌, ℕ, suc, ◌+◌, ◌<◌, ◌≤◌, List, [], ◌∷◌, ◌++◌, map, take, get_or, length, ap, sym, ◌∙◌, arith, append_assoc, append-nil}
+use Rattle.std.proofs.Common.{◌≡◌, ℕ, suc, ◌+◌, ◌<◌, ◌≤◌, List, [], ◌∷◌, ◌++◌, map, take, get_or, length, drop, refl, ap, sym, ◌∙◌, arith, append_assoc, append-nil}
 use Rattle.std.specs.Prelude.{◌==◌, if◌then◌else◌}
 use Rattle.std.proofs.lemmas.Bool.Decides.{nat_tests}
-use Rattle.std.proofs.lemmas.List.{take_more, map-append, length-map, length-take-le, take_all}
+use Rattle.std.proofs.lemmas.List.{take_more, map-append, length-map, length-take-le, take_all, take-append-drop}
 use Rattle.smt_lex.specs.Lexicon.{left_parenthesis, right_parenthesis, space}
 use Rattle.smt_lex.specs.Forms.{Form, forms_of_list}
 use Rattle.smt_lex.specs.FormText.{form_text, forms_text, further_text}
@@ -23,6 +23,19 @@ forms_text-push : (fs : List Form) (f : Form) → forms_text (forms_of_list (fs 
 forms_text-push [] f = append-nil (form_text f)
 forms_text-push (g ∷ fs) f = ap (λ xs. form_text g ++ xs) (further-push fs f) ∙ sym (append_assoc (form_text g) (further_text (forms_of_list fs)) (space ∷ form_text f))
     ∙ ap (λ ys. (form_text g ++ further_text (forms_of_list fs)) ++ (ys ++ form_text f)) (sym (separator-suc (length fs)))
+
+further-append : (fs gs : List Form) → further_text (forms_of_list (fs ++ gs)) ≡ further_text (forms_of_list fs) ++ further_text (forms_of_list gs)
+further-append [] gs = refl
+further-append (f ∷ fs) gs =
+    ap (λ xs. space ∷ (form_text f ++ xs)) (further-append fs gs) ∙ ap (λ xs. space ∷ xs) (sym (append_assoc (form_text f) (further_text (forms_of_list fs)) (further_text (forms_of_list gs))))
+
+-- the text of a list begins with that of its first forms
+forms_text-split : (fs gs : List Form) → (rest : List ℕ) × (forms_text (forms_of_list (fs ++ gs)) ≡ forms_text (forms_of_list fs) ++ rest)
+forms_text-split [] gs = (forms_text (forms_of_list gs), refl)
+forms_text-split (f ∷ fs) gs = (
+  further_text (forms_of_list gs),
+  ap (λ xs. form_text f ++ xs) (further-append fs gs) ∙ sym (append_assoc (form_text f) (further_text (forms_of_list fs)) (further_text (forms_of_list gs))),
+)
 
 module _ {X : Type 0} (to : X → Form) (xs : List X) where
   -- the beginning of the list, with the first i parts
@@ -47,3 +60,14 @@ module _ {X : Type 0} (to : X → Form) (xs : List X) where
   parts-end old now new i past before after =
       after ∙ ap (λ ys. ys ++ right_parenthesis ∷ []) (before ∙ ap (λ ys. old ++ (left_parenthesis ∷ forms_text (forms_of_list (map to ys)))) (take_all i xs past))
       ∙ append_assoc old (left_parenthesis ∷ forms_text (forms_of_list (map to xs))) (right_parenthesis ∷ [])
+
+  -- the beginning of the list is one of its text
+  pub parts-split : (i : ℕ) → (rest : List ℕ) × (list_begun i ++ rest ≡ form_text (list_form (map to xs)))
+  parts-split i =
+      let (rest, same) = forms_text-split (map to (take i xs)) (map to (drop i xs)) in
+      let all : forms_text (forms_of_list (map to xs)) ≡ forms_text (forms_of_list (map to (take i xs))) ++ rest =
+      ap (λ ys. forms_text (forms_of_list (map to ys))) (sym (take-append-drop i xs)) ∙ ap (λ fs. forms_text (forms_of_list fs)) (map-append to (take i xs) (drop i xs)) ∙ same
+      in (
+        rest ++ right_parenthesis ∷ [],
+        ap (λ ys. left_parenthesis ∷ ys) (sym (append_assoc (forms_text (forms_of_list (map to (take i xs)))) rest (right_parenthesis ∷ [])) ∙ ap (λ ys. ys ++ right_parenthesis ∷ []) (sym all)),
+      )

@@ -51,6 +51,11 @@ prefix-behind old waited now waits new text piece rest whole (done, is, same) mo
     pieces : (waited text piece rest : List ℕ) → ((waited ++ text) ++ piece) ++ rest ≡ waited ++ ((text ++ piece) ++ rest)
     pieces waited text piece rest = simp append_assoc
 
+-- nothing was appended since
+pub prefix-drafted : (old waited now waits text rest whole : List ℕ) → Drafts old waited now waits text → text ++ rest ≡ whole → AppendsPrefix old now (waited ++ whole)
+prefix-drafted old waited now waits text rest whole (done, is, same) all =
+    prefix-whole old now done (waits ++ rest) (waited ++ whole) is (sym (append_assoc done waits rest) ∙ ap (λ xs. xs ++ rest) same ∙ append_assoc waited text rest ∙ ap (λ xs. waited ++ xs) all)
+
 -- some of what waited was appended
 pub passed : (done waited more waits : List ℕ) → more ++ waits ≡ waited ++ [] → done ++ waited ≡ (done ++ more) ++ waits
 passed done waited more waits same = ap (λ xs. done ++ xs) (sym (append-nil waited) ∙ sym same) ∙ sym (append_assoc done more waits)

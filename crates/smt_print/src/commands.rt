@@ -1,4 +1,4 @@
-// Commands other than assertions.
+// Commands that hold no terms.
 
 ghost use Rattle.std.specs.Prelude.{◌≡◌, ◌++◌, ◌∷◌, [], All, OnOk, map, codes, false};
 ghost use Rattle.smt_lex.specs.Forms.{Form};
@@ -6,21 +6,19 @@ ghost use Rattle.smt_lex.specs.FormText.{form_text};
 ghost use Rattle.smt_lex.specs.Names.{printed_symbol};
 ghost use Rattle.smt_terms.specs.Term.{Term};
 ghost use Rattle.smt_values.specs.SortIds.{sort_at, IsSortId};
-ghost use Rattle.term_table.specs.Formulas.{symbol_at, trees_at, IsSymbol, AreNodes};
+ghost use Rattle.term_table.specs.Formulas.{symbol_at, IsSymbol};
 ghost use Rattle.term_table.specs.WrittenForms.{list_form, numeral_form, sort_form};
 ghost use Rattle.script_read.specs.CommandLists.{free_name, command_of, IsCommandOf};
 ghost use Rattle.smt_print.specs.Text.{command_form, command_text, declaration, sort_declaration, globals_option};
-ghost use Rattle.smt_print.specs.TermForms.{tree_form};
-ghost use Rattle.smt_print.specs.CommandTexts.{is_assertion};
+ghost use Rattle.smt_print.specs.CommandTexts.{holds_terms};
 
-use crate::layout::Layout;
+use crate::names::Printed;
 use crate::numbers::{push_number, push_separator};
 use crate::page::Page;
-use crate::terms::push_term;
 use script_read::Command;
 use smt_values::{SortId, SymId};
 use std::alloc::{AllocError, Global};
-use term_table::{Bytes, Nodes, Table};
+use term_table::Bytes;
 
 // Appends bytes.
 fn push_bytes(bytes: &Bytes, out: &mut Page) -> Result<(), AllocError>
@@ -35,7 +33,7 @@ fn push_bytes(bytes: &Bytes, out: &mut Page) -> Result<(), AllocError>
 // Appends the name of a free sort; another sort has the empty name.
 fn push_sort_name(
     alloc: Global,
-    table: &Table,
+    table: &Printed,
     sort: SortId,
     out: &mut Page,
 ) -> Result<(), AllocError>
@@ -51,7 +49,7 @@ fn push_sort_name(
 // Appends `(declare-sort S 0)`.
 fn push_sort_declaration(
     alloc: Global,
-    table: &Table,
+    table: &Printed,
     sort: SortId,
     out: &mut Page,
 ) -> Result<(), AllocError>
@@ -67,7 +65,7 @@ fn push_sort_declaration(
 // Appends `(SORT ..)`.
 fn push_sorts(
     alloc: Global,
-    table: &Table,
+    table: &Printed,
     sorts: &[SortId],
     out: &mut Page,
 ) -> Result<(), AllocError>
@@ -77,7 +75,7 @@ fn push_sorts(
     out.push(b'(')?;
     for (place, sort) in sorts.iter().enumerate() {
         push_separator(place, out)?;
-        out.push_sort(alloc, table, *sort)?;
+        table.push_sort(alloc, *sort, out)?;
     }
     out.push(b')')?;
     Ok(())
@@ -86,7 +84,7 @@ fn push_sorts(
 // Appends `(declare-fun f (SORT ..) SORT)`.
 fn push_declaration(
     alloc: Global,
-    table: &Table,
+    table: &Printed,
     symbol: SymId,
     out: &mut Page,
 ) -> Result<(), AllocError>
@@ -95,31 +93,12 @@ fn push_declaration(
 {
     let (args, to) = table.symbol_rank(symbol);
     out.push_short(b"(declare-fun ")?;
-    out.push_symbol(alloc, table.symbol_name(symbol))?;
+    table.push_symbol(alloc, symbol, out)?;
     out.push(b' ')?;
     push_sorts(alloc, table, args, out)?;
     out.push(b' ')?;
-    out.push_sort(alloc, table, to)?;
+    table.push_sort(alloc, to, out)?;
     out.push(b')')?;
-    Ok(())
-}
-
-// Appends `(check-sat-assuming (LITERAL ..))`.
-fn push_assumptions(
-    alloc: Global,
-    table: &Table,
-    literals: &Nodes,
-    out: &mut Page,
-) -> Result<(), AllocError>
-    requires { AreNodes table.now literals.now }
-    ensures { OnOk result (out.new ≡ out.old ++ form_text (command_form (codes "check-sat-assuming") (list_form (map tree_form (trees_at table.now literals.now)) ∷ []))) }
-{
-    out.push_short(b"(check-sat-assuming (")?;
-    for i in 0..literals.len() {
-        push_separator(i, out)?;
-        push_term(alloc, table, literals.get(i), Layout::Tree, out)?;
-    }
-    out.push_short(b"))")?;
     Ok(())
 }
 
@@ -146,24 +125,23 @@ fn push_globals(value: bool, out: &mut Page) -> Result<(), AllocError>
     Ok(())
 }
 
-// Appends a command that is no assertion.
+// Appends a command that holds no terms.
 pub(crate) fn push_command(
     alloc: Global,
-    table: &Table,
+    table: &Printed,
     command: &Command,
     out: &mut Page,
 ) -> Result<(), AllocError>
     requires numbers { IsCommandOf table.now command.now }
-    requires other { is_assertion command.now ≡ false }
+    requires plain { holds_terms command.now ≡ false }
     ensures { (form : Term → Form) → OnOk result (out.new ≡ out.old ++ command_text form (command_of table.now command.now)) }
 {
     match command {
         Command::Passed(text) => push_bytes(text, out),
         Command::DeclareSort(sort) => push_sort_declaration(alloc, table, *sort, out),
         Command::Declare(symbol) => push_declaration(alloc, table, *symbol, out),
-        Command::Assert { .. } => unreachable!(),
+        Command::Assert { .. } | Command::CheckAssuming(_) => unreachable!(),
         Command::Check => out.push_short(b"(check-sat)"),
-        Command::CheckAssuming(literals) => push_assumptions(alloc, table, literals, out),
         Command::Push(levels) => push_levels(b"push", *levels, out),
         Command::Pop(levels) => push_levels(b"pop", *levels, out),
         Command::Reset => out.push_short(b"(reset)"),

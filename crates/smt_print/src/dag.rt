@@ -98,9 +98,7 @@ fn push_end(
 fn push_visits(steps: &mut Stack<Step>, ids: &[NodeId]) -> Result<(), AllocError>
     ensures { OnOk result (steps.new ≡ visits ids.now ++ steps.old) }
 {
-    let mut place = ids.len();
-    while place > 0 {
-        place -= 1;
+    for place in (0..ids.len()).rev() {
         steps.push(Step::Visit(ids[place]))?;
     }
     Ok(())

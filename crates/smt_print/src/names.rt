@@ -1,6 +1,6 @@
 // What terms are printed of: a table, and which of its symbols need no bars.
 
-ghost use Rattle.std.specs.Prelude.{◌≡◌, ◌<◌, ◌++◌, ◌⊎◌, ℕ, get_or, IfOk, OnOk, All, Some, true, false, IsTrue};
+ghost use Rattle.std.specs.Prelude.{◌≡◌, ◌<◌, ◌++◌, ◌⊎◌, ℕ, get_or, map, IfOk, OnOk, All, Some, true, false, IsTrue};
 ghost use Rattle.smt_lex.specs.FormText.{form_text};
 ghost use Rattle.smt_lex.specs.Names.{is_simple, printed_symbol};
 ghost use Rattle.smt_terms.specs.Rank.{sort_of};
@@ -13,7 +13,7 @@ use crate::page::Page;
 use script_read::{Command, Script};
 use smt_lex::symbol_text;
 use smt_terms::NodeId;
-use smt_values::{Op, SortId, SymId};
+use smt_values::{Op, SortId, SortTable, SymId};
 use std::alloc::{AllocError, Global};
 use std::marker::Model;
 use term_table::Table;
@@ -83,11 +83,22 @@ impl<'a> Printed<'a> {
         Ok(printed)
     }
 
-    // The table.
-    pub(crate) fn table(&self) -> &Table
-        ensures { result.now ≡ self.now }
+    // The sorts of the table.
+    pub(crate) fn sorts(&self) -> &SortTable
+        ensures { result.now ≡ self.now.sorts }
     {
-        self.table
+        self.table.sorts()
+    }
+
+    // The sorts of a symbol's arguments, and that of its result.
+    pub(crate) fn symbol_rank(&self, symbol: SymId) -> (&[SortId], SortId)
+        requires { IsSymbol self.now symbol }
+        ensures args { map (sort_at self.now.sorts) result.0.now ≡ (symbol_at self.now symbol).args }
+        ensures to { sort_at self.now.sorts result.1 ≡ (symbol_at self.now symbol).result }
+        ensures args_within { All (IsSortId self.now.sorts) result.0.now }
+        ensures to_within { IsSortId self.now.sorts result.1 }
+    {
+        self.table.symbol_rank(symbol)
     }
 
     // The operator of a node.

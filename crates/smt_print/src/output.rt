@@ -3,7 +3,6 @@
 ghost use Rattle.std.specs.Prelude.{◌≡◌, ◌++◌, ℕ, List, OnOk, OnErr};
 ghost use Rattle.smt_print.specs.Prefix.{AppendsPrefix};
 
-use crate::page::Page;
 use smt_io::Pieces;
 use std::alloc::AllocError;
 
@@ -19,14 +18,6 @@ pub(crate) trait Output {
 
 impl Output for Vec<u8> {
     ghost text = { λ bytes. bytes.items };
-
-    fn append(&mut self, bytes: &[u8]) -> Result<(), AllocError> {
-        self.extend_from_slice(bytes)
-    }
-}
-
-impl Output for Page {
-    ghost text = { λ page. page };
 
     fn append(&mut self, bytes: &[u8]) -> Result<(), AllocError> {
         self.extend_from_slice(bytes)

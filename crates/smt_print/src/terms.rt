@@ -6,7 +6,7 @@ ghost use Rattle.smt_print.specs.Prefix.{AppendsPrefix, Drafts};
 ghost use Rattle.smt_print.specs.Text.{text};
 
 use crate::dag::print_dag;
-use crate::draft::Draft;
+use crate::draft::{Draft, pass_all};
 use crate::layout::Layout;
 use crate::names::Printed;
 use crate::output::Output;
@@ -34,24 +34,6 @@ pub(crate) fn print_term<O: Output>(
     }
 }
 
-// Appends the text of a term.
-pub(crate) fn push_term<O: Output>(
-    alloc: Global,
-    table: &Table,
-    id: NodeId,
-    layout: Layout,
-    out: &mut O,
-) -> Result<(), AllocError>
-    requires { IsNode table.now id }
-    ensures { OnOk result (O.text out.new ≡ O.text out.old ++ text layout (tree table.now id)) }
-{
-    let printed = Printed::new(alloc, table);
-    let mut draft = Draft::new(alloc);
-    print_term(alloc, &printed, id, layout, &mut draft, out)?;
-    out.append(draft.text.as_slice())?;
-    Ok(())
-}
-
 /// The text of a term (SMT-LIB 2.6, section 3.6). Only want of memory refuses it. A term that shares subterms can have a
 /// text in layout tree that is exponentially longer than its nodes are many; the time is that of writing the text.
 pub fn term_text(
@@ -63,7 +45,10 @@ pub fn term_text(
     requires { IsNode table.now id }
     ensures { IfOk result (λ bytes. bytes.items ≡ text layout (tree table.now id)) }
 {
+    let printed = Printed::new(alloc, table);
+    let mut draft = Draft::new(alloc);
     let mut bytes = Vec::new(alloc);
-    push_term(alloc, table, id, layout, &mut bytes)?;
+    print_term(alloc, &printed, id, layout, &mut draft, &mut bytes)?;
+    pass_all(&mut draft.text, &mut bytes)?;
     Ok(bytes)
 }

@@ -29,9 +29,7 @@ pub(crate) enum Step {
 fn push_operands(steps: &mut Stack<Step>, ids: &[NodeId]) -> Result<(), AllocError>
     ensures { OnOk result (steps.new ≡ operand_steps ids.now ++ steps.old) }
 {
-    let mut place = ids.len();
-    while place > 0 {
-        place -= 1;
+    for place in (0..ids.len()).rev() {
         steps.push(Step::Operand(ids[place]))?;
     }
     Ok(())

@@ -8,7 +8,7 @@ use Rattle.smt_print.proofs.commands.push_sorts.Goals as goal
 
 pub loop-place-preserved : goal.loop-place-preserved
 loop-place-preserved c =
-    part-more (λ s. sort_form (sort_at c.args.table.now.sorts s)) c.args.sorts.now c.args.out.now c.loop-place.out c.push_separator.new.out c.push_sort.new.self c.loop-place.place (record { 0 = 0 })
+    part-more (λ s. sort_form (sort_at c.args.table.now.sorts s)) c.args.sorts.now c.args.out.now c.loop-place.out c.push_separator.new.out c.push_sort.new.out c.loop-place.place (record { 0 = 0 })
     c.loop-place-test.true c.loop-place.invariant c.in_ok-push_separator.ensures c.in_ok-push_sort.ensures
 
 pub returns : goal.returns

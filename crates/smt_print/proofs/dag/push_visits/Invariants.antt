@@ -7,6 +7,3 @@ invariant-loop-place l = record {
   within : l.place ≤ length l.ids;
   order : l.steps ≡ visits (drop l.place l.ids) ++ l.fn.steps;
 }
-
-abbrev pub decreases-loop-place : goal.decreases-loop-place
-decreases-loop-place l = l.place
