@@ -1,5 +1,5 @@
-// Which constants, and whether quantifiers, may occur in which nodes. A walk that puts something in the place of a constant
-// can leave out what is known to have none.
+//! Which constants, and whether quantifiers, may occur in which nodes. A walk that puts something in the place of a constant
+//! can leave out what is known to have none.
 
 ghost use Rattle.std.specs.Prelude.{◌≡◌, ◌||◌, true, false, Bool, IfOk, OnOk, [], List, option_copied};
 ghost use Rattle.smt_terms.specs.declared.ids.NodeId.{NodeId};
@@ -104,10 +104,7 @@ impl Occurrences {
         ensures kept { (c : NodeId) → has_node list.old.items c ≡ true → OnOk result (has_node list.new.items c ≡ true) }
     {
         match self.note_of(id) {
-            Some(held) => {
-                let known = held.join_few(list)?;
-                Ok(known)
-            }
+            Some(held) => held.join_few(list),
             None => Ok(false),
         }
     }

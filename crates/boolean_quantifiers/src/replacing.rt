@@ -1,4 +1,4 @@
-// Images in the places of constants.
+//! Images in the places of constants.
 
 ghost use Rattle.std.specs.Prelude.{◌≡◌, ℕ, ◌<◌, List, Bool, true, false, Some, IsSome, IfOk, OnOk, ◌||◌, is_some};
 ghost use Rattle.smt_terms.specs.declared.ids.NodeId.{NodeId};
@@ -16,7 +16,7 @@ use quantifier_forms::memo::Memo;
 use quantifier_forms::rebuilding::{body_below, is_binder, rebuilt};
 use smt_terms::NodeId;
 use std::alloc::{AllocError, Global};
-use term_table::Table;
+use term_table::{Table, know_table};
 
 // What takes the place of which constants, and which nodes are known to have none of these.
 pub(crate) trait Images {
@@ -67,7 +67,7 @@ fn unknown<I: Images>(
     requires { IsNode table.now root }
     ensures { IfOk result (λ ks. IsOrdered table.now (is_known memo.now version (I.spares images.now)) root ks.items) }
 {
-    let _ = table.len();
+    know_table(table);
     let known = Known {
         images,
         memo,
@@ -110,7 +110,7 @@ fn put_quantified<I: Images>(
     ensures grows { GrowsTo table.old table.new }
     ensures symbols { table.new.symbols ≡ table.old.symbols }
 {
-    let _ = table.len();
+    know_table(table);
     if binds(table, images, id) {
         return Ok(id);
     }
@@ -137,7 +137,7 @@ fn put_applied<I: Images>(
     ensures grows { GrowsTo table.old table.new }
     ensures symbols { table.new.symbols ≡ table.old.symbols }
 {
-    let _ = table.len();
+    know_table(table);
     if let Some(image) = images.image(id) {
         return Ok(image);
     }
@@ -162,11 +162,9 @@ fn put_node<I: Images>(
     ensures symbols { table.new.symbols ≡ table.old.symbols }
 {
     if is_binder(table, id) {
-        let result = put_quantified(alloc, table, images, memo, version, id)?;
-        return Ok(result);
+        return put_quantified(alloc, table, images, memo, version, id);
     }
-    let result = put_applied(alloc, table, images, memo, version, id)?;
-    Ok(result)
+    put_applied(alloc, table, images, memo, version, id)
 }
 
 // Keeps the result of a node whose operands have results.

@@ -31,7 +31,7 @@ use quantifier_forms::rebuilding::{body_below, is_binder, rebuilt};
 use smt_terms::NodeId;
 use std::alloc::{AllocError, Global};
 use term_subst::{Fresh, SymMap, substitute};
-use term_table::Table;
+use term_table::{Table, know_table};
 
 // The formula with another one for a Bool variable.
 fn substituted(
@@ -119,9 +119,7 @@ fn substitute_each(
     ensures grows { GrowsTo table.old table.new }
 {
     let mut form = body;
-    let mut place = variables.len();
-    while place > 0 {
-        place -= 1;
+    for place in (0..variables.len()).rev() {
         form = substitute_bool(alloc, table, work, fresh, universal, variables[place], form)?;
     }
     Ok(form)
@@ -150,7 +148,7 @@ fn solve_quantified(
     ensures work { OnOk result (IsWork table.new work.new) }
     ensures grows { GrowsTo table.old table.new }
 {
-    let _ = table.len();
+    know_table(table);
     let variables = variables_below(alloc, table, id)?;
     let universal = is_universal(table, id);
     let form = substitute_each(alloc, table, work, fresh, universal, &variables, body)?;
@@ -204,7 +202,7 @@ fn solve(
     ensures work { OnOk result (IsWork table.new work.new) }
     ensures grows { GrowsTo table.old table.new }
 {
-    let _ = table.len();
+    know_table(table);
     if is_binder(table, id) {
         let body = results.known(0, body_below(table, id));
         let result = solve_quantified(alloc, table, work, fresh, id, body)?;

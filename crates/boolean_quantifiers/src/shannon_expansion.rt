@@ -26,7 +26,7 @@ use quantifier_forms::quantifying::{quantify, variables_below, without_truths};
 use quantifier_forms::rebuilding::{body_below, is_binder, rebuilt};
 use smt_terms::NodeId;
 use std::alloc::{AllocError, Global};
-use term_table::Table;
+use term_table::{Table, know_table};
 
 // What a quantifier over one Bool variable says of the formula with `true` and with `false` for it.
 fn expanded(
@@ -99,9 +99,7 @@ fn expand_each(
     ensures symbols { table.new.symbols ≡ table.old.symbols }
 {
     let mut form = body;
-    let mut place = variables.len();
-    while place > 0 {
-        place -= 1;
+    for place in (0..variables.len()).rev() {
         form = expand_bool(alloc, table, work, universal, variables[place], form)?;
     }
     Ok(form)
@@ -124,7 +122,7 @@ fn expand_quantified(
     ensures grows { GrowsTo table.old table.new }
     ensures symbols { table.new.symbols ≡ table.old.symbols }
 {
-    let _ = table.len();
+    know_table(table);
     let variables = variables_below(alloc, table, id)?;
     let body = results.known(0, body_below(table, id));
     let universal = is_universal(table, id);

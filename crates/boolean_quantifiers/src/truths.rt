@@ -1,4 +1,4 @@
-// Truth values in the places of variables.
+//! Truth values in the places of variables.
 
 ghost use Rattle.std.specs.Prelude.{◌≡◌, IfOk, OnOk, All};
 ghost use Rattle.smt_terms.specs.Sorts.{bool};

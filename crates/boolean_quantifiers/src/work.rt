@@ -1,4 +1,4 @@
-// What a pass keeps of the constants that it replaced.
+//! What a pass keeps of the constants that it replaced.
 
 ghost use Rattle.std.specs.Prelude.{◌≡◌, ◌<◌, [], true, IfOk, OnOk, length, get_or};
 ghost use Rattle.term_table.specs.Formulas.{tree, IsNode, IsTable};
@@ -14,7 +14,7 @@ use indexmap::IndexSet;
 use quantifier_forms::memo::Memo;
 use smt_terms::NodeId;
 use std::alloc::{AllocError, Global};
-use term_table::Table;
+use term_table::{Table, know_table};
 
 // A constant and what takes its place.
 #[derive(Clone, Copy, Debug, PartialEq, Eq, Hash)]
@@ -93,7 +93,7 @@ impl Work {
         ensures work { OnOk result (IsWork table.now self.new) }
         ensures table { IsTable table.now }
     {
-        let _ = table.len();
+        know_table(table);
         self.occurrences.note_all(table, root)?;
         Ok(self.occurrences.is_plain(root))
     }

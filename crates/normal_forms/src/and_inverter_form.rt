@@ -51,8 +51,7 @@ fn differ(table: &mut Table, ids: &[NodeId]) -> Result<NodeId, AllocError>
     ensures sorts { table.new.sorts ≡ table.old.sorts }
 {
     let same = same_sides(table, ids[0], ids[1])?;
-    let id = opposite(table, same)?;
-    Ok(id)
+    opposite(table, same)
 }
 
 // Whether all of some formulas differ.
@@ -66,11 +65,9 @@ fn all_differ(table: &mut Table, ids: &[NodeId]) -> Result<NodeId, AllocError>
     ensures sorts { table.new.sorts ≡ table.old.sorts }
 {
     if ids.len() > 2 {
-        let id = truth(table, false)?;
-        return Ok(id);
+        return truth(table, false);
     }
-    let id = differ(table, ids)?;
-    Ok(id)
+    differ(table, ids)
 }
 
 // Whether some of these formulas hold.
@@ -105,38 +102,14 @@ fn inverted(
     ensures sorts { table.new.sorts ≡ table.old.sorts }
 {
     match connective {
-        Connective::Not => {
-            let id = opposite(table, ids[0])?;
-            Ok(id)
-        }
-        Connective::And => {
-            let id = conjunction(table, ids)?;
-            Ok(id)
-        }
-        Connective::Or => {
-            let id = disjunction(alloc, table, ids)?;
-            Ok(id)
-        }
-        Connective::Xor => {
-            let id = differ(table, ids)?;
-            Ok(id)
-        }
-        Connective::Implies => {
-            let id = implication(table, ids[0], ids[1])?;
-            Ok(id)
-        }
-        Connective::Equal => {
-            let id = same_sides(table, ids[0], ids[1])?;
-            Ok(id)
-        }
-        Connective::Distinct => {
-            let id = all_differ(table, ids)?;
-            Ok(id)
-        }
-        Connective::Ite => {
-            let id = choice(table, ids[0], ids[1], ids[2])?;
-            Ok(id)
-        }
+        Connective::Not => opposite(table, ids[0]),
+        Connective::And => conjunction(table, ids),
+        Connective::Or => disjunction(alloc, table, ids),
+        Connective::Xor => differ(table, ids),
+        Connective::Implies => implication(table, ids[0], ids[1]),
+        Connective::Equal => same_sides(table, ids[0], ids[1]),
+        Connective::Distinct => all_differ(table, ids),
+        Connective::Ite => choice(table, ids[0], ids[1], ids[2]),
     }
 }
 
@@ -239,14 +212,8 @@ fn formula_form(
     match shape_of(table, id) {
         Shape::Truth(_) => Ok(id),
         Shape::Atom => Ok(id),
-        Shape::Quantified => {
-            let form = quantified_form(alloc, table, id, kept)?;
-            Ok(form)
-        }
-        Shape::Connected(connective) => {
-            let form = connected_form(alloc, table, id, connective, kept)?;
-            Ok(form)
-        }
+        Shape::Quantified => quantified_form(alloc, table, id, kept),
+        Shape::Connected(connective) => connected_form(alloc, table, id, connective, kept),
     }
 }
 
@@ -266,8 +233,7 @@ fn form_of(
     ensures sorts { table.new.sorts ≡ table.old.sorts }
 {
     if is_formula(table, id) {
-        let form = formula_form(alloc, table, id, kept)?;
-        return Ok(form);
+        return formula_form(alloc, table, id, kept);
     }
     Ok(id)
 }
@@ -296,8 +262,7 @@ impl NodeStep for InvertStep {
         steps: &mut Steps<L>,
     ) -> Result<NodeId, AllocError> {
         steps.tick();
-        let form = form_of(self.alloc, table, id, kept)?;
-        Ok(form)
+        form_of(self.alloc, table, id, kept)
     }
 
     ghost stays = { λ _ old new t r grows has. inverted_stays old new t r grows has };
@@ -321,8 +286,7 @@ pub fn aig<L: Ledger>(
     ensures most { steps.new ≤ steps.old + places (all_subterms (tree table.old id ∷ [])) }
 {
     let mut kept = Kept::new(alloc);
-    let form = aig_kept(alloc, table, id, &mut kept, steps)?;
-    Ok(form)
+    aig_kept(alloc, table, id, &mut kept, steps)
 }
 
 /// As `aig`, with what earlier calls over the table found, and keeps what it finds: no subterm is met twice.

@@ -1,4 +1,4 @@
-// What a formula is, as far as the normal forms go by it.
+//! What a formula is, as far as the normal forms go by it.
 
 // A connective over truth values.
 #[derive(Clone, Copy)]

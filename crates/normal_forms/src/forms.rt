@@ -1,4 +1,4 @@
-// The two forms of a connective, of its operands' positive forms and negative forms.
+//! The two forms of a connective, of its operands' positive forms and negative forms.
 
 ghost use Rattle.std.specs.Prelude.{◌≡◌, ◌∷◌, [], ◌<◌, ◌≤◌, ◌+◌, length, All, IfOk};
 ghost use Rattle.smt_terms.specs.Connectives.{both, either, truth_term};
@@ -35,8 +35,7 @@ fn either_both(
 {
     let left = both(table, a, b)?;
     let right = both(table, c, d)?;
-    let id = either(table, left, right)?;
-    Ok(id)
+    either(table, left, right)
 }
 
 // `(and (or a b) (or c d))`.
@@ -59,8 +58,7 @@ fn both_either(
 {
     let left = either(table, a, b)?;
     let right = either(table, c, d)?;
-    let id = both(table, left, right)?;
-    Ok(id)
+    both(table, left, right)
 }
 
 // Whether two formulas differ.
@@ -75,8 +73,7 @@ fn differ(table: &mut Table, ps: &[NodeId], ns: &[NodeId]) -> Result<NodeId, All
     ensures symbols { table.new.symbols ≡ table.old.symbols }
     ensures sorts { table.new.sorts ≡ table.old.sorts }
 {
-    let id = either_both(table, ps[0], ns[1], ns[0], ps[1])?;
-    Ok(id)
+    either_both(table, ps[0], ns[1], ns[0], ps[1])
 }
 
 // Whether two formulas agree.
@@ -91,8 +88,7 @@ fn agree(table: &mut Table, ps: &[NodeId], ns: &[NodeId]) -> Result<NodeId, Allo
     ensures symbols { table.new.symbols ≡ table.old.symbols }
     ensures sorts { table.new.sorts ≡ table.old.sorts }
 {
-    let id = both_either(table, ns[0], ps[1], ps[0], ns[1])?;
-    Ok(id)
+    both_either(table, ns[0], ps[1], ps[0], ns[1])
 }
 
 // Whether all of some formulas differ.
@@ -108,11 +104,9 @@ fn all_differ(table: &mut Table, ps: &[NodeId], ns: &[NodeId]) -> Result<NodeId,
     ensures sorts { table.new.sorts ≡ table.old.sorts }
 {
     if ps.len() > 2 {
-        let id = truth(table, false)?;
-        return Ok(id);
+        return truth(table, false);
     }
-    let id = differ(table, ps, ns)?;
-    Ok(id)
+    differ(table, ps, ns)
 }
 
 // Whether two of some formulas agree.
@@ -128,11 +122,9 @@ fn some_agree(table: &mut Table, ps: &[NodeId], ns: &[NodeId]) -> Result<NodeId,
     ensures sorts { table.new.sorts ≡ table.old.sorts }
 {
     if ps.len() > 2 {
-        let id = truth(table, true)?;
-        return Ok(id);
+        return truth(table, true);
     }
-    let id = agree(table, ps, ns)?;
-    Ok(id)
+    agree(table, ps, ns)
 }
 
 // The positive form.
@@ -154,34 +146,13 @@ pub(crate) fn positive_form(
 {
     match connective {
         Connective::Not => Ok(ns[0]),
-        Connective::And => {
-            let id = conjunction(table, ps)?;
-            Ok(id)
-        }
-        Connective::Or => {
-            let id = disjunction(table, ps)?;
-            Ok(id)
-        }
-        Connective::Xor => {
-            let id = differ(table, ps, ns)?;
-            Ok(id)
-        }
-        Connective::Implies => {
-            let id = either(table, ns[0], ps[1])?;
-            Ok(id)
-        }
-        Connective::Equal => {
-            let id = agree(table, ps, ns)?;
-            Ok(id)
-        }
-        Connective::Distinct => {
-            let id = all_differ(table, ps, ns)?;
-            Ok(id)
-        }
-        Connective::Ite => {
-            let id = both_either(table, ns[0], ps[1], ps[0], ps[2])?;
-            Ok(id)
-        }
+        Connective::And => conjunction(table, ps),
+        Connective::Or => disjunction(table, ps),
+        Connective::Xor => differ(table, ps, ns),
+        Connective::Implies => either(table, ns[0], ps[1]),
+        Connective::Equal => agree(table, ps, ns),
+        Connective::Distinct => all_differ(table, ps, ns),
+        Connective::Ite => both_either(table, ns[0], ps[1], ps[0], ps[2]),
     }
 }
 
@@ -204,33 +175,12 @@ pub(crate) fn negative_form(
 {
     match connective {
         Connective::Not => Ok(ps[0]),
-        Connective::And => {
-            let id = disjunction(table, ns)?;
-            Ok(id)
-        }
-        Connective::Or => {
-            let id = conjunction(table, ns)?;
-            Ok(id)
-        }
-        Connective::Xor => {
-            let id = agree(table, ps, ns)?;
-            Ok(id)
-        }
-        Connective::Implies => {
-            let id = both(table, ps[0], ns[1])?;
-            Ok(id)
-        }
-        Connective::Equal => {
-            let id = differ(table, ps, ns)?;
-            Ok(id)
-        }
-        Connective::Distinct => {
-            let id = some_agree(table, ps, ns)?;
-            Ok(id)
-        }
-        Connective::Ite => {
-            let id = both_either(table, ns[0], ns[1], ps[0], ns[2])?;
-            Ok(id)
-        }
+        Connective::And => disjunction(table, ns),
+        Connective::Or => conjunction(table, ns),
+        Connective::Xor => agree(table, ps, ns),
+        Connective::Implies => both(table, ps[0], ns[1]),
+        Connective::Equal => differ(table, ps, ns),
+        Connective::Distinct => some_agree(table, ps, ns),
+        Connective::Ite => both_either(table, ns[0], ns[1], ps[0], ns[2]),
     }
 }

@@ -11,9 +11,6 @@ use smt_values::{Op, SortId};
 use std::alloc::AllocError;
 use term_table::Table;
 
-// The sort `Bool`.
-const BOOL: SortId = SortId(0);
-
 /// `true` or `false`.
 #[tactic(auto, unfolding(term_table::specs::Formulas::kind))]
 pub fn truth(table: &mut Table, value: bool) -> Result<NodeId, AllocError>
@@ -23,7 +20,7 @@ pub fn truth(table: &mut Table, value: bool) -> Result<NodeId, AllocError>
     ensures symbols { table.new.symbols ≡ table.old.symbols }
     ensures sorts { table.new.sorts ≡ table.old.sorts }
 {
-    let id = table.intern_of_sort(Op::Truth(value), &[], BOOL)?;
+    let id = table.intern_of_sort(Op::Truth(value), &[], SortId::BOOL)?;
     Ok(id)
 }
 
@@ -37,7 +34,7 @@ pub fn negation(table: &mut Table, id: NodeId) -> Result<NodeId, AllocError>
     ensures symbols { table.new.symbols ≡ table.old.symbols }
     ensures sorts { table.new.sorts ≡ table.old.sorts }
 {
-    let id = table.intern_of_sort(Op::Not, &[id], BOOL)?;
+    let id = table.intern_of_sort(Op::Not, &[id], SortId::BOOL)?;
     Ok(id)
 }
 
@@ -52,7 +49,7 @@ pub fn conjunction(table: &mut Table, kids: &[NodeId]) -> Result<NodeId, AllocEr
     ensures symbols { table.new.symbols ≡ table.old.symbols }
     ensures sorts { table.new.sorts ≡ table.old.sorts }
 {
-    let id = table.intern_of_sort(Op::And, kids, BOOL)?;
+    let id = table.intern_of_sort(Op::And, kids, SortId::BOOL)?;
     Ok(id)
 }
 
@@ -67,7 +64,7 @@ pub fn disjunction(table: &mut Table, kids: &[NodeId]) -> Result<NodeId, AllocEr
     ensures symbols { table.new.symbols ≡ table.old.symbols }
     ensures sorts { table.new.sorts ≡ table.old.sorts }
 {
-    let id = table.intern_of_sort(Op::Or, kids, BOOL)?;
+    let id = table.intern_of_sort(Op::Or, kids, SortId::BOOL)?;
     Ok(id)
 }
 
@@ -81,8 +78,7 @@ pub fn both(table: &mut Table, a: NodeId, b: NodeId) -> Result<NodeId, AllocErro
     ensures symbols { table.new.symbols ≡ table.old.symbols }
     ensures sorts { table.new.sorts ≡ table.old.sorts }
 {
-    let id = conjunction(table, &[a, b])?;
-    Ok(id)
+    conjunction(table, &[a, b])
 }
 
 /// `(or a b)`.
@@ -95,6 +91,5 @@ pub fn either(table: &mut Table, a: NodeId, b: NodeId) -> Result<NodeId, AllocEr
     ensures symbols { table.new.symbols ≡ table.old.symbols }
     ensures sorts { table.new.sorts ≡ table.old.sorts }
 {
-    let id = disjunction(table, &[a, b])?;
-    Ok(id)
+    disjunction(table, &[a, b])
 }

@@ -38,7 +38,7 @@ use smallvec::SmallVec;
 use smt_terms::NodeId;
 use std::alloc::{AllocError, Global};
 use std::sync::ledger::Ledger;
-use term_table::Table;
+use term_table::{Table, know_table};
 use term_walk::walks::{walk, walk_all};
 use term_walk::{Kept, NodeStep, Steps};
 
@@ -124,8 +124,7 @@ fn connected_positive(
     if joins(table, id, connective, ps) {
         return Ok(id);
     }
-    let positive = positive_form(table, connective, ps, ns)?;
-    Ok(positive)
+    positive_form(table, connective, ps, ns)
 }
 
 // The forms of a connective.
@@ -240,14 +239,8 @@ fn root_form(
     match shape_of(table, id) {
         Shape::Truth(_) => Ok(id),
         Shape::Atom => Ok(id),
-        Shape::Quantified => {
-            let form = quantified_root(alloc, table, id, kept)?;
-            Ok(form)
-        }
-        Shape::Connected(connective) => {
-            let form = connected_root(alloc, table, id, connective, kept)?;
-            Ok(form)
-        }
+        Shape::Quantified => quantified_root(alloc, table, id, kept),
+        Shape::Connected(connective) => connected_root(alloc, table, id, connective, kept),
     }
 }
 
@@ -269,22 +262,14 @@ fn formula_forms(
     match shape_of(table, id) {
         Shape::Truth(value) => {
             let negative = truth(table, !value)?;
-            let forms = Forms::new(id, negative)?;
-            Ok(forms)
+            Forms::new(id, negative)
         }
         Shape::Atom => {
             let negative = negation(table, id)?;
-            let forms = Forms::new(id, negative)?;
-            Ok(forms)
+            Forms::new(id, negative)
         }
-        Shape::Quantified => {
-            let forms = quantified_forms(alloc, table, id, kept)?;
-            Ok(forms)
-        }
-        Shape::Connected(connective) => {
-            let forms = connected_forms(alloc, table, id, connective, kept)?;
-            Ok(forms)
-        }
+        Shape::Quantified => quantified_forms(alloc, table, id, kept),
+        Shape::Connected(connective) => connected_forms(alloc, table, id, connective, kept),
     }
 }
 
@@ -304,11 +289,9 @@ fn forms_of(
     ensures sorts { table.new.sorts ≡ table.old.sorts }
 {
     if is_formula(table, id) {
-        let forms = formula_forms(alloc, table, id, kept)?;
-        return Ok(forms);
+        return formula_forms(alloc, table, id, kept);
     }
-    let forms = Forms::new(id, id)?;
-    Ok(forms)
+    Forms::new(id, id)
 }
 
 #[derive(Drop)]
@@ -335,8 +318,7 @@ impl NodeStep for FormStep {
         steps: &mut Steps<L>,
     ) -> Result<Forms, AllocError> {
         steps.tick();
-        let forms = forms_of(self.alloc, table, id, kept)?;
-        Ok(forms)
+        forms_of(self.alloc, table, id, kept)
     }
 
     ghost stays = { λ _ old new t r grows has. forms_stay old new t r grows has };
@@ -376,7 +358,7 @@ fn walk_below<L: Ledger>(
     let mut step = FormStep { alloc };
     walk_all(alloc, table, &mut step, kept, &kids, steps)?;
     // tells what holds of every table
-    let _ = table.len();
+    know_table(table);
     steps.tick();
     Ok(())
 }
@@ -399,8 +381,7 @@ pub fn nnf<L: Ledger>(
     ensures most { steps.new ≤ steps.old + places (all_subterms (tree table.old id ∷ [])) }
 {
     let mut kept = Kept::new(alloc);
-    let normal = nnf_kept(alloc, table, id, &mut kept, steps)?;
-    Ok(normal)
+    nnf_kept(alloc, table, id, &mut kept, steps)
 }
 
 /// As `nnf`, with what earlier calls over the table found, and keeps what it finds. An atom is its own form, and nothing below

@@ -1,4 +1,4 @@
-// The forms of a formula as nodes.
+//! The forms of a formula as nodes.
 
 ghost use Rattle.std.specs.Prelude.{◌≡◌, IfOk};
 ghost use Rattle.normal_forms.specs.FormNodes.{positive_of, negative_of};

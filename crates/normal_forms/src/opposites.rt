@@ -1,4 +1,4 @@
-// Formulas and their opposites.
+//! Formulas and their opposites.
 
 ghost use Rattle.std.specs.Prelude.{◌≡◌, ◌∷◌, [], ◌<◌, ◌≤◌, length, map, All, Some, IfOk, MatchOption};
 ghost use Rattle.smt_terms.specs.Connectives.{both, negated, opposite};
@@ -37,10 +37,7 @@ pub(crate) fn opposite(table: &mut Table, id: NodeId) -> Result<NodeId, AllocErr
 {
     match under_not(table, id) {
         Some(kid) => Ok(kid),
-        None => {
-            let id = negation(table, id)?;
-            Ok(id)
-        }
+        None => negation(table, id),
     }
 }
 
@@ -55,8 +52,7 @@ pub(crate) fn not_both(table: &mut Table, a: NodeId, b: NodeId) -> Result<NodeId
     ensures sorts { table.new.sorts ≡ table.old.sorts }
 {
     let all = both(table, a, b)?;
-    let id = opposite(table, all)?;
-    Ok(id)
+    opposite(table, all)
 }
 
 // `(not (and a b'))`, with b' the opposite of b.
@@ -70,8 +66,7 @@ pub(crate) fn implication(table: &mut Table, a: NodeId, b: NodeId) -> Result<Nod
     ensures sorts { table.new.sorts ≡ table.old.sorts }
 {
     let other = opposite(table, b)?;
-    let id = not_both(table, a, other)?;
-    Ok(id)
+    not_both(table, a, other)
 }
 
 // `(not (and a' b))`, with a' the opposite of a.
@@ -85,8 +80,7 @@ fn converse(table: &mut Table, a: NodeId, b: NodeId) -> Result<NodeId, AllocErro
     ensures sorts { table.new.sorts ≡ table.old.sorts }
 {
     let other = opposite(table, a)?;
-    let id = not_both(table, other, b)?;
-    Ok(id)
+    not_both(table, other, b)
 }
 
 // Both implications.
@@ -101,8 +95,7 @@ pub(crate) fn same_sides(table: &mut Table, a: NodeId, b: NodeId) -> Result<Node
 {
     let left = implication(table, a, b)?;
     let right = converse(table, a, b)?;
-    let id = both(table, left, right)?;
-    Ok(id)
+    both(table, left, right)
 }
 
 // a where c holds, and b elsewhere.
@@ -124,8 +117,7 @@ pub(crate) fn choice(
     let left = implication(table, c, a)?;
     let other = opposite(table, b)?;
     let right = converse(table, c, other)?;
-    let id = both(table, left, right)?;
-    Ok(id)
+    both(table, left, right)
 }
 
 // The opposites of these formulas.

@@ -1,4 +1,4 @@
-// A formula in the place of a quantified one, wherever that is reached through `and` and `or` alone.
+//! A formula in the place of a quantified one, wherever that is reached through `and` and `or` alone.
 
 ghost use Rattle.std.specs.Prelude.{◌≡◌, ◌<◌, false, IfOk, OnOk};
 ghost use Rattle.smt_terms.specs.declared.ids.NodeId.{NodeId};
@@ -15,7 +15,7 @@ use crate::rebuilding::{is_binder, rebuilt};
 use indexmap::IndexSet;
 use smt_terms::NodeId;
 use std::alloc::{AllocError, Global};
-use term_table::Table;
+use term_table::{Table, know_table};
 
 // A quantified formula, and what takes its place.
 #[derive(Clone, Copy)]
@@ -50,7 +50,7 @@ fn exchanged(
     ensures grows { GrowsTo table.old table.new }
     ensures symbols { table.new.symbols ≡ table.old.symbols }
 {
-    let _ = table.len();
+    know_table(table);
     let meant = id.0 == exchange.from.0;
     if meant {
         return Ok(exchange.to);

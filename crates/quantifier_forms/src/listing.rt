@@ -11,11 +11,12 @@ ghost use Rattle.quantifier_forms.specs.Orders.{IsOrdered};
 ghost use Rattle.quantifier_forms.specs.Tasks.{task_node, after_tasks, TellAlike, Stands, work_left};
 ghost use Rattle.quantifier_forms.specs.declared.tasks.Task.{Task};
 
-use crate::tasks::{Task, Tasks};
+use crate::tasks::{Task, enter_all};
 use indexmap::IndexSet;
 use smt_terms::NodeId;
 use std::alloc::{AllocError, Global};
-use term_table::Table;
+use term_table::{Table, know_table};
+use term_walk::Stack;
 
 /// Which nodes a listing skips, with all that stands below them alone, and at which it looks at the operands.
 pub trait Choice {
@@ -46,7 +47,7 @@ fn meet(met: &mut IndexSet<NodeId>, id: NodeId) -> Result<bool, AllocError>
 fn open<C: Choice>(
     table: &Table,
     choice: &C,
-    tasks: &mut Tasks,
+    tasks: &mut Stack<Task>,
     id: NodeId,
 ) -> Result<(), AllocError>
     requires { IsNode table.now id }
@@ -56,7 +57,7 @@ fn open<C: Choice>(
 {
     tasks.push(Task::Leave(id))?;
     if choice.opens(table, id) {
-        tasks.enter_all(table.kids(id))?;
+        enter_all(tasks, table.kids(id))?;
         return Ok(());
     }
     Ok(())
@@ -66,7 +67,7 @@ fn open<C: Choice>(
 fn enter<C: Choice>(
     table: &Table,
     choice: &C,
-    tasks: &mut Tasks,
+    tasks: &mut Stack<Task>,
     met: &mut IndexSet<NodeId>,
     id: NodeId,
 ) -> Result<(), AllocError>
@@ -75,7 +76,7 @@ fn enter<C: Choice>(
     ensures rest { (skips opens : Term → Bool) (ls : List NodeId) → TellAlike table.now (C.skips choice.now) skips → TellAlike table.now (C.opens choice.now table.now) opens → Stands table.now (Task.Enter id ∷ tasks.old) met.old.keys ls → OnOk result (after_tasks skips opens table.now tasks.new (trees_at table.now ls) ≡ after_tasks skips opens table.now (Task.Enter id ∷ tasks.old) (trees_at table.now ls)) }
     ensures nearer { (n : ℕ) → id.0 < n → OnOk result (work_left table.now met.new.keys n + length tasks.new ≤ work_left table.now met.old.keys n + length tasks.old) }
 {
-    let _ = table.len();
+    know_table(table);
     if choice.skips(id) {
         return Ok(());
     }
@@ -90,7 +91,7 @@ fn enter<C: Choice>(
 fn turn<C: Choice>(
     table: &Table,
     choice: &C,
-    tasks: &mut Tasks,
+    tasks: &mut Stack<Task>,
     met: &mut IndexSet<NodeId>,
     done: &mut Vec<NodeId>,
     task: Task,
@@ -123,7 +124,7 @@ pub fn list<C: Choice>(
     ensures nodes { IfOk result (λ ks. AreNodes table.now ks.items) }
     ensures terms { (skips opens : Term → Bool) → TellAlike table.now (C.skips choice.now) skips → TellAlike table.now (C.opens choice.now table.now) opens → IfOk result (λ ks. trees_at table.now ks.items ≡ listed skips opens (tree table.now root) []) }
 {
-    let mut tasks = Tasks::new(alloc);
+    let mut tasks = Stack::new(alloc);
     tasks.push(Task::Enter(root))?;
     let mut met = IndexSet::new(alloc);
     let mut done = Vec::new(alloc);
@@ -157,7 +158,7 @@ pub fn list_all(alloc: Global, table: &Table, root: NodeId) -> Result<Vec<NodeId
     ensures order { IfOk result (λ ks. IsOrdered table.now (λ _. false) root ks.items) }
     ensures terms { IfOk result (λ ks. trees_at table.now ks.items ≡ listed (λ _. false) (λ _. true) (tree table.now root) []) }
 {
-    let _ = table.len();
+    know_table(table);
     let order = list(alloc, table, &Everything, root)?;
     Ok(order)
 }

@@ -43,8 +43,7 @@ fn normal<L: Ledger>(
     ensures symbols { table.new.symbols ≡ table.old.symbols }
 {
     let mut steps = Steps::<L>::new(blank);
-    let normal = nnf(alloc, table, id, &mut steps)?;
-    Ok(normal)
+    nnf(alloc, table, id, &mut steps)
 }
 
 // Pulls quantifiers in front while one is reached, the leftmost first. The answer is the matrix.

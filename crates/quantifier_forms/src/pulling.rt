@@ -1,4 +1,4 @@
-// Quantifiers that go in front, over fresh names.
+//! Quantifiers that go in front, over fresh names.
 
 ghost use Rattle.std.specs.Prelude.{◌≡◌, ◌∷◌, ◌++◌, [], List, true, IfOk, OnOk};
 ghost use Rattle.smt_terms.specs.Sorts.{Variable};
@@ -21,7 +21,7 @@ use smt_terms::NodeId;
 use smt_values::Op;
 use std::alloc::{AllocError, Global};
 use term_subst::{Fresh, SymMap, substitute};
-use term_table::Table;
+use term_table::{Table, know_table};
 
 // A quantifier in front.
 #[derive(Drop)]
@@ -47,7 +47,7 @@ fn draw(
     let sort = table.sort_of(given);
     let drawn = fresh.next(table, sort)?;
     let renamed = table.intern(Op::Sym(drawn), &[])?;
-    let _ = table.len();
+    know_table(table);
     map.set(symbol, renamed)?;
     Ok(renamed)
 }
@@ -119,9 +119,7 @@ pub(crate) fn close(
     ensures symbols { table.new.symbols ≡ table.old.symbols }
 {
     let mut form = matrix;
-    let mut place = prefix.len();
-    while place > 0 {
-        place -= 1;
+    for place in (0..prefix.len()).rev() {
         let bound = &prefix[place];
         form = quantify(alloc, table, bound.universal, &bound.variables, form)?;
     }

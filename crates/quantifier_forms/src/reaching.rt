@@ -1,4 +1,4 @@
-// What is reached from the root of a formula through `and` and `or` alone.
+//! What is reached from the root of a formula through `and` and `or` alone.
 
 ghost use Rattle.std.specs.Prelude.{◌≡◌, Bool, true, false, None, Some, IfOk, MatchOption, IfSome};
 ghost use Rattle.term_table.specs.Formulas.{tree, trees_at, IsNode, AreNodes};
@@ -12,7 +12,7 @@ use indexmap::IndexSet;
 use smt_terms::NodeId;
 use smt_values::Op;
 use std::alloc::{AllocError, Global};
-use term_table::Table;
+use term_table::{Table, know_table};
 
 // Whether a node is an `and` or an `or`.
 #[tactic(auto, unfolding(term_table::specs::Formulas::kind, smt_terms::specs::Connectives::operator_kind))]
@@ -80,7 +80,7 @@ pub(crate) fn reached(
     requires bare { AreBare table.now bare.now.keys }
     ensures { IfOk result (λ ks. AreReached table.now bare.now.keys root ks.items) }
 {
-    let _ = table.len();
+    know_table(table);
     let order = list(alloc, table, &Known { bare }, root)?;
     Ok(order)
 }
@@ -91,7 +91,7 @@ pub(crate) fn first_binder(table: &Table, ids: &[NodeId]) -> Option<NodeId>
     ensures first { MatchOption result (first_quantified (trees_at table.now ids.now) ≡ None) (λ k. first_quantified (trees_at table.now ids.now) ≡ Some (parts_of (tree table.now k))) }
     ensures binder { IfSome result (IsBinder table.now) }
 {
-    let _ = table.len();
+    know_table(table);
     for id in ids {
         if is_binder(table, *id) {
             return Some(*id);

@@ -1,10 +1,10 @@
-// The stack of a listing.
+//! What there is to do in a listing.
 
-ghost use Rattle.std.specs.Prelude.{◌≡◌, ◌+◌, ◌++◌, ◌∷◌, [], List, OnOk, OnErr, MatchOption, length, map};
+ghost use Rattle.std.specs.Prelude.{◌≡◌, ◌++◌, OnOk, map};
 
 use smt_terms::NodeId;
-use std::alloc::{AllocError, Global};
-use std::marker::Model;
+use std::alloc::AllocError;
+use term_walk::Stack;
 
 // What is left to do: to enter a node, or to leave it, when all below it is listed.
 #[derive(Clone, Copy)]
@@ -13,55 +13,12 @@ pub(crate) enum Task {
     Leave(NodeId),
 }
 
-// Tasks, of which contracts see the next first.
-#[derive(Drop)]
-pub(crate) struct Tasks {
-    items: Vec<Task>,
-}
-
-impl Model for Tasks {
-    ghost use Rattle.std.specs.Prelude.{List, reverse};
-    ghost use Rattle.quantifier_forms.specs.declared.tasks.Task.{Task};
-
-    ghost Value = { List Task };
-
-    ghost view = { λ s. reverse s.items.items };
-}
-
-impl Tasks {
-    ghost use Rattle.quantifier_forms.specs.declared.tasks.Task.{Task};
-
-    pub(crate) fn new(alloc: Global) -> Tasks
-        ensures { result ≡ [] }
-    {
-        Tasks {
-            items: Vec::new(alloc),
-        }
+// Enters these nodes before all else, in their order.
+pub(crate) fn enter_all(tasks: &mut Stack<Task>, ids: &[NodeId]) -> Result<(), AllocError>
+    ensures { OnOk result (tasks.new ≡ map (λ k. Task.Enter k) ids.now ++ tasks.old) }
+{
+    for place in (0..ids.len()).rev() {
+        tasks.push(Task::Enter(ids[place]))?;
     }
-
-    pub(crate) fn push(&mut self, task: Task) -> Result<(), AllocError>
-        ensures ok { OnOk result (self.new ≡ task ∷ self.old) }
-        ensures err { OnErr result (self.new ≡ self.old) }
-    {
-        self.items.push(task)?;
-        Ok(())
-    }
-
-    pub(crate) fn pop(&mut self) -> Option<Task>
-        ensures { MatchOption result ((self.old ≡ []) × (self.new ≡ [])) (λ i. self.old ≡ i ∷ self.new) }
-    {
-        self.items.pop()
-    }
-
-    // Enters these nodes before all else, in their order.
-    pub(crate) fn enter_all(&mut self, ids: &[NodeId]) -> Result<(), AllocError>
-        ensures { OnOk result (self.new ≡ map (λ k. Task.Enter k) ids.now ++ self.old) }
-    {
-        let mut place = ids.len();
-        while place > 0 {
-            place -= 1;
-            self.push(Task::Enter(ids[place]))?;
-        }
-        Ok(())
-    }
+    Ok(())
 }

@@ -37,9 +37,6 @@ use std::alloc::{AllocError, Global};
 use term_subst::{Fresh, NameSet};
 use term_table::Table;
 
-// The sort `Int`.
-const INT: SortId = SortId(1);
-
 /// What binds variables.
 #[derive(Clone, Copy, Debug, PartialEq, Eq)]
 pub enum Binder {
@@ -62,7 +59,7 @@ fn is_quantifiable(table: &Table, sort: SortId) -> bool
     ensures { result ≡ is_quantifiable (sort_at table.now.sorts sort) }
 {
     let sorts = table.sorts();
-    sort != INT && sorts.parts(sort).is_none() && sorts.name(sort).is_none()
+    sort != SortId::INT && sorts.parts(sort).is_none() && sorts.name(sort).is_none()
 }
 
 // Whether a variable may have this sort.

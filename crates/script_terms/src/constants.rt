@@ -12,7 +12,7 @@ ghost use Rattle.script_terms.specs.Known.{IsConstant};
 use crate::locals::Constant;
 use smt_terms::{NodeId, Op, SymId};
 use std::alloc::AllocError;
-use term_table::Table;
+use term_table::{Table, know_table};
 
 /// A symbol that takes no arguments, with its node.
 pub fn constant(table: &mut Table, symbol: SymId) -> Result<Constant, AllocError>
@@ -24,7 +24,7 @@ pub fn constant(table: &mut Table, symbol: SymId) -> Result<Constant, AllocError
     ensures symbols { table.new.symbols ≡ table.old.symbols }
     ensures sorts { table.new.sorts ≡ table.old.sorts }
 {
-    let _ = table.len();
+    know_table(table);
     let node = table.intern(Op::Sym(symbol), &[])?;
     Ok(Constant { symbol, node })
 }

@@ -1,11 +1,10 @@
 //! The names of the theories, and the names that are reserved.
 
-ghost use Rattle.std.specs.Prelude.{◌≡◌, map};
+ghost use Rattle.std.specs.Prelude.{◌≡◌};
 ghost use Rattle.smt_lex.specs.Names.{is_among, is_theory_name, is_bit_vector_constant, is_theory_sort, is_internal, is_reserved_for_declaring, is_reserved_for_sorts};
-ghost use Rattle.smt_lex.specs.Lexicon.{is_some_of};
-ghost use Rattle.std.specs.Char.{is_ascii_digit};
 ghost use Rattle.script_terms.specs.Heads.{real_names, takes_no_index};
 
+use smt_lex::{are_digits, is_among};
 use sort_check::form_named;
 
 // The sorts of the theories.
@@ -16,30 +15,6 @@ const REAL_NAMES: [&[u8]; 4] = [b"/", b"to_real", b"to_int", b"is_int"];
 
 // Names of the theories that take no index and no operands.
 const NAMES_WITHOUT_INDEX: [&[u8]; 3] = [b"true", b"false", b"const"];
-
-// Whether it is one of the names.
-fn is_among(names: &[&[u8]], name: &[u8]) -> bool
-    ensures { result ≡ is_among (map (λ other. other.now) names.now) name.now }
-{
-    for other in names {
-        if name == *other {
-            return true;
-        }
-    }
-    false
-}
-
-/// Whether they are one or more digits.
-pub fn are_digits(bytes: &[u8]) -> bool
-    ensures { result ≡ is_some_of is_ascii_digit bytes.now }
-{
-    for byte in bytes {
-        if !byte.is_ascii_digit() {
-            return false;
-        }
-    }
-    !bytes.is_empty()
-}
 
 /// Whether the name is `bv` and one or more digits.
 pub fn is_bit_vector_constant(name: &[u8]) -> bool

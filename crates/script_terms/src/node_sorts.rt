@@ -8,9 +8,6 @@ ghost use Rattle.script_terms.specs.Read.{has_sort};
 use smt_terms::{NodeId, SortId};
 use term_table::Table;
 
-/// `Bool`
-pub const BOOL: SortId = SortId(0);
-
 /// Whether a node's term has this sort.
 pub fn has_sort(table: &Table, node: NodeId, sort: SortId) -> bool
     requires node { IsNode table.now node }

@@ -26,12 +26,6 @@ use std::alloc::{AllocError, Global};
 use std::marker::Model;
 use term_table::Table;
 
-// The sort `Bool`.
-const BOOL: SortId = SortId(0);
-
-// The sort `Int`.
-const INT: SortId = SortId(1);
-
 // The greatest width of a bit vector.
 const MOST_BITS: u128 = 128;
 
@@ -98,10 +92,10 @@ fn named_sort(name: &[u8], place: u32, scope: &Scope) -> Result<SortId, Fault>
     ensures within { (t : Formulas) → AreScopedSorts t.sorts scope.now.sorts → IfOk result (IsSortId t.sorts) }
 {
     if name == b"Bool".as_slice() {
-        return Ok(BOOL);
+        return Ok(SortId::BOOL);
     }
     if name == b"Int".as_slice() {
-        return Ok(INT);
+        return Ok(SortId::INT);
     }
     if name == b"Real".as_slice() {
         return Err(Fault {

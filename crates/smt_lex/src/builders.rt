@@ -1,4 +1,4 @@
-// The tokens of a text, as far as it was examined.
+//! The tokens of a text, as far as it was examined.
 
 ghost use Rattle.std.specs.Prelude.{◌≡◌, ◌≢◌, ◌<◌, ◌≤◌, ◌+◌, ◌^◌, ◌&&◌, ◌==◌, [], Ok, length, slice_index, IfOk, OnOk, IfErr, vec_len, vec_capacity};
 ghost use Rattle.smt_lex.specs.Lex.{line_at};

@@ -1,4 +1,4 @@
-// The classes of bytes, and how many bytes of a class a text begins with.
+//! The classes of bytes, and how many bytes of a class a text begins with.
 
 ghost use Rattle.std.specs.Prelude.{◌≡◌, ◌≤◌, ◌==◌, ◌+◌, drop, length, not};
 ghost use Rattle.std.specs.Char.{is_ascii_digit, is_ascii_hexdigit};

@@ -1,4 +1,4 @@
-// The tokens of a text as they are kept.
+//! The tokens of a text as they are kept.
 
 ghost use Rattle.std.specs.Prelude.{◌≡◌, ◌<◌, ◌^◌};
 ghost use Rattle.smt_lex.specs.Forms.{is_left};

@@ -1,4 +1,4 @@
-// Why a text isn't a list of forms.
+//! Why a text isn't a list of forms.
 
 ghost use Rattle.std.specs.Prelude.{◌≡◌, ◌≤◌, ◌<◌, ◌^◌, length};
 ghost use Rattle.smt_lex.specs.Lex.{line_at};

@@ -1,4 +1,4 @@
-// The forms of a text, as a flat list of tokens.
+//! The forms of a text, as a flat list of tokens.
 
 ghost use Rattle.std.specs.Prelude.{◌≡◌, ◌<◌, ◌≤◌, ◌^◌, length, Ok, IfOk, IfErr, slice_range, vec_len};
 ghost use Rattle.smt_lex.specs.Lex.{name_of};

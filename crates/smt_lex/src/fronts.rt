@@ -1,4 +1,4 @@
-// What a text begins with.
+//! What a text begins with.
 
 ghost use Rattle.std.specs.Prelude.{◌≡◌, ◌≢◌, ◌+◌, ◌<◌, ◌≤◌, true, false, length, slice_index, slice_index_or, IfSome};
 ghost use Rattle.smt_lex.specs.ByteClasses.{class_of};

@@ -1,4 +1,4 @@
-// What a text is cut into.
+//! What a text is cut into.
 
 /// How far a text is examined.
 #[derive(Clone, Copy, Debug, PartialEq, Eq)]

@@ -16,7 +16,8 @@ mod symbols;
 pub use faults::{LexFault, line_of};
 pub use forests::{Forest, scan};
 pub use items::{Item, Span, Until};
-pub use symbols::{is_command_word, is_reserved, symbol_text};
+pub use runs::{are_digits, is_numeral};
+pub use symbols::{is_among, is_command_word, is_reserved, symbol_text};
 
 #[cfg(test)]
 mod tests;

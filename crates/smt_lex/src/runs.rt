@@ -1,4 +1,4 @@
-// Which token a run is.
+//! Which token a run is.
 
 ghost use Rattle.std.specs.Prelude.{◌≡◌, IfSome, slice_index_or, true};
 ghost use Rattle.std.specs.Char.{is_ascii_digit, is_ascii_hexdigit};
@@ -55,11 +55,11 @@ pub(crate) fn is_word(run: &[u8]) -> bool
     !starts_with_digit(run) && is_symbol_bytes(run)
 }
 
-// `0`, or digits that begin with another digit than 0.
-fn is_numeral(run: &[u8]) -> bool
+/// Whether the text is `0`, or digits that begin with another digit than 0: a numeral of SMT-LIB 2.6, section 3.1.
+pub fn is_numeral(run: &[u8]) -> bool
     ensures { result ≡ is_numeral run.now }
 {
-    is_digits(run) && (!run.starts_with(b"0") || run.len() == 1)
+    are_digits(run) && (!run.starts_with(b"0") || run.len() == 1)
 }
 
 // `:` and one or more symbol bytes.
@@ -74,7 +74,7 @@ fn is_decimal(run: &[u8]) -> bool
     ensures { result ≡ is_decimal run.now }
 {
     let whole = digits_length(run);
-    is_numeral(&run[..whole]) && run[whole..].starts_with(b".") && is_digits(&run[whole + 1..])
+    is_numeral(&run[..whole]) && run[whole..].starts_with(b".") && are_digits(&run[whole + 1..])
 }
 
 // `#x` and one or more hexadecimal digits.
@@ -109,8 +109,8 @@ fn is_symbol_bytes(text: &[u8]) -> bool
     !text.is_empty()
 }
 
-// One or more digits.
-fn is_digits(text: &[u8]) -> bool
+/// Whether the text is one or more digits.
+pub fn are_digits(text: &[u8]) -> bool
     ensures { result ≡ is_some_of is_ascii_digit text.now }
 {
     for byte in text {

@@ -1,4 +1,4 @@
-// Reserved words, and how symbols are printed.
+//! Reserved words, and how symbols are printed.
 
 ghost use Rattle.std.specs.Prelude.{◌≡◌, [], ◌∷◌, ◌++◌, map, IfOk, OnOk, OnErr};
 ghost use Rattle.smt_lex.specs.Lexicon.{bar};
@@ -103,8 +103,8 @@ pub fn is_command_word(word: &[u8]) -> bool
     }
 }
 
-// Whether it is one of the words.
-fn is_among(words: &[&[u8]], word: &[u8]) -> bool
+/// Whether it is one of the words.
+pub fn is_among(words: &[&[u8]], word: &[u8]) -> bool
     ensures { result ≡ is_among (map (λ other. other.now) words.now) word.now }
 {
     for other in words {

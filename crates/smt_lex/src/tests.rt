@@ -1,4 +1,4 @@
-// Texts from outside, long texts, and each public function once.
+//! Texts from outside, long texts, and each public function once.
 
 ghost use Rattle.std.specs.Prelude.{◌<◌, ◌^◌, length};
 

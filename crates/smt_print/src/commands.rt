@@ -1,4 +1,4 @@
-// Commands that hold no terms.
+//! Commands that hold no terms.
 
 ghost use Rattle.std.specs.Prelude.{◌≡◌, ◌++◌, ◌∷◌, [], All, OnOk, map, codes, false};
 ghost use Rattle.smt_lex.specs.Forms.{Form};

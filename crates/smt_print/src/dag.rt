@@ -1,4 +1,4 @@
-// Terms in layout dag: each distinct subterm that has operands once, below the names of those before it.
+//! Terms in layout dag: each distinct subterm that has operands once, below the names of those before it.
 
 ghost use Rattle.std.specs.Prelude.{◌≡◌, ◌<◌, ◌++◌, ◌∷◌, [], ℕ, List, OnOk, OnErr, length, true, false};
 ghost use Rattle.smt_lex.specs.FormText.{form_text};
@@ -17,9 +17,9 @@ use crate::numbers::push_number;
 use crate::output::Output;
 use crate::page::Page;
 use crate::scope::Scopes;
-use crate::stack::Stack;
 use smt_terms::NodeId;
 use std::alloc::{AllocError, Global};
+use term_walk::Stack;
 
 // What is still to be printed of a term.
 #[derive(Clone, Copy)]

@@ -1,4 +1,4 @@
-// Text on its way to an output.
+//! Text on its way to an output.
 
 ghost use Rattle.std.specs.Prelude.{◌≡◌, ◌++◌, [], OnOk, OnErr};
 ghost use Rattle.smt_print.specs.Prefix.{AppendsPrefix, Drafts};
@@ -6,9 +6,9 @@ ghost use Rattle.smt_print.specs.Prefix.{AppendsPrefix, Drafts};
 use crate::output::Output;
 use crate::page::Page;
 use crate::scope::Scopes;
-use crate::stack::Stack;
 use crate::{dag, tree};
 use std::alloc::{AllocError, Global};
+use term_walk::Stack;
 
 // Text is appended once it has so many bytes.
 const PART: usize = 16_384;

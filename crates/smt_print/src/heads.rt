@@ -1,4 +1,4 @@
-// The heads of terms.
+//! The heads of terms.
 
 ghost use Rattle.std.specs.Prelude.{◌≡◌, ◌++◌, List, OnOk, IfNone, IfSome, map, true, false};
 ghost use Rattle.smt_lex.specs.FormText.{form_text};

@@ -15,7 +15,6 @@ mod output;
 mod page;
 mod scope;
 mod scripts;
-mod stack;
 mod terms;
 mod tree;
 

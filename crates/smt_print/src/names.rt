@@ -1,4 +1,4 @@
-// What terms are printed of: a table, and which of its symbols need no bars.
+//! What terms are printed of: a table, and which of its symbols need no bars.
 
 ghost use Rattle.std.specs.Prelude.{◌≡◌, ◌<◌, ◌++◌, ◌⊎◌, ℕ, get_or, map, IfOk, OnOk, All, Some, true, false, IsTrue};
 ghost use Rattle.smt_lex.specs.FormText.{form_text};

@@ -1,4 +1,4 @@
-// Numbers and the indices of operators.
+//! Numbers and the indices of operators.
 
 ghost use Rattle.std.specs.Prelude.{◌≡◌, ◌==◌, ◌++◌, ◌∷◌, [], if◌then◌else◌, OnOk};
 ghost use Rattle.smt_lex.specs.FormText.{form_text};

@@ -1,4 +1,4 @@
-// What a text is printed to.
+//! What a text is printed to.
 
 ghost use Rattle.std.specs.Prelude.{◌≡◌, ◌++◌, ℕ, List, OnOk, OnErr};
 ghost use Rattle.smt_print.specs.Prefix.{AppendsPrefix};

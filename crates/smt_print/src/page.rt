@@ -1,4 +1,4 @@
-// A text on its way out.
+//! A text on its way out.
 
 ghost use Rattle.std.specs.Prelude.{◌≡◌, ◌++◌, ◌∷◌, ◌+◌, ◌≤◌, [], length, take, OnErr, OnOk, vec_len};
 ghost use Rattle.smt_lex.specs.FormText.{form_text};

@@ -1,4 +1,4 @@
-// The names of definitions.
+//! The names of definitions.
 
 ghost use Rattle.std.specs.Prelude.{◌≡◌, ◌<◌, ◌≤◌, ◌∷◌, [], OnOk, MatchOption, All, length, reverse, true, false};
 ghost use Rattle.smt_print.specs.Defined.{has_node, number_of, place_in, taken_back};

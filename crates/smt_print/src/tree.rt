@@ -1,4 +1,4 @@
-// Terms in layout tree: each as it is, with its subterms wherever they occur.
+//! Terms in layout tree: each as it is, with its subterms wherever they occur.
 
 ghost use Rattle.std.specs.Prelude.{◌≡◌, ◌<◌, ◌++◌, ◌∷◌, ℕ, List, OnOk, OnErr, map};
 ghost use Rattle.smt_lex.specs.FormText.{form_text};
@@ -12,9 +12,9 @@ use crate::heads::{binding, push_application, push_binder, push_head};
 use crate::names::Printed;
 use crate::output::Output;
 use crate::page::Page;
-use crate::stack::Stack;
 use smt_terms::NodeId;
 use std::alloc::{AllocError, Global};
+use term_walk::Stack;
 
 // What is still to be printed of a term.
 #[derive(Clone, Copy)]

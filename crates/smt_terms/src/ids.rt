@@ -34,6 +34,12 @@ impl SymId {
 pub struct SortId(pub u64);
 
 impl SortId {
+    /// `Bool`
+    pub const BOOL: SortId = SortId(0);
+
+    /// `Int`
+    pub const INT: SortId = SortId(1);
+
     /// The number itself.
     pub fn number(self) -> u64
         ensures { result ≡ self.0 }

@@ -1,4 +1,4 @@
-// The written operators over small operands. What is wanted was written by hand from the declarations of the theories.
+//! The written operators over small operands. What is wanted was written by hand from the declarations of the theories.
 
 ghost use Rattle.std.specs.Prelude.{◌<◌, ◌^◌, ◌↔◌, All, IsTrue};
 ghost use Rattle.term_table.specs.Formulas.{AreNodes};
@@ -8,10 +8,6 @@ use smt_terms::{NodeId, Op, SortId};
 use std::alloc::Global;
 use std::test::Fail;
 use term_table::{RankFault, Table};
-
-const BOOL: SortId = SortId(0);
-
-const INT: SortId = SortId(1);
 
 const BIT: SortId = SortId(2);
 
@@ -96,8 +92,8 @@ const REFUSED: [(&[u8], &[u128], &[usize], RankFault); 18] = [
         &[2],
         RankFault::WrongSort {
             arg: 0,
-            have: INT,
-            want: BOOL,
+            have: SortId::INT,
+            want: SortId::BOOL,
         },
     ),
     (
@@ -106,8 +102,8 @@ const REFUSED: [(&[u8], &[u128], &[usize], RankFault); 18] = [
         &[2, 2, 0],
         RankFault::WrongSort {
             arg: 2,
-            have: BOOL,
-            want: INT,
+            have: SortId::BOOL,
+            want: SortId::INT,
         },
     ),
     (
@@ -116,7 +112,7 @@ const REFUSED: [(&[u8], &[u128], &[usize], RankFault); 18] = [
         &[5, 5, 2, 0],
         RankFault::WrongSort {
             arg: 2,
-            have: INT,
+            have: SortId::INT,
             want: BYTE,
         },
     ),
@@ -127,7 +123,7 @@ const REFUSED: [(&[u8], &[u128], &[usize], RankFault); 18] = [
         RankFault::WrongSort {
             arg: 1,
             have: BYTE,
-            want: BOOL,
+            want: SortId::BOOL,
         },
     ),
     (
@@ -136,7 +132,7 @@ const REFUSED: [(&[u8], &[u128], &[usize], RankFault); 18] = [
         &[2, 0],
         RankFault::WrongSort {
             arg: 0,
-            have: INT,
+            have: SortId::INT,
             want: BIT,
         },
     ),
@@ -146,7 +142,7 @@ const REFUSED: [(&[u8], &[u128], &[usize], RankFault); 18] = [
         &[2],
         RankFault::WrongSort {
             arg: 0,
-            have: INT,
+            have: SortId::INT,
             want: BIT,
         },
     ),

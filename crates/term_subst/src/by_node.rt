@@ -1,4 +1,4 @@
-// What is found of nodes, by their numbers.
+//! What is found of nodes, by their numbers.
 
 ghost use Rattle.std.specs.Prelude.{◌≡◌, ◌==◌, [], Some, OnOk, option_copied, if◌then◌else◌};
 ghost use Rattle.smt_terms.specs.declared.ids.NodeId.{NodeId};

@@ -1,4 +1,4 @@
-// Results of quantified nodes, one for each map that is cut down to the node's free symbols.
+//! Results of quantified nodes, one for each map that is cut down to the node's free symbols.
 
 ghost use Rattle.std.specs.Prelude.{◌≡◌, ◌∷◌, [], None, OnOk};
 ghost use Rattle.term_subst.specs.Keys.{chosen_in};

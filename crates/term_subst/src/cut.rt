@@ -1,4 +1,4 @@
-// Maps that are cut down to some symbols.
+//! Maps that are cut down to some symbols.
 
 ghost use Rattle.std.specs.Prelude.{◌≡◌, ◌++◌, ◌∷◌, [], All, IfOk, OnOk};
 ghost use Rattle.smt_terms.specs.Subst.{cut_to};
@@ -9,10 +9,9 @@ ghost use Rattle.term_subst.specs.Maps.{map_at, image_in};
 ghost use Rattle.term_subst.specs.Substituting.{IsMap};
 
 use crate::SymMap;
-use crate::nodes::know_table;
 use smt_terms::{NodeId, SymId};
 use std::alloc::{AllocError, Global};
-use term_table::Table;
+use term_table::{Table, know_table};
 
 // Puts a symbol with its image last, where it has one.
 fn take_along(
@@ -62,9 +61,7 @@ pub(crate) fn as_map(alloc: Global, pairs: &[(SymId, NodeId)]) -> Result<SymMap,
     ensures within { (t : Formulas) → IsMap t pairs.now → IfOk result (λ m. IsMap t m) }
 {
     let mut map = SymMap::new(alloc);
-    let mut place = pairs.len();
-    while place > 0 {
-        place -= 1;
+    for place in (0..pairs.len()).rev() {
         let (symbol, image) = pairs[place];
         map.set(symbol, image)?;
     }

@@ -1,4 +1,4 @@
-// What a substitution finds out of nodes, each once.
+//! What a substitution finds out of nodes, each once.
 
 ghost use Rattle.std.specs.Prelude.{◌≡◌, All, IfOk, IfSome, IsSome, OnOk};
 ghost use Rattle.smt_terms.specs.Free.{free, name_among, names_of};

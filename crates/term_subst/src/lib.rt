@@ -14,7 +14,6 @@ pub mod names;
 mod nodes;
 pub mod noted;
 mod renaming;
-mod stack;
 pub mod substitution;
 mod survey;
 mod todo;

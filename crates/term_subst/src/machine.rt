@@ -1,5 +1,5 @@
-// The machine that substitutes, with a stack of its own. It implements `subst_from m t s`: the result of a term t under the
-// map m, from what is kept in s; one result for each node under one map, and one for each quantified term under one cut map.
+//! The machine that substitutes, with a stack of its own. It implements `subst_from m t s`: the result of a term t under the
+//! map m, from what is kept in s; one result for each node under one map, and one for each quantified term under one cut map.
 
 ghost use Rattle.std.specs.Prelude.{◌≡◌, ◌<◌, ◌∷◌, [], None, OnOk, IfOk, true, false};
 ghost use Rattle.smt_terms.specs.Free.{free};
@@ -20,15 +20,15 @@ use crate::by_node::ByNode;
 use crate::chosen::{Chosen, Key};
 use crate::cut::{as_map, cut_down};
 use crate::findings::Findings;
-use crate::nodes::{is_binder, know_table, rebuild, requantify, split};
+use crate::nodes::{is_binder, rebuild, requantify, split};
 use crate::renaming::rename;
-use crate::stack::Stack;
 use crate::todo::{Frame, Level, Opened, push_visits};
 use crate::{Fresh, SymMap};
 use smt_terms::NodeId;
 use std::alloc::{AllocError, Global};
 use std::mem;
-use term_table::Table;
+use term_table::{Table, know_table};
+use term_walk::Stack;
 
 // The state of one substitution: the level of the node that is next, what is to do, the results of what was done, and those
 // that are kept of quantified terms.

@@ -1,4 +1,4 @@
-// What the nodes are that a substitution meets, and those that it makes.
+//! What the nodes are that a substitution meets, and those that it makes.
 
 ghost use Rattle.std.specs.Prelude.{◌≡◌, IfOk, Some, false, true};
 ghost use Rattle.smt_terms.specs.Sorts.{bool};
@@ -16,13 +16,6 @@ use smt_terms::{NodeId, SymId};
 use smt_values::Op;
 use std::alloc::{AllocError, Global};
 use term_table::Table;
-
-// What holds of every table.
-pub(crate) fn know_table(table: &Table)
-    ensures { IsTable table.now }
-{
-    let _ = table.len();
-}
 
 #[tactic(auto, unfolding(term_table::specs::Formulas::kind))]
 pub(crate) fn is_binder(table: &Table, node: NodeId) -> bool

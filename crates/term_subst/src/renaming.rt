@@ -1,4 +1,4 @@
-// Bound variables that get fresh names where an image has theirs free.
+//! Bound variables that get fresh names where an image has theirs free.
 
 ghost use Rattle.std.specs.Prelude.{◌≡◌, IfOk, OnOk};
 ghost use Rattle.smt_terms.specs.Free.{name_among};
@@ -11,12 +11,12 @@ ghost use Rattle.term_subst.specs.State.{AreFindings, AreVariables, Gains, SameI
 ghost use Rattle.term_subst.specs.Substituting.{IsMap};
 
 use crate::findings::Findings;
-use crate::nodes::{know_table, symbol_of};
+use crate::nodes::symbol_of;
 use crate::{Fresh, SymMap};
 use smt_terms::{NodeId, SymId};
 use smt_values::Op;
 use std::alloc::{AllocError, Global};
-use term_table::Table;
+use term_table::{Table, know_table};
 
 // Whether a name is free in an image of a map.
 fn is_captured(

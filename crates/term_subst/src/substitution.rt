@@ -12,11 +12,10 @@ ghost use Rattle.term_subst.specs.Substituting.{IsMap, IsLater, NeverGivesGained
 
 use crate::cut::as_map;
 use crate::machine::run;
-use crate::nodes::know_table;
 use crate::{Definition, Fresh, SymMap};
 use smt_terms::{NodeId, SymId};
 use std::alloc::{AllocError, Global};
-use term_table::{Syms, Table};
+use term_table::{Syms, Table, know_table};
 
 /// Replaces free constants of a node by terms of their sorts, all at once and without capture (SMT-LIB 2.6, section 5.3):
 /// a bound name that is free in the image of a symbol that is free below its quantifier becomes a fresh one. One
@@ -45,8 +44,7 @@ pub fn substitute(
     ensures sorts { table.new.sorts ≡ table.old.sorts }
 {
     let copy = map.copy()?;
-    let result = run(alloc, table, copy, root, fresh)?;
-    Ok(result)
+    run(alloc, table, copy, root, fresh)
 }
 
 /// The body of a definition with arguments for its parameters, by substitution. The parameters are symbols without

@@ -1,5 +1,5 @@
-// The free symbols of a node, found together with those of the quantified nodes below it, by a walk with a stack of its own:
-// each node is visited once in each scope, and each scope once. It takes time and memory for these nodes alone.
+//! The free symbols of a node, found together with those of the quantified nodes below it, by a walk with a stack of its own:
+//! each node is visited once in each scope, and each scope once. It takes time and memory for these nodes alone.
 
 ghost use Rattle.std.specs.Prelude.{◌≡◌, ◌<◌, ◌++◌, ◌∷◌, [], All, IfOk, OnOk, List, filter, map, not};
 ghost use Rattle.smt_terms.specs.Free.{is_among, with_more};
@@ -13,14 +13,14 @@ ghost use Rattle.term_subst.specs.Steps.{load};
 ghost use Rattle.term_subst.specs.Surveying.{Surveys, tasks_at};
 
 use crate::by_node::ByNode;
-use crate::nodes::{is_binder, know_table, split, symbol_of};
-use crate::stack::Stack;
+use crate::nodes::{is_binder, split, symbol_of};
 use indexmap::IndexSet;
 use smt_terms::{NodeId, SymId};
 use smt_values::Op;
 use std::alloc::{AllocError, Global};
 use std::mem;
-use term_table::Table;
+use term_table::{Table, know_table};
+use term_walk::Stack;
 
 // What is listed in one scope: the free symbols that were met, in order, and the nodes all of whose symbols are among them.
 #[derive(Drop)]
@@ -160,9 +160,7 @@ fn unbound(
 fn push_visits(tasks: &mut Stack<Task>, nodes: &[NodeId]) -> Result<(), AllocError>
     ensures { OnOk result (tasks.new ≡ map Visit nodes.now ++ tasks.old) }
 {
-    let mut place = nodes.len();
-    while place > 0 {
-        place -= 1;
+    for place in (0..nodes.len()).rev() {
         tasks.push(Task::Visit(nodes[place]))?;
     }
     Ok(())

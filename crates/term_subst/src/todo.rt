@@ -1,4 +1,4 @@
-// What a substitution still has to do.
+//! What a substitution still has to do.
 
 ghost use Rattle.std.specs.Prelude.{◌≡◌, ◌++◌, map, OnOk};
 ghost use Rattle.term_subst.specs.declared.todo.Frame.TheVariants.{Visit};
@@ -6,9 +6,9 @@ ghost use Rattle.term_subst.specs.declared.todo.Frame.TheVariants.{Visit};
 use crate::SymMap;
 use crate::by_node::ByNode;
 use crate::chosen::Key;
-use crate::stack::Stack;
 use smt_terms::NodeId;
 use std::alloc::AllocError;
+use term_walk::Stack;
 
 // A map, and the results of nodes under it.
 #[derive(Drop)]
@@ -40,9 +40,7 @@ pub(crate) enum Frame {
 pub(crate) fn push_visits(todo: &mut Stack<Frame>, nodes: &[NodeId]) -> Result<(), AllocError>
     ensures { OnOk result (todo.new ≡ map Visit nodes.now ++ todo.old) }
 {
-    let mut place = nodes.len();
-    while place > 0 {
-        place -= 1;
+    for place in (0..nodes.len()).rev() {
         todo.push(Frame::Visit(nodes[place]))?;
     }
     Ok(())

@@ -12,6 +12,7 @@ pub mod table;
 pub mod text;
 
 pub use fault::RankFault;
+pub use laws::know_table;
 pub use lists::{Bytes, Nodes, Syms};
 pub use smt_terms::NodeId;
 pub use table::Table;

@@ -10,12 +10,6 @@ use crate::table::Table;
 use smt_terms::NodeId;
 use smt_values::{Op, SortId, SymId};
 
-/// The number of `Bool`.
-pub(crate) const BOOL: SortId = SortId(0);
-
-/// The number of `Int`.
-pub(crate) const INT: SortId = SortId(1);
-
 /// The number of the bit vectors of width 1.
 const BIT: SortId = SortId(2);
 
@@ -39,11 +33,11 @@ pub(crate) fn width_of(sort: SortId) -> Option<u64>
 fn is_quantifiable_sort(sort: SortId) -> bool
     ensures { IsTrue result ↔ ((sort.0 ≢ 1) × (sort.0 < 130)) }
 {
-    sort.0 != INT.0 && sort.0 <= NO_BITS + MOST_BITS
+    sort.0 != SortId::INT.0 && sort.0 <= NO_BITS + MOST_BITS
 }
 
 /// Whether the bits are below 2 to the width, for a width of at most 128.
-pub(crate) fn fits(bits: u128, width: u32) -> bool
+pub fn fits(bits: u128, width: u32) -> bool
     requires { width ≤ 128 }
     ensures { IsTrue result ↔ (bits < 2 ^ width) }
 {
@@ -211,13 +205,13 @@ impl Table {
                 return Err(RankFault::WrongSort {
                     arg: k as u64,
                     have: self.sort_of(kids[k]),
-                    want: BOOL,
+                    want: SortId::BOOL,
                 });
             }
         }
-        match self.unlike(last as u64, self.sort_of(kids[last]), BOOL) {
+        match self.unlike(last as u64, self.sort_of(kids[last]), SortId::BOOL) {
             Some(fault) => Err(fault),
-            None => Ok(BOOL),
+            None => Ok(SortId::BOOL),
         }
     }
 
@@ -310,7 +304,7 @@ impl Table {
         };
         match self.unlike(1, b, a) {
             Some(fault) => Err(fault),
-            None => Ok(BOOL),
+            None => Ok(SortId::BOOL),
         }
     }
 
@@ -325,7 +319,7 @@ impl Table {
         }
         match self.unlike_all(kids, self.sort_of(kids[0])) {
             Some(fault) => Err(fault),
-            None => Ok(BOOL),
+            None => Ok(SortId::BOOL),
         }
     }
 
@@ -337,7 +331,7 @@ impl Table {
         let Some((c, a, b)) = self.three(kids) else {
             return Err(RankFault::WrongArity);
         };
-        if let Some(fault) = self.unlike(0, c, BOOL) {
+        if let Some(fault) = self.unlike(0, c, SortId::BOOL) {
             return Err(fault);
         }
         match self.unlike(2, b, a) {
@@ -519,7 +513,7 @@ impl Table {
         if n == i128::MIN {
             return Err(RankFault::BadIndex);
         }
-        Ok(INT)
+        Ok(SortId::INT)
     }
 
     fn bit_constant(&self, kids: &[NodeId], width: u32, bits: u128) -> Result<SortId, RankFault>
@@ -554,22 +548,22 @@ impl Table {
     {
         // The rare ones stand out of line, so that the others have few registers to save.
         match op {
-            Op::Truth(_) => self.uniform(kids, 0, BOOL, BOOL),
+            Op::Truth(_) => self.uniform(kids, 0, SortId::BOOL, SortId::BOOL),
             Op::Whole(n) => self.whole_number(kids, n),
             Op::Bits { width, bits } => self.bit_constant(kids, width, bits),
             Op::Sym(f) => self.application(kids, f),
             Op::Forall | Op::Exists => self.binder(kids),
             Op::ConstArray(sort) => self.filling(kids, sort),
-            Op::Not => self.uniform(kids, 1, BOOL, BOOL),
-            Op::And | Op::Or => self.several(kids, BOOL),
-            Op::Xor | Op::Implies => self.uniform(kids, 2, BOOL, BOOL),
+            Op::Not => self.uniform(kids, 1, SortId::BOOL, SortId::BOOL),
+            Op::And | Op::Or => self.several(kids, SortId::BOOL),
+            Op::Xor | Op::Implies => self.uniform(kids, 2, SortId::BOOL, SortId::BOOL),
             Op::Equal => self.equation(kids),
             Op::Distinct => self.distinctness(kids),
             Op::Ite => self.choice(kids),
-            Op::Neg | Op::Abs => self.uniform(kids, 1, INT, INT),
-            Op::Sub | Op::Div | Op::Mod => self.uniform(kids, 2, INT, INT),
-            Op::Add | Op::Mul => self.several(kids, INT),
-            Op::Le | Op::Lt => self.uniform(kids, 2, INT, BOOL),
+            Op::Neg | Op::Abs => self.uniform(kids, 1, SortId::INT, SortId::INT),
+            Op::Sub | Op::Div | Op::Mod => self.uniform(kids, 2, SortId::INT, SortId::INT),
+            Op::Add | Op::Mul => self.several(kids, SortId::INT),
+            Op::Le | Op::Lt => self.uniform(kids, 2, SortId::INT, SortId::BOOL),
             Op::Select => self.selection(kids),
             Op::Store => self.storing(kids),
             Op::Concat => self.concatenation(kids),
@@ -578,7 +572,10 @@ impl Table {
             Op::RotL(by) | Op::RotR(by) => self.rotation(kids, by),
             Op::BvNot | Op::BvNeg => self.bitwise(kids),
             Op::BvComp => self.bits_comparison(kids, BIT),
-            Op::BvUlt | Op::BvUle | Op::BvSlt | Op::BvSle => self.bits_comparison(kids, BOOL),
+            Op::BvUlt | Op::BvUle | Op::BvSlt | Op::BvSle => self.bits_comparison(
+                kids,
+                SortId::BOOL,
+            ),
             Op::BvAnd | Op::BvOr | Op::BvXor | Op::BvAdd | Op::BvMul | Op::BvSub =>
                 self.bitwise_pair(kids),
             Op::BvUdiv | Op::BvUrem | Op::BvSdiv | Op::BvSrem | Op::BvSmod => self.bitwise_pair(

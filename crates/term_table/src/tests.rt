@@ -7,7 +7,7 @@ ghost use Rattle.smt_values.specs.SortIds.{IsSortId, IsPlain};
 ghost use Rattle.term_table.specs.Formulas.{IsNode, AreNodes, IsOpOf, GrowsByOne};
 
 use crate::fault::RankFault;
-use crate::rank::{BOOL, INT, fits};
+use crate::rank::fits;
 use crate::table::Table;
 use crate::text::{scalar_text, sort_text};
 use smt_terms::NodeId;
@@ -116,7 +116,7 @@ fn equal_nodes_are_one(rt: HostRuntime) -> Result<(), Fail> {
     assert!(rt; again == no);
     assert!(rt; table.len() == 2);
     assert!(rt; is_over(&table, no, yes));
-    assert!(rt; table.sort_of(no) == BOOL);
+    assert!(rt; table.sort_of(no) == SortId::BOOL);
     Ok(())
 }
 
@@ -172,7 +172,7 @@ fn the_minus_of_a_constant_is_a_constant(rt: HostRuntime) -> Result<(), Fail> {
 #[test]
 fn the_minus_of_another_node_is_made(rt: HostRuntime) -> Result<(), Fail> {
     let mut table = Table::new(rt.alloc());
-    let x = constant(&rt, &mut table, b"x", INT)?;
+    let x = constant(&rt, &mut table, b"x", SortId::INT)?;
     let opposite = minus_of(&rt, &mut table, x)?;
     assert!(rt; table.op(opposite) == Op::Neg);
     assert!(rt; table.kids(opposite) == [x].as_slice());
@@ -206,7 +206,7 @@ fn assert_ranks(rt: &impl Abort, table: &Table, p: NodeId, u: NodeId, v: NodeId)
 #[test]
 fn ranks_tell_the_first_fault(rt: HostRuntime) -> Result<(), Fail> {
     let mut table = Table::new(rt.alloc());
-    let p = constant(&rt, &mut table, b"p", BOOL)?;
+    let p = constant(&rt, &mut table, b"p", SortId::BOOL)?;
     let u = constant(&rt, &mut table, b"u", SortId(66))?;
     let v = constant(&rt, &mut table, b"v", SortId(65))?;
     assert_ranks(&rt, &table, p, u, v);
@@ -226,8 +226,8 @@ fn sorts_are_written(rt: HostRuntime) -> Result<(), Fail> {
     let alloc = rt.alloc();
     let mut table = Table::new(alloc);
     let free = table.declared_sort(b"a b")?;
-    let inner = table.array_sort(BOOL, free)?;
-    let outer = table.array_sort(INT, inner)?;
+    let inner = table.array_sort(SortId::BOOL, free)?;
+    let outer = table.array_sort(SortId::INT, inner)?;
     let text = written_sort(alloc, &table, outer)?;
     assert!(rt; text.as_slice() == b"(Array Int (Array Bool |a b|))".as_slice());
     let text = written_sort(alloc, &table, BIT)?;

@@ -9,7 +9,7 @@ ghost use Rattle.smt_values.specs.Meaning.{IsScalar};
 ghost use Rattle.smt_values.specs.SortIds.{sort_at, IsSortId};
 ghost use Rattle.term_table.specs.WrittenForms.{sort_form, scalar_form, integer_form, vector_form, last_digits};
 
-use crate::rank::{BOOL, width_of};
+use crate::rank::width_of;
 use crate::table::Table;
 use itoa::Buffer;
 use smt_lex::symbol_text;
@@ -74,7 +74,7 @@ fn push_plain_sort(
     }
     match width_of(sort) {
         Some(width) => push_width(width, out),
-        None if sort == BOOL => out.extend_from_slice(b"Bool"),
+        None if sort == SortId::BOOL => out.extend_from_slice(b"Bool"),
         None => out.extend_from_slice(b"Int"),
     }
 }

@@ -6,7 +6,7 @@ use Rattle.smt_terms.specs.declared.ids.NodeId.{NodeId}
 use Rattle.smt_terms.specs.Term.{Term}
 use Rattle.term_table.specs.Formulas.{no_tree, tree_in, operands, Grows}
 use Rattle.term_walk.specs.declared.kept.Place.{Place}
-use Rattle.term_walk.specs.declared.stack.Frame.{Frame}
+use Rattle.term_walk.specs.declared.frames.Frame.{Frame}
 use Rattle.term_walk.specs.Places.{is_closed_at}
 use Rattle.term_walk.specs.Walking.{HasClosed}
 use Rattle.term_walk.specs.Stacks.{AreClosedBefore, IsOpen, IsWaiting, Wait, IsReady, Leads, first, advanced, looked}

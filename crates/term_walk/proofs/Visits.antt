@@ -6,7 +6,7 @@ use Rattle.smt_terms.specs.Groups.{has_term}
 use Rattle.smt_terms.specs.Term.{Term}
 use Rattle.term_table.specs.Formulas.{Formulas, no_tree, tree_in, tree, operands, IsNode, Grows}
 use Rattle.term_walk.specs.declared.kept.Place.{Place}
-use Rattle.term_walk.specs.declared.stack.Frame.{Frame}
+use Rattle.term_walk.specs.declared.frames.Frame.{Frame}
 use Rattle.term_walk.specs.Places.{result_at, is_closed_at}
 use Rattle.term_walk.specs.Stacks.{Wait, IsReady, Leads, IsCounted, open_costs, looked_up}
 use Rattle.term_walk.specs.Subterms.{subterms, is_subterm}

@@ -5,7 +5,7 @@ use Rattle.smt_terms.specs.Groups.{has_term}
 use Rattle.smt_terms.specs.Term.{Term}
 use Rattle.term_table.specs.Formulas.{no_tree, tree_in, operands, Grows}
 use Rattle.term_walk.specs.declared.kept.Place.{Place}
-use Rattle.term_walk.specs.declared.stack.Frame.{Frame}
+use Rattle.term_walk.specs.declared.frames.Frame.{Frame}
 use Rattle.term_walk.specs.Places.{is_closed_at}
 use Rattle.term_walk.specs.Walking.{HasClosed}
 

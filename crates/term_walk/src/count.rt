@@ -74,9 +74,7 @@ pub(crate) fn mark_subterms(
     let above = number_above(roots, table.len());
     let mut marks = no_marks(alloc, above as usize)?;
     mark(&mut marks, roots);
-    let mut number = above;
-    while number > 0 {
-        number -= 1;
+    for number in (0..above).rev() {
         mark_operands(table, &mut marks, NodeId(number));
     }
     Ok(marks)

@@ -16,7 +16,7 @@ use indexmap::IndexSet;
 use smt_terms::NodeId;
 use smt_values::{Op, SymId};
 use std::alloc::{AllocError, Global};
-use term_table::Table;
+use term_table::{Table, know_table};
 
 // The symbol that a node applies.
 #[tactic(auto, unfolding(term_table::specs::Formulas::kind))]
@@ -49,7 +49,7 @@ fn list(table: &Table, listed: &mut IndexSet<SymId>, symbol: SymId) -> Result<()
     ensures names { OnOk result (named table.now listed.new.keys ≡ with_more (named table.now listed.old.keys) (symbol_at table.now symbol ∷ [])) }
     ensures symbols { OnOk result (All (IsSymbol table.now) listed.new.keys) }
 {
-    let _ = table.len();
+    know_table(table);
     listed.insert(symbol)?;
     Ok(())
 }
@@ -68,9 +68,7 @@ fn wait_for(waiting: &mut Vec<NodeId>, ids: &[NodeId]) -> Result<(), AllocError>
     ensures order { OnOk result (reverse waiting.new.items ≡ ids.now ++ reverse waiting.old.items) }
     ensures len { OnOk result (length waiting.new.items ≡ length ids.now + length waiting.old.items) }
 {
-    let mut place = ids.len();
-    while place > 0 {
-        place -= 1;
+    for place in (0..ids.len()).rev() {
         waiting.push(ids[place])?;
     }
     Ok(())
@@ -154,7 +152,7 @@ fn take_off(
     ensures leads { (ms : List Bool) (n : ℕ) (fs : List Symbol) → HaveLists table.now lists.now ms n → Lists table.now (IsReached ms n) fs (id ∷ reverse waiting.old.items) met.old.keys listed.old.keys → OnOk result (Lists table.now (IsReached ms n) fs (reverse waiting.new.items) met.new.keys listed.new.keys) }
     ensures nearer { (n : ℕ) → id.0 < n → OnOk result (operands_left table.now met.new.keys n + length waiting.new.items ≤ operands_left table.now met.old.keys n + length waiting.old.items) }
 {
-    let _ = table.len();
+    know_table(table);
     if meet(met, id)? {
         open(table, lists, waiting, listed, id)?;
         return Ok(());
@@ -208,7 +206,7 @@ fn unbound(
     ensures names { IfOk result (λ s. named table.now s.items ≡ filter (λ f. not (is_among (named table.now bound.now.keys) f)) (named table.now symbols.now)) }
     ensures symbols { IfOk result (λ s. All (IsSymbol table.now) s.items) }
 {
-    let _ = table.len();
+    know_table(table);
     let mut free = Vec::new(alloc);
     for symbol in symbols {
         keep_unbound(table, &mut free, *symbol, bound)?;
@@ -228,7 +226,7 @@ fn keep_unbound(
     ensures names { OnOk result (named table.now free.new.items ≡ named table.now free.old.items ++ filter (λ f. not (is_among (named table.now bound.now.keys) f)) (symbol_at table.now symbol ∷ [])) }
     ensures symbols { OnOk result (All (IsSymbol table.now) free.new.items) }
 {
-    let _ = table.len();
+    know_table(table);
     if bound.contains(&symbol) {
         return Ok(());
     }

@@ -4,10 +4,11 @@
 #![tactic(auto)]
 
 pub mod count;
+mod frames;
 pub mod free;
 pub mod kept;
 pub mod node_step;
-mod stack;
+pub mod stacks;
 pub mod steps;
 pub mod walks;
 
@@ -15,6 +16,7 @@ pub use count::count_nodes;
 pub use free::free_symbols;
 pub use kept::Kept;
 pub use node_step::NodeStep;
+pub use stacks::Stack;
 pub use steps::Steps;
 pub use walks::{walk, walk_all};
 

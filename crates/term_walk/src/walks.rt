@@ -10,14 +10,14 @@ ghost use Rattle.term_walk.specs.Stacks.{IsReady, Wait, Leads, IsNextOperand, Is
 ghost use Rattle.term_walk.specs.Subterms.{all_subterms, places};
 ghost use Rattle.term_walk.specs.Walking.{GrowsTo, HasClosed, Fits, Stay, StayClosed, GainsBelow, GainsUnder, AllHaveResults};
 
+use crate::frames::{Frame, Frames};
 use crate::kept::Kept;
 use crate::node_step::NodeStep;
-use crate::stack::{Frame, Stack};
 use crate::steps::Steps;
 use smt_terms::NodeId;
 use std::alloc::{AllocError, Global};
 use std::sync::ledger::Ledger;
-use term_table::Table;
+use term_table::{Table, know_table};
 
 // Gives a node whose operands are closed a result, where it has none.
 fn give_result<S: NodeStep, L: Ledger>(
@@ -93,7 +93,7 @@ fn next_operand(table: &Table, frame: Frame) -> Option<NodeId>
 // Looks up the next operand of a frame, and puts it on the stack where it isn't closed.
 fn look_up<T, L: Ledger>(
     kept: &Kept<T>,
-    stack: &mut Stack,
+    stack: &mut Frames,
     frame: Frame,
     kid: NodeId,
     steps: &mut Steps<L>,
@@ -119,7 +119,7 @@ fn turn<S: NodeStep, L: Ledger>(
     table: &mut Table,
     step: &mut S,
     kept: &mut Kept<S::Out>,
-    stack: &mut Stack,
+    stack: &mut Frames,
     frame: Frame,
     steps: &mut Steps<L>,
 ) -> Result<(), AllocError>
@@ -177,19 +177,12 @@ fn visit<S: NodeStep, L: Ledger>(
     if kept.is_closed(root) {
         return Ok(());
     }
-    let mut stack = Stack::new(alloc);
+    let mut stack = Frames::new(alloc);
     stack.push(Frame { id: root, next: 0 })?;
     while let Some(frame) = stack.pop() {
         turn(table, step, kept, &mut stack, frame, steps)?;
     }
     Ok(())
-}
-
-// What holds of every table.
-fn know_table(table: &Table)
-    ensures { IsTable table.now }
-{
-    let _ = table.len();
 }
 
 /// Gives each subterm of these nodes a result, by one step for each that has none. Results that were there stay, no

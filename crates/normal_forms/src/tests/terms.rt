@@ -20,10 +20,6 @@ use std::sync::ledger::{Blank, Ledger};
 use term_table::Table;
 use term_walk::Steps;
 
-const BOOL: SortId = SortId(0);
-
-const INT: SortId = SortId(1);
-
 // The operator that a byte stands for.
 #[tactic(auto, unfolding(term_table::specs::Formulas::kind, smt_terms::specs::Rank::is_minus))]
 fn operator(byte: u8) -> Option<Op>
@@ -93,13 +89,12 @@ fn made(rt: &impl Abort, table: &mut Table, op: Op, kids: &[NodeId]) -> Result<N
 fn constant(rt: &impl Abort, table: &mut Table, letter: u8) -> Result<NodeId, AllocError> {
     assert!(rt; letter != b'|' && letter != b'\\');
     let sort = if letter == b'm' || letter == b'n' {
-        INT
+        SortId::INT
     } else {
-        BOOL
+        SortId::BOOL
     };
     let symbol = table.symbol(&[letter], &[], sort)?;
-    let node = made(rt, table, Op::Sym(symbol), &[])?;
-    Ok(node)
+    made(rt, table, Op::Sym(symbol), &[])
 }
 
 // Takes so many nodes off, the last one first.
@@ -269,6 +264,5 @@ pub(crate) fn nodes_after(
     text: &[u8],
 ) -> Result<u64, AllocError> {
     let mut table = Table::new(alloc);
-    let count = counted(rt, alloc, &mut table, tower, text)?;
-    Ok(count)
+    counted(rt, alloc, &mut table, tower, text)
 }

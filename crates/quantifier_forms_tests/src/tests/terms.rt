@@ -23,8 +23,6 @@ use std::process::Abort;
 use term_subst::{Fresh, NameSet};
 use term_table::Table;
 
-const BOOL: SortId = SortId(0);
-
 const BYTE: SortId = SortId(9);
 
 // The operator that a byte stands for.
@@ -97,7 +95,7 @@ fn constant(rt: &impl Abort, table: &mut Table, letter: u8) -> Result<NodeId, Al
     let sort = if letter == b'm' || letter == b'n' {
         BYTE
     } else {
-        BOOL
+        SortId::BOOL
     };
     let symbol = table.symbol(&[letter], &[], sort)?;
     let node = made(rt, table, Op::Sym(symbol), &[])?;
@@ -253,7 +251,7 @@ fn read(
         b'Q' => return compare(rt, alloc, table, found, Form::Substituted),
         b'G'..=b'J' => earlier(rt, known, (text[place] - b'G') as usize),
         b'K'..=b'L' => fresh_constant(rt, table, text[place] - b'K', BYTE)?,
-        b'U'..=b'Z' => fresh_constant(rt, table, text[place] - b'U', BOOL)?,
+        b'U'..=b'Z' => fresh_constant(rt, table, text[place] - b'U', SortId::BOOL)?,
         b'a'..=b'z' => constant(rt, table, text[place])?,
         byte => applied(rt, alloc, table, found, byte, operands(text, place))?,
     };

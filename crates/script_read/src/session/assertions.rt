@@ -13,11 +13,12 @@ use crate::session::Session;
 use script_terms::causes::Cause;
 use script_terms::faults::ReadFault;
 use script_terms::locals::Locals;
-use script_terms::node_sorts::{BOOL, has_sort};
+use script_terms::node_sorts::has_sort;
 use script_terms::places::fault;
 use script_terms::terms::read_term;
 use script_terms::terms::term_reader::TermReader;
 use smt_lex::Forest;
+use smt_terms::SortId;
 use term_table::Table;
 
 /// `(assert term)`, whose term begins at token `i`.
@@ -41,7 +42,7 @@ pub fn assert_term<'a>(
 {
     let locals = Locals::new(reader.alloc);
     let id = read_term(reader, table, forest, i, &mut session.sofar, locals, None)?;
-    if !has_sort(table, id, BOOL) {
+    if !has_sort(table, id, SortId::BOOL) {
         return Err(fault(forest, i, Cause::WrongSort).into());
     }
     session.begun = true;

@@ -22,11 +22,10 @@ use script_terms::causes::Cause;
 use script_terms::constants::negation_node;
 use script_terms::faults::ReadFault;
 use script_terms::locals::Constant;
-use script_terms::node_sorts::BOOL;
 use script_terms::places::{begins, fault, is_symbol, two_inside};
 use script_terms::scopes::{Entry, Scope};
 use smt_lex::Forest;
-use smt_terms::NodeId;
+use smt_terms::{NodeId, SortId};
 use std::alloc::{AllocError, Global};
 use term_table::{Nodes, Table};
 
@@ -137,7 +136,7 @@ fn boolean_node(table: &Table, constant: Constant) -> Option<NodeId>
     ensures node { IfSome result (IsBoolean table.now) }
 {
     let (_, sort) = table.symbol_rank(constant.symbol);
-    if sort != BOOL {
+    if sort != SortId::BOOL {
         return None;
     }
     Some(constant.node)

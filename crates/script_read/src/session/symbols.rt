@@ -91,10 +91,7 @@ fn argument_sorts(
     ensures grows { GrowsTo table.old table.new }
 {
     match arguments {
-        Some(i) => {
-            let sorts = read_sorts(alloc, table, forest, i, scope)?;
-            Ok(sorts)
-        }
+        Some(i) => read_sorts(alloc, table, forest, i, scope),
         None => Ok(Vec::new(alloc)),
     }
 }

@@ -30,7 +30,7 @@ use indexmap::IndexSet;
 use smt_lex::Forest;
 use smt_terms::{NodeId, SymId};
 use std::alloc::{AllocError, Global};
-use term_table::Table;
+use term_table::{Table, know_table};
 use term_walk::free_symbols;
 
 impl<'a> TermReader<'a> {
@@ -129,7 +129,7 @@ fn mentions_local(
     requires locals { (supply : Supply) × (bound : List ReadLocal) × ShowsLocals table.now supply locals.now bound × IsSpared table.now supply node }
     ensures { (supply : Supply) (bound : List ReadLocal) → ShowsLocals table.now supply locals.now bound → IfOk result (λ mentions. mentions ≡ mentions_local bound (tree table.now node)) }
 {
-    let _ = table.len();
+    know_table(table);
     let constants = set_of(alloc, locals.constants())?;
     let free = free_symbols(alloc, table, node)?;
     Ok(has_any(&constants, &free))

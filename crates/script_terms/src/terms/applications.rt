@@ -27,7 +27,7 @@ use smt_terms::{NodeId, Op, SortId, SymId};
 use sort_check::{MakeFault, Operator, make, make_form};
 use std::alloc::Global;
 use term_subst::{Definition, Fresh, expand};
-use term_table::{RankFault, Table};
+use term_table::{RankFault, Table, know_table};
 
 /// The application of the list of token `list`, whose head calls this, to terms that were read.
 pub fn apply(
@@ -66,13 +66,6 @@ pub fn apply(
         }
         Callee::Operandless => Err(ReadFault::Refused(fault(forest, list, Cause::WrongArity))),
     }
-}
-
-// What holds of every table.
-fn know_table(table: &Table)
-    ensures { IsTable table.now }
-{
-    let _ = table.len();
 }
 
 // A written operator over operands.

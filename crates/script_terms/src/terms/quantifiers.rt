@@ -23,16 +23,16 @@ use crate::binders::{Binder, SortedName, draw_constants, read_variables};
 use crate::causes::Cause;
 use crate::faults::ReadFault;
 use crate::locals::{Constant, Local, Locals};
-use crate::node_sorts::{BOOL, has_sort};
+use crate::node_sorts::has_sort;
 use crate::places::fault;
 use crate::sofar::Sofar;
 use crate::terms::frames::{Frame, Next, Quantifier, Scoped};
 use crate::terms::shapes::bound_and_body;
 use crate::terms::term_reader::TermReader;
 use smt_lex::Forest;
-use smt_terms::{NodeId, Op};
+use smt_terms::{NodeId, Op, SortId};
 use std::alloc::{AllocError, Global};
-use term_table::Table;
+use term_table::{Table, know_table};
 
 impl<'a> TermReader<'a> {
     ghost use Rattle.script_terms.specs.declared.sofar.Sofar.{Sofar as SofarSeen};
@@ -56,7 +56,7 @@ impl<'a> TermReader<'a> {
         ensures less { IfOk result (λ next. left_of forest.now.tokens self.new next < left_of forest.now.tokens self.old (Next.Form list)) }
         ensures keeps { Keeps table.old table.new sofar.old sofar.new self.old self.new }
     {
-        let _ = table.len();
+        know_table(table);
         let (part, body) = bound_and_body(forest, list, first)?;
         let scope = &sofar.scope;
         let variables = read_variables(self.alloc, table, forest, part, scope, Binder::Quantifier)?;
@@ -135,7 +135,7 @@ fn quantified(
     ensures term { (supply : Supply) → All (IsConstant table.old supply) frame.now.constants.items → IsSpared table.old supply body → ReadsAlone table.new supply (unless (not (has_sort bool (tree table.old body))) Cause.WrongSort (token_at forest.now.tokens frame.now.list).start (Ok (quantified (quantifier_of frame.now.quantifier) (variables_of table.old frame.now.constants.items) (tree table.old body)))) result }
     ensures grows { GrowsTo table.old table.new }
 {
-    if !has_sort(table, body, BOOL) {
+    if !has_sort(table, body, SortId::BOOL) {
         return Err(fault(forest, frame.list, Cause::WrongSort).into());
     }
     let operands = operands(alloc, &frame.constants, body)?;

@@ -1,7 +1,7 @@
 //! Constants of the theories: numerals, and bit vectors in hexadecimal, binary and decimal digits (SMT-LIB 2.6, section 3.1,
 //! and the theories Ints and FixedSizeBitVectors).
 
-ghost use Rattle.std.specs.Prelude.{◌≡◌, ◌≤◌, ◌<◌, ◌^◌, ◌↔◌, drop, length, IfOk, IsTrue};
+ghost use Rattle.std.specs.Prelude.{◌≡◌, ◌≤◌, ◌<◌, ◌^◌, drop, length, IfOk};
 ghost use Rattle.std.specs.Str.Parse.{digits_value, IsNumeral};
 ghost use Rattle.smt_terms.specs.declared.op.Op.TheVariants.{Bits};
 ghost use Rattle.smt_terms.specs.Fresh.{Supply};
@@ -19,6 +19,7 @@ use smt_lex::Item;
 use smt_terms::{NodeId, Op};
 use std::alloc::AllocError;
 use term_table::Table;
+use term_table::rank::fits;
 
 // The greatest width of a bit vector.
 const MOST_BITS: u128 = 128;
@@ -69,14 +70,6 @@ pub fn vector(digits: &[u8], width: u128) -> Result<Op, Cause>
         return Err(Cause::BadIndex);
     }
     Ok(Op::Bits { width, bits })
-}
-
-// Whether the bits are below 2 to the width, for a width of at most 128.
-fn fits(bits: u128, width: u32) -> bool
-    requires { width ≤ 128 }
-    ensures { IsTrue result ↔ (bits < 2 ^ width) }
-{
-    width == 128 || bits >> width == 0
 }
 
 fn whole(digits: &[u8]) -> Result<Op, Cause>

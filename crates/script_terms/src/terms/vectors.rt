@@ -2,7 +2,6 @@
 
 ghost use Rattle.std.specs.Prelude.{◌≡◌, ◌≤◌, true, false, drop, length, IfOk, MatchOption, Some};
 ghost use Rattle.smt_lex.specs.Forest.{token_at};
-ghost use Rattle.smt_lex.specs.Lexicon.{is_numeral};
 ghost use Rattle.smt_terms.specs.Fresh.{Supply};
 ghost use Rattle.smt_terms.specs.Term.{op, apply, none};
 ghost use Rattle.term_walk.specs.Walking.{GrowsTo};
@@ -15,10 +14,9 @@ ghost use Rattle.script_terms.specs.Places.{IsRead, IsForm, forms_from};
 use crate::causes::Cause;
 use crate::faults::{Fault, ReadFault};
 use crate::lists::{Few, few_from};
-use crate::names::are_digits;
 use crate::places::{bad_form, fault, is_symbol, numeral_at};
 use crate::terms::theory_constants::{constant, vector};
-use smt_lex::Forest;
+use smt_lex::{Forest, is_numeral};
 use smt_terms::{NodeId, Op};
 use term_table::Table;
 
@@ -73,11 +71,4 @@ fn vector_digits(name: &[u8]) -> Option<&[u8]>
         [b'b', b'v', digits @ ..] if is_numeral(digits) => Some(digits),
         _ => None,
     }
-}
-
-// Whether they are `0`, or digits that begin with another digit than 0.
-fn is_numeral(digits: &[u8]) -> bool
-    ensures { result ≡ is_numeral digits.now }
-{
-    are_digits(digits) && (!digits.starts_with(b"0") || digits.len() == 1)
 }

@@ -15,10 +15,6 @@ use std::alloc::{AllocError, Global};
 use std::process::Abort;
 use term_table::Table;
 
-const BOOL: SortId = SortId(0);
-
-const INT: SortId = SortId(1);
-
 const BYTE: SortId = SortId(9);
 
 // Whether these are nodes of the table.
@@ -66,7 +62,7 @@ fn made(rt: &impl Abort, table: &mut Table, op: Op, kids: &[NodeId]) -> Result<N
 fn negative(rt: &impl Abort, table: &mut Table, kids: &[NodeId]) -> Result<NodeId, AllocError> {
     assert!(rt; kids.len() == 1);
     assert!(rt; kids[0].0 < table.len());
-    assert!(rt; table.sort_of(kids[0]) == INT);
+    assert!(rt; table.sort_of(kids[0]) == SortId::INT);
     table.minus(kids[0])
 }
 
@@ -100,8 +96,7 @@ fn symbol(
 {
     assert!(rt; is_plain(name));
     let symbol = table.symbol(name, args, sort)?;
-    let node = made(rt, table, Op::Sym(symbol), kids)?;
-    Ok(node)
+    made(rt, table, Op::Sym(symbol), kids)
 }
 
 // The sort of the constant with this letter.
@@ -109,10 +104,10 @@ fn sort(table: &mut Table, letter: u8) -> Result<SortId, AllocError>
     ensures { IfOk result (IsSortId table.new.sorts) }
 {
     match letter {
-        b'm' | b'n' => Ok(INT),
+        b'm' | b'n' => Ok(SortId::INT),
         b'v' | b'w' => Ok(BYTE),
-        b't' => table.array_sort(INT, BOOL),
-        _ => Ok(BOOL),
+        b't' => table.array_sort(SortId::INT, SortId::BOOL),
+        _ => Ok(SortId::BOOL),
     }
 }
 
@@ -123,8 +118,7 @@ pub(crate) fn constant(
     letter: u8,
 ) -> Result<NodeId, AllocError> {
     let sort = sort(table, letter)?;
-    let node = symbol(rt, table, &[letter], &[], sort, &[])?;
-    Ok(node)
+    symbol(rt, table, &[letter], &[], sort, &[])
 }
 
 // The constant array over `a`.
@@ -132,15 +126,13 @@ pub(crate) fn constant(
 fn constant_array(rt: &impl Abort, table: &mut Table) -> Result<NodeId, AllocError> {
     let element = constant(rt, table, b'a')?;
     let sort = sort(table, b't')?;
-    let node = made(rt, table, Op::ConstArray(sort), &[element])?;
-    Ok(node)
+    made(rt, table, Op::ConstArray(sort), &[element])
 }
 
 // The function f of `m`.
 fn application(rt: &impl Abort, table: &mut Table) -> Result<NodeId, AllocError> {
     let argument = constant(rt, table, b'm')?;
-    let node = symbol(rt, table, b"f", &[INT], BOOL, &[argument])?;
-    Ok(node)
+    symbol(rt, table, b"f", &[SortId::INT], SortId::BOOL, &[argument])
 }
 
 // The term of a letter.
@@ -223,7 +215,7 @@ pub(crate) fn assert_written(
 // Asserts that the constant of this name is written so.
 fn assert_name(rt: &impl Abort, alloc: Global, name: &[u8], text: &[u8]) -> Result<(), AllocError> {
     let mut table = Table::new(alloc);
-    let node = symbol(rt, &mut table, name, &[], BOOL, &[])?;
+    let node = symbol(rt, &mut table, name, &[], SortId::BOOL, &[])?;
     assert_text(rt, alloc, &table, node, Layout::Tree, text)?;
     Ok(())
 }

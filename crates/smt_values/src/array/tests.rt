@@ -8,15 +8,11 @@ use crate::value::{ArrayValue, Value};
 use smt_terms::SortId;
 use std::test::Fail;
 
-const BOOL: SortId = SortId(0);
-
-const INT: SortId = SortId(1);
-
 #[test]
 fn stored_everywhere(rt: HostRuntime) -> Result<(), Fail> {
     let alloc = rt.alloc();
     let mut sorts = SortTable::new(alloc);
-    let sort = sorts.array(BOOL, INT)?;
+    let sort = sorts.array(SortId::BOOL, SortId::INT)?;
     let sizes = Sizes::new(alloc);
     let ones = ArrayValue::new(alloc, Value::Scalar(Scalar::Whole(1)));
     let zeros = ArrayValue::new(alloc, Value::Scalar(Scalar::Whole(0)));
@@ -26,11 +22,11 @@ fn stored_everywhere(rt: HostRuntime) -> Result<(), Fail> {
         Value::Scalar(Scalar::Truth(true)),
         Value::Scalar(Scalar::Whole(1)),
         &sorts,
-        BOOL,
+        SortId::BOOL,
         &sizes,
     )?;
     let key = Value::Scalar(Scalar::Truth(false));
-    let before = select(&half, &key, &sorts, BOOL, &sizes);
+    let before = select(&half, &key, &sorts, SortId::BOOL, &sizes);
     assert!(rt; matches!(before, Value::Scalar(Scalar::Whole(0))));
     let full = store(
         alloc,
@@ -38,7 +34,7 @@ fn stored_everywhere(rt: HostRuntime) -> Result<(), Fail> {
         Value::Scalar(Scalar::Truth(false)),
         Value::Scalar(Scalar::Whole(1)),
         &sorts,
-        BOOL,
+        SortId::BOOL,
         &sizes,
     )?;
     let ones = Value::Array(Box::new(alloc, ones)?);

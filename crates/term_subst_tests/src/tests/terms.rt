@@ -20,10 +20,6 @@ use std::test::Fail;
 use term_subst::{Definition, Fresh, NameSet, SymMap, expand, substitute};
 use term_table::{Syms, Table};
 
-const BOOL: SortId = SortId(0);
-
-const INT: SortId = SortId(1);
-
 // Whether these are nodes of the table.
 fn are_nodes(table: &Table, kids: &[NodeId]) -> bool
     ensures { IsTrue result → AreNodes table.now kids.now }
@@ -96,9 +92,9 @@ fn named(
     letter: u8,
 ) -> Result<(), AllocError> {
     match letter {
-        b'0'..=b'9' => constant(rt, table, nodes, &[b'F', b'V', letter], BOOL),
-        b'i' => constant(rt, table, nodes, &[letter], INT),
-        b'x'..=b'z' => constant(rt, table, nodes, &[letter], BOOL),
+        b'0'..=b'9' => constant(rt, table, nodes, &[b'F', b'V', letter], SortId::BOOL),
+        b'i' => constant(rt, table, nodes, &[letter], SortId::INT),
+        b'x'..=b'z' => constant(rt, table, nodes, &[letter], SortId::BOOL),
         _ => panic!(rt; "no letter"),
     }
 }

@@ -8,7 +8,7 @@ use Rattle.boolean_quantifiers.proofs.Puts.{image-put, rebuilt-put, kids-ready}
 use Rattle.boolean_quantifiers.proofs.replacing.put_applied.Goals as goal
 
 pub returns-in-Some-clause-put : goal.returns-in-Some-clause-put
-returns-in-Some-clause-put g c = image-put c.args.table.now (g.I.Images.images c.args.images.now) c.args.id c.in-Some.image c.len.ensures.table c.requires.images c.requires.node (sym c.in-Some.ensures)
+returns-in-Some-clause-put g c = image-put c.args.table.now (g.I.Images.images c.args.images.now) c.args.id c.in-Some.image c.know_table.ensures c.requires.images c.requires.node (sym c.in-Some.ensures)
 
 pub rebuilt-requires-clause-kids : goal.rebuilt-requires-clause-kids
 rebuilt-requires-clause-kids g c =
@@ -25,7 +25,7 @@ rebuilt-requires-clause-like g c =
 
 pub returns-clause-put : goal.returns-clause-put
 returns-clause-put g c =
-    rebuilt-put c.args.table.now c.rebuilt.new.table (g.I.Images.images c.args.images.now) c.args.memo.now c.args.version c.args.id c.in_ok-result.result c.kids.result.now c.len.ensures.table c.in_ok-result.ensures.grows c.requires.images c.requires.node c.requires.applied (sym c.in_default.ensures)
+    rebuilt-put c.args.table.now c.rebuilt.new.table (g.I.Images.images c.args.images.now) c.args.memo.now c.args.version c.args.id c.in_ok-result.result c.kids.result.now c.know_table.ensures c.in_ok-result.ensures.grows c.requires.images c.requires.node c.requires.applied (sym c.in_default.ensures)
     c.requires.ready c.kids.ensures.terms c.kids.ensures.below c.in_ok-result.ensures.node
     (c.in_ok-result.ensures.term ∙ ap (λ ks. with_operands (tree c.args.table.now c.args.id) (trees_at c.args.table.now ks)) (c.deref.ensures.value ∙ c.in_ok-kids.ensures))
     c.in_ok-result.ensures.like

@@ -16,7 +16,7 @@ solve_quantified-requires-clause-body c =
     let is = sym c.is_binder.ensures ∙ c.if-is_binder.true in
     let known = body-known t c.args.results.now c.args.id c.body_below.result is c.requires.ready c.body_below.ensures.below c.body_below.ensures.term in
     subst (IsFormula t) (sym c.known-body.ensures)
-    (body-formula t c.args.fresh.now c.args.id c.body_below.result (known_in c.args.results.now 0 c.body_below.result) c.len.ensures.table c.requires.node is c.body_below.ensures.term (c.requires.stand _ _ known))
+    (body-formula t c.args.fresh.now c.args.id c.body_below.result (known_in c.args.results.now 0 c.body_below.result) c.know_table.ensures c.requires.node is c.body_below.ensures.term (c.requires.stand _ _ known))
 
 pub solve_quantified-requires-clause-spared : goal.solve_quantified-requires-clause-spared
 solve_quantified-requires-clause-spared c =
@@ -27,7 +27,7 @@ solve_quantified-requires-clause-spared c =
 
 pub returns-then-is_binder-clause-stands : goal.returns-then-is_binder-clause-stands
 returns-then-is_binder-clause-stands c =
-    quantified-stands c.args.table.now c.solve_quantified.new.table c.solve_quantified.new.fresh c.args.id c.in_ok-result.result c.len.ensures.table c.in_ok-result.ensures.grows c.requires.node (sym c.is_binder.ensures ∙ c.if-is_binder.true) c.in_ok-result.ensures.formula c.in_ok-result.ensures.names
+    quantified-stands c.args.table.now c.solve_quantified.new.table c.solve_quantified.new.fresh c.args.id c.in_ok-result.result c.know_table.ensures c.in_ok-result.ensures.grows c.requires.node (sym c.is_binder.ensures ∙ c.if-is_binder.true) c.in_ok-result.ensures.formula c.in_ok-result.ensures.names
 
 pub returns-then-is_binder-clause-solved : goal.returns-then-is_binder-clause-solved
 returns-then-is_binder-clause-solved c s names are =

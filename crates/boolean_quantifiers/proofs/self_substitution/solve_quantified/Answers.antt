@@ -43,7 +43,7 @@ quantify-requires-clause-variables c =
     let some = some-named new c.in_ok-left.left.items (not_bool xs) kept (λ e. let zero : (length c.in_ok-left.left.items == 0) ≡ true = number-same (length c.in_ok-left.left.items) 0 e in let other = sym c.is_empty.ensures ∙ c.if-is_empty.false in absurd cc) in (
       not_bool xs,
       subst (λ (ks : List NodeId). AreVariables new ks (not_bool xs)) (sym c.deref-3.ensures.value) kept,
-      bindable-left u c.requires.quantified (quantified-formula t c.args.id c.len.ensures.table c.requires.node c.requires.quantified).sort some,
+      bindable-left u c.requires.quantified (quantified-formula t c.args.id c.know_table.ensures c.requires.node c.requires.quantified).sort some,
     )
 
 pub returns-clause-term : goal.returns-clause-term

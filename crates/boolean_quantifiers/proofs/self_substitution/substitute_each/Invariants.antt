@@ -22,6 +22,3 @@ invariant-loop-place l = record {
   work : IsWork l.table l.work;
   grows : GrowsTo l.fn.table l.table;
 }
-
-abbrev pub decreases-loop-place : goal.decreases-loop-place
-decreases-loop-place l = l.place

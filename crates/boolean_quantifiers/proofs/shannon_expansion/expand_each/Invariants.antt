@@ -18,6 +18,3 @@ invariant-loop-place l = record {
   grows : GrowsTo l.fn.table l.table;
   symbols : l.table.symbols ≡ l.fn.table.symbols;
 }
-
-abbrev pub decreases-loop-place : goal.decreases-loop-place
-decreases-loop-place l = l.place

@@ -16,7 +16,7 @@ use Rattle.boolean_quantifiers.proofs.shannon_expansion.expand_quantified.Goals 
 pub expand_each-requires-clause-body : goal.expand_each-requires-clause-body
 expand_each-requires-clause-body c =
     subst (IsFormula c.args.table.now) (sym c.known-body.ensures)
-    (expanded-formula c.args.table.now c.args.results.now c.args.id c.body_below.result c.len.ensures.table c.requires.node c.requires.quantified c.requires.ready c.body_below.ensures.below c.body_below.ensures.term)
+    (expanded-formula c.args.table.now c.args.results.now c.args.id c.body_below.result c.know_table.ensures c.requires.node c.requires.quantified c.requires.ready c.body_below.ensures.below c.body_below.ensures.term)
 
 pub returns-then-is_empty-clause-expanded : goal.returns-then-is_empty-clause-expanded
 returns-then-is_empty-clause-expanded c =
@@ -28,7 +28,7 @@ returns-then-is_empty-clause-expanded c =
     let kept = c.in_ok-left.ensures xs (variables-stay t new c.deref-2.result.now xs c.in_ok-form.ensures.grows (subst (λ (ks : List NodeId). AreVariables t ks xs) (sym c.deref-2.ensures.value) c.in_ok-variables.ensures)) in
     let zero : vec_len c.in_ok-left.left ≡ 0 = same-number (vec_len c.in_ok-left.left) 0 (sym c.is_empty.ensures ∙ c.if-is_empty.true) in
     let empty = none-named new c.in_ok-left.left.items (not_bool xs) kept (let count = c.in_ok-left.left.ok.0 in omega (arith, count)) in
-    quantified-expanded t c.args.results.now c.args.id c.body_below.result c.len.ensures.table c.requires.node c.requires.quantified c.requires.ready c.body_below.ensures.below c.body_below.ensures.term
+    quantified-expanded t c.args.results.now c.args.id c.body_below.result c.know_table.ensures c.requires.node c.requires.quantified c.requires.ready c.body_below.ensures.below c.body_below.ensures.term
     new c.in_ok-form.form c.is_universal-universal.result c.in_ok-form.ensures.grows c.is_universal-universal.ensures c.in_ok-form.ensures.formula
     (c.in_ok-form.ensures.term xs are ∙ ap (λ k. expand_each q xs (tree t k)) c.known-body.ensures ∙ sym (over-none q (not_bool xs) _ empty))
 
@@ -41,7 +41,7 @@ quantify-requires-clause-variables c =
     let some = some-named new c.in_ok-left.left.items (not_bool xs) kept (λ e. let zero : (length c.in_ok-left.left.items == 0) ≡ true = number-same (length c.in_ok-left.left.items) 0 e in let other = sym c.is_empty.ensures ∙ c.if-is_empty.false in absurd cc) in (
       not_bool xs,
       subst (λ (ks : List NodeId). AreVariables new ks (not_bool xs)) (sym c.deref-3.ensures.value) kept,
-      left-bindable t c.args.results.now c.args.id c.body_below.result c.len.ensures.table c.requires.node c.requires.quantified c.requires.ready c.body_below.ensures.below c.body_below.ensures.term some,
+      left-bindable t c.args.results.now c.args.id c.body_below.result c.know_table.ensures c.requires.node c.requires.quantified c.requires.ready c.body_below.ensures.below c.body_below.ensures.term some,
     )
 
 pub returns-clause-expanded : goal.returns-clause-expanded
@@ -54,7 +54,7 @@ returns-clause-expanded c =
     let kept = c.in_ok-left.ensures xs (variables-stay t mid c.deref-2.result.now xs c.in_ok-form.ensures.grows (subst (λ (ks : List NodeId). AreVariables t ks xs) (sym c.deref-2.ensures.value) c.in_ok-variables.ensures)) in
     let some = some-named mid c.in_ok-left.left.items (not_bool xs) kept (λ e. let zero : (length c.in_ok-left.left.items == 0) ≡ true = number-same (length c.in_ok-left.left.items) 0 e in let other = sym c.is_empty.ensures ∙ c.if-is_empty.false in absurd cc) in
     let grows = table-grows t mid c.quantify.new.table c.in_ok-form.ensures.grows c.in_ok-result.ensures.grows in
-    quantified-expanded t c.args.results.now c.args.id c.body_below.result c.len.ensures.table c.requires.node c.requires.quantified c.requires.ready c.body_below.ensures.below c.body_below.ensures.term
+    quantified-expanded t c.args.results.now c.args.id c.body_below.result c.know_table.ensures c.requires.node c.requires.quantified c.requires.ready c.body_below.ensures.below c.body_below.ensures.term
     c.quantify.new.table c.in_ok-result.result c.is_universal-universal.result grows c.is_universal-universal.ensures c.in_ok-result.ensures.formula
     (
     c.in_ok-result.ensures.term (not_bool xs) (subst (λ (ks : List NodeId). AreVariables mid ks (not_bool xs)) (sym c.deref-3.ensures.value) kept)

@@ -21,7 +21,7 @@ pub returns-clause-kids : goal.returns-clause-kids
 returns-clause-kids g c =
     let t = c.args.table.now in
     let kids : trees_at t c.deref.result.now ≡ operands (tree t c.args.id) = ap (trees_at t) (c.deref.ensures ∙ c.in_ok-kids.ensures.ok) ∙ c.kids.ensures.terms in
-    results-below t c.walk_all.new.table c.walk_all.new.kept (tree t c.args.id) c.deref.result.now c.len.ensures.table c.walk_all.ensures.grows (subst (AreNodes t) (sym (c.deref.ensures ∙ c.in_ok-kids.ensures.ok)) (below-nodes t c.args.id c.kids.result.now c.requires.formula.node c.kids.ensures.below)) kids c.in_ok-walk_all.ensures.roots
+    results-below t c.walk_all.new.table c.walk_all.new.kept (tree t c.args.id) c.deref.result.now c.know_table.ensures c.walk_all.ensures.grows (subst (AreNodes t) (sym (c.deref.ensures ∙ c.in_ok-kids.ensures.ok)) (below-nodes t c.args.id c.kids.result.now c.requires.formula.node c.kids.ensures.below)) kids c.in_ok-walk_all.ensures.roots
 
 pub returns-clause-most : goal.returns-clause-most
 returns-clause-most g c =

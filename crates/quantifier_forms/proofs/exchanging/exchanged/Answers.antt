@@ -8,11 +8,11 @@ use Rattle.quantifier_forms.proofs.exchanging.exchanged.Goals as goal
 
 pub returns-then-meant-clause-exchanged : goal.returns-then-meant-clause-exchanged
 returns-then-meant-clause-exchanged c =
-    from-exchanged c.args.table.now c.args.exchange c.len.ensures.table c.requires.exchange c.args.id c.if-meant.true
+    from-exchanged c.args.table.now c.args.exchange c.know_table.ensures c.requires.exchange c.args.id c.if-meant.true
 
 pub returns-then-is_binder-clause-exchanged : goal.returns-then-is_binder-clause-exchanged
 returns-then-is_binder-clause-exchanged c =
-    other-exchanged c.args.table.now c.args.exchange c.len.ensures.table c.requires.exchange c.args.id c.requires.node (sym c.is_binder.ensures ∙ c.if-is_binder.true)
+    other-exchanged c.args.table.now c.args.exchange c.know_table.ensures c.requires.exchange c.args.id c.requires.node (sym c.is_binder.ensures ∙ c.if-is_binder.true)
     (λ same. let yes = number-same c.args.id.0 c.args.exchange.from.0 same in let no = c.if-meant.false in absurd cc)
 
 pub returns-then-is_bare-clause-exchanged : goal.returns-then-is_bare-clause-exchanged
@@ -25,16 +25,16 @@ returns-then-is_bare-clause-bare c =
 pub rebuilt-requires-clause-kids : goal.rebuilt-requires-clause-kids
 rebuilt-requires-clause-kids c =
     subst (λ (ks : List NodeId). AreNodes c.args.table.now ks) (sym (c.deref.ensures.value ∙ c.in_ok-kids.ensures))
-    (operand-nodes c.args.table.now c.args.exchange c.len.ensures.table c.requires.exchange c.args.memo.now c.args.id c.kids.result.now (c.is_bare.ensures.no c.if-is_bare.false) c.requires.ready c.kids.ensures.terms c.kids.ensures.below)
+    (operand-nodes c.args.table.now c.args.exchange c.know_table.ensures c.requires.exchange c.args.memo.now c.args.id c.kids.result.now (c.is_bare.ensures.no c.if-is_bare.false) c.requires.ready c.kids.ensures.terms c.kids.ensures.below)
 
 pub rebuilt-requires-clause-like : goal.rebuilt-requires-clause-like
 rebuilt-requires-clause-like c =
     subst (λ (ks : List NodeId). AreLike (operands (tree c.args.table.now c.args.id)) (trees_at c.args.table.now ks)) (sym (c.deref.ensures.value ∙ c.in_ok-kids.ensures))
-    (operands-like c.args.table.now c.args.exchange c.len.ensures.table c.requires.exchange c.args.memo.now c.args.id c.kids.result.now (c.is_bare.ensures.no c.if-is_bare.false) c.requires.ready c.kids.ensures.terms c.kids.ensures.below)
+    (operands-like c.args.table.now c.args.exchange c.know_table.ensures c.requires.exchange c.args.memo.now c.args.id c.kids.result.now (c.is_bare.ensures.no c.if-is_bare.false) c.requires.ready c.kids.ensures.terms c.kids.ensures.below)
 
 pub returns-clause-exchanged : goal.returns-clause-exchanged
 returns-clause-exchanged c =
-    junction-exchanged c.args.table.now c.args.exchange c.len.ensures.table c.requires.exchange c.args.memo.now c.args.id c.kids.result.now (c.is_bare.ensures.no c.if-is_bare.false) c.requires.ready c.kids.ensures.terms c.kids.ensures.below
+    junction-exchanged c.args.table.now c.args.exchange c.know_table.ensures c.requires.exchange c.args.memo.now c.args.id c.kids.result.now (c.is_bare.ensures.no c.if-is_bare.false) c.requires.ready c.kids.ensures.terms c.kids.ensures.below
     c.rebuilt.new.table c.in_ok-result.result c.in_ok-result.ensures.grows c.requires.node c.in_ok-result.ensures.node
     (c.in_ok-result.ensures.term ∙ ap (λ ks. with_operands (tree c.args.table.now c.args.id) (trees_at c.args.table.now ks)) (c.deref.ensures.value ∙ c.in_ok-kids.ensures))
 

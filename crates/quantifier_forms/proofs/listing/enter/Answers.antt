@@ -24,7 +24,7 @@ pub returns-then-branch-clause-rest : goal.returns-then-branch-clause-rest
 returns-then-branch-clause-rest g c skips opens ls tell_skips tell_opens stands =
     let unmet : has_node c.args.met.now.keys c.args.id ≡ false = not_true (has_node c.args.met.now.keys c.args.id) (sym c.in_ok-meet.ensures.first ∙ c.if-branch.true) in
     let taken : skips (tree c.args.table.now c.args.id) ≡ false = sym (tell_skips c.args.id c.requires) ∙ sym c.skips.ensures ∙ c.if-skips.false in
-    c.in_ok-open.ensures.rest skips opens (trees_at c.args.table.now ls) tell_opens taken (unlisted c.args.table.now c.args.id c.args.tasks.now c.args.met.now.keys ls stands c.len.ensures.table c.requires unmet)
+    c.in_ok-open.ensures.rest skips opens (trees_at c.args.table.now ls) tell_opens taken (unlisted c.args.table.now c.args.id c.args.tasks.now c.args.met.now.keys ls stands c.know_table.ensures c.requires unmet)
 
 pub returns-then-branch-clause-nearer : goal.returns-then-branch-clause-nearer
 returns-then-branch-clause-nearer g c n lt =
@@ -43,4 +43,4 @@ returns-clause-stands g c ls stands =
 pub returns-clause-rest : goal.returns-clause-rest
 returns-clause-rest g c skips opens ls tell_skips tell_opens stands =
     let met : has_node c.args.met.now.keys c.args.id ≡ true = not_false (has_node c.args.met.now.keys c.args.id) (sym c.in_ok-meet.ensures.first ∙ c.if-branch.false) in
-    rest-met c.args.table.now c.args.id c.args.tasks.now c.args.met.now.keys ls stands skips opens c.len.ensures.table c.requires met
+    rest-met c.args.table.now c.args.id c.args.tasks.now c.args.met.now.keys ls stands skips opens c.know_table.ensures c.requires met

@@ -41,5 +41,5 @@ returns-clause-bound c =
     (gains-nodes c.next.new.table c.intern.new.self c.next.new.self c.in_ok-renamed.ensures.grows.grows c.in_ok-renamed.ensures.symbols c.in_ok-renamed.ensures.sorts) in
     binds-fresh old c.next.new.table c.args.given (sort_at old.sorts c.sort_of-sort.result) (variable_of (tree old c.args.given)) c.symbol_of-symbol.result c.in_ok-drawn.drawn c.args.fresh.now c.requires.variable c.sort_of-sort.ensures.sort c.symbol_of-symbol.ensures.symbol
     c.in_ok-drawn.ensures.symbol c.in_ok-drawn.ensures.within
-    c.intern.new.self gains.grows c.len.ensures.table c.in_ok-renamed.renamed c.in_ok-renamed.ensures.node c.in_ok-renamed.ensures.term c.symbol_of-symbol.ensures.within c.args.map.now c.set.new.self c.requires.map c.in_ok-set.ensures.set c.next.new.self c.in_ok-drawn.ensures.left
+    c.intern.new.self gains.grows c.know_table.ensures c.in_ok-renamed.renamed c.in_ok-renamed.ensures.node c.in_ok-renamed.ensures.term c.symbol_of-symbol.ensures.within c.args.map.now c.set.new.self c.requires.map c.in_ok-set.ensures.set c.next.new.self c.in_ok-drawn.ensures.left
     true refl

@@ -12,7 +12,7 @@ pub returns-then-is_binder-clause-binder : goal.returns-then-is_binder-clause-bi
 returns-then-is_binder-clause-binder c =
     let quant = sym c.is_binder.ensures ∙ c.if-is_binder.true in
     let d : NodeId = record { 0 = 0 } in
-    record { formula = quantified-formula c.args.table.now (get_or c.args.ids.now c.loop-id.id-index d) c.len.ensures.table (c.requires c.loop-id.id-index d c.loop-id-test.true) quant; quantified = quant }
+    record { formula = quantified-formula c.args.table.now (get_or c.args.ids.now c.loop-id.id-index d) c.know_table.ensures (c.requires c.loop-id.id-index d c.loop-id-test.true) quant; quantified = quant }
 
 pub returns-clause-first : goal.returns-clause-first
 returns-clause-first c = first-none c.args.table.now c.args.ids.now (λ i d lt. c.loop-id.invariant i d (let past = c.loop-id-test.false in omega arith))

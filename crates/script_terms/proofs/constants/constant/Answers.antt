@@ -2,7 +2,7 @@ use Rattle.script_terms.proofs.DrawnConstants.{makes-constant, constant-made}
 use Rattle.script_terms.proofs.constants.constant.Goals as goal
 
 pub intern-requires : goal.intern-requires
-intern-requires c = makes-constant c.args.table.now c.args.symbol c.len.ensures.table c.requires.within c.requires.args
+intern-requires c = makes-constant c.args.table.now c.args.symbol c.know_table.ensures c.requires.within c.requires.args
 
 pub returns-clause-constant : goal.returns-clause-constant
 returns-clause-constant c supply spared =

@@ -11,6 +11,3 @@ invariant-loop-place l = record {
   within : (t : Formulas) → IsMap t l.pairs → IsMap t l.map;
   room : l.place ≤ length l.pairs;
 }
-
-abbrev pub decreases-loop-place : goal.decreases-loop-place
-decreases-loop-place l = l.place

@@ -16,7 +16,7 @@ loop-frame-init c =
       gains = gains-none t c.args.fresh.now;
       runs =
           starting t c.args.fresh.now c.args.root c.args.map x.level x.findings x.chosen c.push.new.self x.values.items c.requires.root c.requires.map c.requires.names c.new-machine.ensures.level c.new-machine.ensures.kept c.new-machine.ensures.chosen
-          (c.in_ok-push.ensures ∙ ap (λ fs. Visit c.args.root ∷ fs) c.new-machine.ensures.todo) c.new-machine.ensures.values (c.new-machine.ensures.findings t);
+          (c.in_ok-push.ensures.ok ∙ ap (λ fs. Visit c.args.root ∷ fs) c.new-machine.ensures.todo) c.new-machine.ensures.values (c.new-machine.ensures.findings t);
     }
 
 pub loop-frame-preserved : goal.loop-frame-preserved

@@ -9,5 +9,5 @@ loop-task-init c =
     let s : Scope = record { symbols = c.new.result; nodes = c.new-2.result } in record {
       lists = c.requires.lists;
       surveys =
-          survey-starts c.args.table.now s c.args.root c.push.new.self c.requires.root c.new.ensures.empty c.new-2.ensures.empty (c.in_ok-push.ensures ∙ ap (λ ts. Visit c.args.root ∷ ts) c.new-3.ensures);
+          survey-starts c.args.table.now s c.args.root c.push.new.self c.requires.root c.new.ensures.empty c.new-2.ensures.empty (c.in_ok-push.ensures.ok ∙ ap (λ ts. Visit c.args.root ∷ ts) c.new-3.ensures);
     }

@@ -4,6 +4,3 @@ use Rattle.term_subst.proofs.todo.push_visits.Given as goal
 
 abbrev pub invariant-loop-place : goal.invariant-loop-place
 invariant-loop-place l = (l.todo ≡ map Visit (drop l.place l.nodes) ++ l.fn.todo) × (l.place ≤ length l.nodes)
-
-abbrev pub decreases-loop-place : goal.decreases-loop-place
-decreases-loop-place l = l.place

@@ -8,6 +8,3 @@ invariant-loop-number l = record {
   number : l.number ≤ l.above;
   marks : AreMarkedFrom l.fn.table l.fn.roots l.number l.marks.items;
 }
-
-abbrev pub decreases-loop-number : goal.decreases-loop-number
-decreases-loop-number l = l.number

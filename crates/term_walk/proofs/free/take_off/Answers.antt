@@ -8,7 +8,7 @@ use Rattle.term_walk.proofs.free.take_off.Goals as goal
 pub returns-then-branch-clause-leads : goal.returns-then-branch-clause-leads
 returns-then-branch-clause-leads c ms n fs have lists =
     let unmet : has_node c.args.met.now.keys c.args.id ≡ false = not_true (has_node c.args.met.now.keys c.args.id) (sym c.in_ok-meet.ensures.first ∙ c.if-branch.true) in
-    opened c.args.table.now c.args.lists.now ms n fs c.args.id (reverse c.args.waiting.now.items) (reverse c.open.new.waiting.items) c.args.met.now.keys c.meet.new.met.keys c.args.listed.now.keys c.open.new.listed.keys c.len.ensures.table have lists unmet c.in_ok-meet.ensures.keys c.in_ok-open.ensures
+    opened c.args.table.now c.args.lists.now ms n fs c.args.id (reverse c.args.waiting.now.items) (reverse c.open.new.waiting.items) c.args.met.now.keys c.meet.new.met.keys c.args.listed.now.keys c.open.new.listed.keys c.know_table.ensures have lists unmet c.in_ok-meet.ensures.keys c.in_ok-open.ensures
 
 pub returns-then-branch-clause-nearer : goal.returns-then-branch-clause-nearer
 returns-then-branch-clause-nearer c n lt =

@@ -7,6 +7,3 @@ invariant-loop-place l = record {
   order : reverse l.waiting.items ≡ drop l.place l.ids ++ reverse l.fn.waiting.items;
   len : length l.waiting.items + l.place ≡ length l.ids + length l.fn.waiting.items;
 }
-
-abbrev pub decreases-loop-place : goal.decreases-loop-place
-decreases-loop-place l = l.place

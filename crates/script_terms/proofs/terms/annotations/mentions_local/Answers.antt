@@ -10,5 +10,5 @@ returns c supply bound shows =
     let free = c.in_ok-free.free.items in
     c.has_any.ensures
     ∙ ap (list_any (has_symbol c.in_ok-constants.constants.keys)) c.deref.ensures.value
-    ∙ mentions_found c.args.table.now c.len.ensures.table supply c.args.locals.now bound shows c.constants.result.now c.in_ok-constants.constants.keys (tree c.args.table.now c.args.node) free
+    ∙ mentions_found c.args.table.now c.know_table.ensures supply c.args.locals.now bound shows c.constants.result.now c.in_ok-constants.constants.keys (tree c.args.table.now c.args.node) free
     c.constants.ensures c.in_ok-constants.ensures c.in_ok-free.ensures

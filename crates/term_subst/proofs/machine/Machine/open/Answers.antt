@@ -44,7 +44,7 @@ returns-clause-going c = λ first end going.
     open-going old new c.in_ok-variables-2.ensures.gains.grows c.know_table.ensures c.args.fresh.now c.rename.new.fresh first x.chosen x.todo x.values.items x.findings c.rename.new.findings end o c.split.result.1 c.rename.new.map ks before
     c.requires.binder c.requires.cut fits c.requires.none bound c.split.ensures.node c.split.ensures.body renames c.in_ok-variables-2.ensures.gains.later c.in_ok-variables-2.ensures.findings
     c.replace-outer.new.dest (ap (λ (l : Level). l.map) c.replace-outer.ensures.after) (ap (λ (l : Level). l.kept) c.replace-outer.ensures.after ∙ c.new.ensures) in
-    let todo : c.push-2.new.self ≡ Visit c.split.result.1 ∷ Close o ∷ x.todo = c.in_ok-push-2.ensures ∙ ap (λ fs. Visit c.split.result.1 ∷ fs) c.in_ok-push.ensures in
+    let todo : c.push-2.new.self ≡ Visit c.split.result.1 ∷ Close o ∷ x.todo = c.in_ok-push-2.ensures.ok ∙ ap (λ fs. Visit c.split.result.1 ∷ fs) c.in_ok-push.ensures.ok in
     subst (λ (fs : List Frame). Going new c.rename.new.fresh first x.chosen c.replace-outer.new.dest fs x.values.items c.rename.new.findings end) (sym todo) after)
 
 pub returns-clause-nearer : goal.returns-clause-nearer
@@ -54,7 +54,7 @@ returns-clause-nearer c =
     let x = c.args.self.now in
     let grows = c.in_ok-variables-2.ensures.gains.grows in
     let o : Opened = record { key = c.args.key; variables = c.in_ok-variables-2.variables; outer = c.replace-outer.result } in
-    let todo : c.push-2.new.self ≡ Visit c.split.result.1 ∷ Close o ∷ x.todo = c.in_ok-push-2.ensures ∙ ap (λ fs. Visit c.split.result.1 ∷ fs) c.in_ok-push.ensures in
+    let todo : c.push-2.new.self ≡ Visit c.split.result.1 ∷ Close o ∷ x.todo = c.in_ok-push-2.ensures.ok ∙ ap (λ fs. Visit c.split.result.1 ∷ fs) c.in_ok-push.ensures.ok in
     let rest = steps-grow old new grows (chosen_at old x.chosen) c.requires.going.0 x.todo c.requires.going.2.frames.1 in
     let body = tree-grows old new grows c.split.result.1 c.split.ensures.node ∙ c.split.ensures.body in
     let steps : steps_at new c.push-2.new.self ≡ visit (body_of (tree old c.args.key.node)) ∷ close (opening_at new o) ∷ steps_at old x.todo =

@@ -28,7 +28,7 @@ returns-clause-going c = λ first end going.
     let applied = sym c.is_binder.ensures ∙ c.if-is_binder.false in
     let nodes = nodes-below t c.args.node ks going.frames.0.0 c.kids.ensures.below in
     let after = operands-going t c.args.node ks x.todo applied c.kids.ensures.terms c.args.fresh.now first x.chosen x.level x.values.items x.findings end nodes going in
-    let todo : c.push_visits.new.todo ≡ map Visit ks ++ Build c.args.node ∷ x.todo = c.in_ok-push_visits.ensures ∙ ap (λ fs. map Visit ks ++ fs) c.in_ok-push-2.ensures in
+    let todo : c.push_visits.new.todo ≡ map Visit ks ++ Build c.args.node ∷ x.todo = c.in_ok-push_visits.ensures ∙ ap (λ fs. map Visit ks ++ fs) c.in_ok-push-2.ensures.ok in
     subst (λ (fs : List Frame). Going t c.args.fresh.now first x.chosen x.level fs x.values.items x.findings end) (sym todo) after)
 
 pub returns-clause-nearer : goal.returns-clause-nearer
@@ -37,5 +37,5 @@ returns-clause-nearer c =
     let x = c.args.self.now in
     let ks = c.kids.result.now in
     let applied = sym c.is_binder.ensures ∙ c.if-is_binder.false in
-    let todo : c.push_visits.new.todo ≡ map Visit ks ++ Build c.args.node ∷ x.todo = c.in_ok-push_visits.ensures ∙ ap (λ fs. map Visit ks ++ fs) c.in_ok-push-2.ensures in
+    let todo : c.push_visits.new.todo ≡ map Visit ks ++ Build c.args.node ∷ x.todo = c.in_ok-push_visits.ensures ∙ ap (λ fs. map Visit ks ++ fs) c.in_ok-push-2.ensures.ok in
     subst (λ (fs : List Frame). load (steps_at t fs) < load (steps_at t (Visit c.args.node ∷ x.todo))) (sym todo) (operands-load t c.args.node ks x.todo applied c.kids.ensures.terms)

@@ -39,7 +39,7 @@ returns-clause-steps c r going =
     (subst (λ xs. c.draw_constants.new.fresh ≡ (constant_names taken (variables_seen t ts xs) c.args.sofar.now.fresh).1) c.deref.ensures.value c.in_ok-constants.ensures.names)
     (subst (λ xs. symbols_seen u cs ≡ map constant_of (renamed (variables_seen t ts xs) (constant_names taken (variables_seen t ts xs) c.args.sofar.now.fresh).0)) c.deref.ensures.value c.in_ok-constants.ensures.symbols)
     c.in_ok-constants.ensures.constants
-    c.len.ensures.table.sorts c.requires.text c.in_ok-variables.ensures.within
+    c.know_table.ensures.sorts c.requires.text c.in_ok-variables.ensures.within
     c.in_ok-constants.constants refl c.enter.new.locals
     (subst (λ xs. c.enter.new.locals ≡ entered ts xs cs c.args.self.now.locals) c.deref-2.ensures.value
     (subst (λ ds. c.enter.new.locals ≡ entered ts c.deref-2.result.now ds c.args.self.now.locals) c.deref-3.ensures.value c.in_ok-enter.ensures))

@@ -1,4 +1,4 @@
-// The stack of a walk.
+//! The stack of a walk.
 
 ghost use Rattle.std.specs.Prelude.{◌≡◌, ◌∷◌, [], IfOk, OnOk, OnErr, MatchOption};
 ghost use Rattle.term_walk.specs.Packed.{unpacked};
@@ -43,26 +43,26 @@ impl Packed {
 
 // Frames, of which contracts see the last first.
 #[derive(Drop)]
-pub(crate) struct Stack {
-    frames: Vec<Packed>,
+pub(crate) struct Frames {
+    packed: Vec<Packed>,
 }
 
-impl Model for Stack {
+impl Model for Frames {
     ghost use Rattle.std.specs.Prelude.{List, reverse, map};
-    ghost use Rattle.term_walk.specs.declared.stack.Frame.{Frame};
+    ghost use Rattle.term_walk.specs.declared.frames.Frame.{Frame};
     ghost use Rattle.term_walk.specs.Packed.{unpacked};
 
     ghost Value = { List Frame };
 
-    ghost view = { λ s. map unpacked (reverse s.frames.items) };
+    ghost view = { λ s. map unpacked (reverse s.packed.items) };
 }
 
-impl Stack {
-    pub(crate) fn new(alloc: Global) -> Stack
+impl Frames {
+    pub(crate) fn new(alloc: Global) -> Frames
         ensures { result ≡ [] }
     {
-        Stack {
-            frames: Vec::new(alloc),
+        Frames {
+            packed: Vec::new(alloc),
         }
     }
 
@@ -70,14 +70,14 @@ impl Stack {
         ensures ok { OnOk result (self.new ≡ frame ∷ self.old) }
         ensures err { OnErr result (self.new ≡ self.old) }
     {
-        self.frames.push(Packed::of(frame)?)?;
+        self.packed.push(Packed::of(frame)?)?;
         Ok(())
     }
 
     pub(crate) fn pop(&mut self) -> Option<Frame>
         ensures { MatchOption result ((self.old ≡ []) × (self.new ≡ [])) (λ f. self.old ≡ f ∷ self.new) }
     {
-        match self.frames.pop() {
+        match self.packed.pop() {
             Some(packed) => Some(packed.frame()),
             None => None,
         }
