@@ -20,7 +20,7 @@ abbrev pub stores : (Value → Option Term) → (Value → Option Term) → Opti
 stores key_term result_term a no_pairs = a
 stores key_term result_term a (pair k v ps) = stores key_term result_term (stored a (key_term k) (result_term v)) ps
 
--- the term of a value of this sort, none where the value holds an element of a free sort
+-- the term of a value of this sort, none where the value holds an element of a free sort or a whole number outside the range
 abbrev pub value_term : Sort → Value → Option Term
 value_term bool v = constant_term v
 value_term int v = constant_term v

@@ -1,7 +1,7 @@
 //! Which constants, and whether quantifiers, may occur in which nodes. A walk that puts something in the place of a constant
 //! can leave out what is known to have none.
 
-ghost use Rattle.std.specs.Prelude.{◌≡◌, ◌||◌, true, false, Bool, IfOk, OnOk, [], List, option_copied};
+ghost use Rattle.std.specs.Prelude.{◌≡◌, ◌||◌, true, false, IfOk, OnOk, [], option_copied};
 ghost use Rattle.smt_terms.specs.declared.ids.NodeId.{NodeId};
 ghost use Rattle.term_table.specs.Formulas.{tree, IsNode};
 ghost use Rattle.term_walk.specs.FreeLists.{has_node};

@@ -1,8 +1,7 @@
 //! Images in the places of constants.
 
-ghost use Rattle.std.specs.Prelude.{◌≡◌, ℕ, ◌<◌, List, Bool, true, false, Some, IsSome, IfOk, OnOk, ◌||◌, is_some};
+ghost use Rattle.std.specs.Prelude.{◌≡◌, ◌<◌, Bool, true, false, Some, IfOk, OnOk, ◌||◌, is_some};
 ghost use Rattle.smt_terms.specs.declared.ids.NodeId.{NodeId};
-ghost use Rattle.smt_terms.specs.Rank.{sort_of};
 ghost use Rattle.term_table.specs.Formulas.{tree, IsNode};
 ghost use Rattle.term_walk.specs.Walking.{GrowsTo};
 ghost use Rattle.normal_forms.specs.Shape.{is_quantified, variables_of};

@@ -105,9 +105,6 @@ abbrev mutual
 
 -- ---- clauses, of the name n and the literals of the operands
 
-abbrev pub pair : Term → Term → List Term
-pair l m = l ∷ m ∷ []
-
 abbrev pub triple : Term → Term → Term → Term
 triple l m n = any_of (l ∷ m ∷ n ∷ [])
 

@@ -13,10 +13,8 @@
 //! - `(forall (x) a)`: itself over the form of a, and so `exists`
 //! - `true`, `false`, an atom: itself
 
-ghost use Rattle.std.specs.Prelude.{◌≡◌, ◌∷◌, [], ◌+◌, ◌≤◌, length, map, true, Some, All, IsSome, IsTrue, IfOk};
+ghost use Rattle.std.specs.Prelude.{◌≡◌, ◌∷◌, [], ◌+◌, ◌≤◌, length, map, true, All, IsSome, IsTrue, IfOk};
 ghost use Rattle.smt_terms.specs.Connectives.{all_of, opposite};
-ghost use Rattle.smt_terms.specs.Sorts.{bool};
-ghost use Rattle.smt_terms.specs.Rank.{sort_of};
 ghost use Rattle.smt_terms.specs.Shapes.{is_aig};
 ghost use Rattle.smt_terms.specs.Term.{Term};
 ghost use Rattle.term_table.specs.Formulas.{tree, trees_at, operands, IsNode};

@@ -1,7 +1,7 @@
 //! The two forms of a connective, of its operands' positive forms and negative forms.
 
-ghost use Rattle.std.specs.Prelude.{◌≡◌, ◌∷◌, [], ◌<◌, ◌≤◌, ◌+◌, length, All, IfOk};
-ghost use Rattle.smt_terms.specs.Connectives.{both, either, truth_term};
+ghost use Rattle.std.specs.Prelude.{◌≡◌, ◌<◌, ◌≤◌, length, All, IfOk};
+ghost use Rattle.smt_terms.specs.Connectives.{both, either};
 ghost use Rattle.smt_terms.specs.Term.{Term};
 ghost use Rattle.term_table.specs.Formulas.{tree, trees_at};
 ghost use Rattle.term_walk.specs.Walking.{GrowsTo};

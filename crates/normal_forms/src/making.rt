@@ -1,6 +1,6 @@
 //! Connectives over formulas.
 
-ghost use Rattle.std.specs.Prelude.{◌≡◌, ◌∷◌, [], ◌≤◌, length, All, IfOk};
+ghost use Rattle.std.specs.Prelude.{◌≡◌, [], ◌≤◌, length, All, IfOk};
 ghost use Rattle.smt_terms.specs.Connectives.{truth_term, negated, all_of, any_of, both, either};
 ghost use Rattle.term_table.specs.Formulas.{tree, trees_at};
 ghost use Rattle.term_walk.specs.Walking.{GrowsTo};

@@ -14,9 +14,8 @@
 //! - `true` and `false`: itself; and the other one
 //! - an atom p: p; and `(not p)`
 
-ghost use Rattle.std.specs.Prelude.{◌≡◌, ◌∷◌, [], ◌+◌, ◌≤◌, List, length, map, true, Some, All, IsSome, IsTrue, IfOk, OnOk};
+ghost use Rattle.std.specs.Prelude.{◌≡◌, ◌∷◌, [], ◌+◌, ◌≤◌, List, length, map, true, All, IsSome, IsTrue, IfOk, OnOk};
 ghost use Rattle.smt_terms.specs.Sorts.{bool};
-ghost use Rattle.smt_terms.specs.Rank.{sort_of};
 ghost use Rattle.smt_terms.specs.Shapes.{is_nnf};
 ghost use Rattle.smt_terms.specs.Term.{Term};
 ghost use Rattle.term_table.specs.Formulas.{tree, trees_at, operands, IsNode};

@@ -1,9 +1,7 @@
 //! Formulas and their opposites.
 
-ghost use Rattle.std.specs.Prelude.{◌≡◌, ◌∷◌, [], ◌<◌, ◌≤◌, length, map, All, Some, IfOk, MatchOption};
+ghost use Rattle.std.specs.Prelude.{◌≡◌, ◌<◌, length, map, All, Some, IfOk, MatchOption};
 ghost use Rattle.smt_terms.specs.Connectives.{both, negated, opposite};
-ghost use Rattle.smt_terms.specs.Sorts.{bool};
-ghost use Rattle.smt_terms.specs.Rank.{sort_of};
 ghost use Rattle.term_table.specs.Formulas.{tree, trees_at};
 ghost use Rattle.term_walk.specs.Walking.{GrowsTo};
 ghost use Rattle.normal_forms.specs.Nodes.{IsFormula};

@@ -118,7 +118,8 @@ abbrev pub graph_kept : Pass → (Symbol → Option Graph) → Symbol → Option
 graph_kept Ackermann graphs f = cond (has_arguments f) None (graphs f)
 graph_kept p graphs f = graphs f
 
--- a new symbol has the value of its term where its assertion is live, else its sort's default
+-- a new symbol has the value of its term where its assertion is live, else its sort's default; another symbol keeps its graph.
+-- Only new symbols have a term
 abbrev pub graph_given : Model → Option Term → Bool → Symbol → Option Graph → Option Graph
 graph_given m (Some t) declared f other = Some (constant_graph (val m t no_variables))
 graph_given m None true f other = Some (constant_graph (default_value f.result))

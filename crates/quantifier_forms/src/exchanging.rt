@@ -1,6 +1,6 @@
 //! A formula in the place of a quantified one, wherever that is reached through `and` and `or` alone.
 
-ghost use Rattle.std.specs.Prelude.{◌≡◌, ◌<◌, false, IfOk, OnOk};
+ghost use Rattle.std.specs.Prelude.{◌≡◌, ◌<◌, IfOk, OnOk};
 ghost use Rattle.smt_terms.specs.declared.ids.NodeId.{NodeId};
 ghost use Rattle.term_table.specs.Formulas.{IsNode};
 ghost use Rattle.term_walk.specs.FreeLists.{with_node};

@@ -1,6 +1,6 @@
 //! The subterms of a node in the order in which their results are made.
 
-ghost use Rattle.std.specs.Prelude.{◌≡◌, ℕ, suc, ◌<◌, ◌≤◌, ◌+◌, ◌++◌, ◌∷◌, [], List, All, Bool, true, false, not, IfOk, OnOk, length, map};
+ghost use Rattle.std.specs.Prelude.{◌≡◌, ℕ, suc, ◌<◌, ◌≤◌, ◌+◌, ◌++◌, ◌∷◌, [], List, All, Bool, true, false, not, IfOk, OnOk, length};
 ghost use Rattle.smt_terms.specs.declared.ids.NodeId.{NodeId};
 ghost use Rattle.smt_terms.specs.Term.{Term};
 ghost use Rattle.smt_terms.specs.Groups.{has_term};

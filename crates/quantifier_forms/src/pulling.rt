@@ -8,7 +8,7 @@ ghost use Rattle.term_table.specs.Formulas.{tree, variable_of, IsNode};
 ghost use Rattle.term_walk.specs.Walking.{GrowsTo};
 ghost use Rattle.term_subst.specs.Renaming.{Binds};
 ghost use Rattle.term_subst.specs.State.{Gains};
-ghost use Rattle.term_subst.specs.Substituting.{IsMap, IsLater};
+ghost use Rattle.term_subst.specs.Substituting.{IsMap};
 ghost use Rattle.normal_forms.specs.Nodes.{IsFormula};
 ghost use Rattle.quantifier_forms.specs.Pulling.{AreFresh, AreFronts, behind_fronts, fresh_body, all_fresh, fronts_at};
 ghost use Rattle.quantifier_forms.specs.Reaching.{parts_of, IsBinder};

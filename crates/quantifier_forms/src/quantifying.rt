@@ -1,10 +1,10 @@
 //! Quantifiers over some variables.
 
-ghost use Rattle.std.specs.Prelude.{◌≡◌, true, List, map, IfOk};
+ghost use Rattle.std.specs.Prelude.{◌≡◌, true, List, IfOk};
 ghost use Rattle.smt_terms.specs.Sorts.{Variable};
 ghost use Rattle.smt_terms.specs.Rank.{are_bindable};
 ghost use Rattle.smt_terms.specs.Term.{constant_of, quantified, variable};
-ghost use Rattle.term_table.specs.Formulas.{tree, trees_at, symbol_at, variable_of, IsNode, IsSymbol, AreNodes};
+ghost use Rattle.term_table.specs.Formulas.{tree, symbol_at, variable_of, IsNode, IsSymbol, AreNodes};
 ghost use Rattle.term_walk.specs.Walking.{GrowsTo};
 ghost use Rattle.normal_forms.specs.Nodes.{IsFormula};
 ghost use Rattle.normal_forms.specs.Shape.{quantifier_seen, is_quantified, variables_of};

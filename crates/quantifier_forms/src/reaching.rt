@@ -1,6 +1,6 @@
 //! What is reached from the root of a formula through `and` and `or` alone.
 
-ghost use Rattle.std.specs.Prelude.{◌≡◌, Bool, true, false, None, Some, IfOk, MatchOption, IfSome};
+ghost use Rattle.std.specs.Prelude.{◌≡◌, true, false, None, Some, IfOk, MatchOption, IfSome};
 ghost use Rattle.term_table.specs.Formulas.{tree, trees_at, IsNode, AreNodes};
 ghost use Rattle.normal_forms.specs.Prenex.{leftmost};
 ghost use Rattle.normal_forms.specs.Shape.{is_quantified};

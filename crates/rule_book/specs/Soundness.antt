@@ -1,5 +1,6 @@
 -- Which rules are sound: whatever term a rule is shown, and whatever template it answers, the template is a term over the view's
--- holes that has the view's sort, and it has the view's value (SMT-LIB 2.6, section 5.3) for all values of the holes.
+-- holes that has the view's sort, and it has the view's value (SMT-LIB 2.6, section 5.3) for all values of the holes that the
+-- view's constants allow.
 use Rattle.std.specs.Prelude.{◌≡◌, ℕ, suc, ◌<◌, ◌==◌, if◌then◌else◌, List, [], ◌∷◌, map, filter, slice_get, Option, Some, None, IfSome, IsTrue}
 use Rattle.smt_terms.specs.declared.op.Op.{Op}
 use Rattle.smt_terms.specs.Sorts.{Name, Sort}

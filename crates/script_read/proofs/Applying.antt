@@ -1,5 +1,5 @@
 -- Applications of what heads call to operands that were read.
-use Rattle.std.proofs.Common.{◌≡◌, ◌∙◌, ap, subst, refl, ℕ, List, [], ◌∷◌, map, Result, Ok, Err}
+use Rattle.std.proofs.Common.{◌≡◌, ◌∙◌, ap, subst, refl, ℕ, List, ◌∷◌, map, Result, Ok, Err}
 use Rattle.smt_lex.specs.Names.{Name}
 use Rattle.smt_terms.specs.Models.{Model, symbol_value}
 use Rattle.smt_terms.specs.Operators.{first_value}

@@ -1,5 +1,5 @@
 -- What a written operator is made of keeps its meaning from terms to values.
-use Rattle.std.proofs.Common.{◌≡◌, ◌∙◌, sym, ap, refl, ℕ, List, [], ◌∷◌, map, Option}
+use Rattle.std.proofs.Common.{◌≡◌, ◌∙◌, sym, ap, refl, List, [], ◌∷◌, map, Option}
 use Rattle.std.specs.Prelude.{unwrap_or}
 use Rattle.smt_terms.specs.declared.op.Op.{Op}
 use Rattle.smt_terms.specs.Models.{Model, background}

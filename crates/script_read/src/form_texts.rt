@@ -5,7 +5,6 @@ ghost use Rattle.smt_lex.specs.Forest.{token_at};
 ghost use Rattle.smt_lex.specs.Forms.{is_left, is_right};
 ghost use Rattle.smt_lex.specs.FormText.{form_text};
 ghost use Rattle.script_terms.specs.Places.{IsRead, IsForm, form_from};
-ghost use Rattle.script_read.specs.TokenText.{spaced_text};
 
 use smt_lex::{Forest, Item};
 use std::alloc::{AllocError, Global};

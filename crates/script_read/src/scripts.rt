@@ -1,6 +1,6 @@
 //! Scripts as they are read: commands over the nodes, symbols and sorts of a table.
 
-ghost use Rattle.std.specs.Prelude.{◌≡◌, ◌<◌, ◌++◌, ◌∷◌, [], length, set, count_by, Some, slice_get, option_copied, OnOk, OnErr};
+ghost use Rattle.std.specs.Prelude.{◌≡◌, ◌<◌, ◌++◌, ◌∷◌, [], length, set, count_by, Some, slice_get, OnOk, OnErr};
 ghost use Rattle.script_read.specs.CommandLists.{is_check};
 
 use smt_terms::{NodeId, SortId, SymId};

@@ -1,5 +1,5 @@
 -- Refusals as the code holds them.
-use Rattle.std.proofs.Common.{◌≡◌, ℕ, Err, sym, [], Result, subst}
+use Rattle.std.proofs.Common.{◌≡◌, ℕ, Err, sym, Result, subst}
 use Rattle.script_terms.specs.declared.causes.Cause.{Cause}
 use Rattle.script_terms.specs.declared.faults.Fault.{Fault}
 use Rattle.script_terms.specs.Refusals.{at, Refused}

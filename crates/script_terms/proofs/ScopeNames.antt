@@ -1,5 +1,5 @@
 -- Names of a scope: which are live, and that what they stand for is of the table.
-use Rattle.std.proofs.Common.{◌≡◌, Bool, true, false, List, [], ◌∷◌, All, Option, Some, None, refl, subst, ℕ, option_map, ap, sym, ◌∙◌}
+use Rattle.std.proofs.Common.{◌≡◌, Bool, true, false, List, [], ◌∷◌, All, Option, Some, None, refl, subst, option_map, ap, sym, ◌∙◌}
 use Rattle.std.proofs.lemmas.List.Elements.{All-head, All-tail}
 use Rattle.smt_lex.specs.Names.{Name}
 use Rattle.smt_terms.specs.Equal.{name_eq}

@@ -1,5 +1,5 @@
 -- The names of a text.
-use Rattle.std.specs.Prelude.{ℕ, ◌+◌, cond, List, [], ◌∷◌, ◌++◌, Option, Some, None}
+use Rattle.std.specs.Prelude.{◌+◌, cond, List, [], ◌∷◌, ◌++◌, Option, Some, None}
 use Rattle.smt_lex.specs.Names.{Name, is_among}
 use Rattle.smt_lex.specs.Forms.{Form, atom, node, Forms, none, ◌⨾◌}
 use Rattle.script_terms.specs.Parts.{symbol_in}

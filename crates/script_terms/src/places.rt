@@ -1,10 +1,10 @@
 //! The forms of a text by the numbers of their first tokens.
 
-ghost use Rattle.std.specs.Prelude.{◌≡◌, ℕ, ◌+◌, ◌*◌, ◌^◌, ◌<◌, ◌≤◌, Bool, true, false, length, Some, None, option_map, MatchOption, IfSome};
+ghost use Rattle.std.specs.Prelude.{◌≡◌, ◌+◌, ◌*◌, ◌^◌, ◌<◌, ◌≤◌, true, false, length, Some, None, option_map, IfSome};
 ghost use Rattle.std.specs.Char.{digit_value};
 ghost use Rattle.std.specs.Str.Parse.{digits_value};
 ghost use Rattle.smt_lex.specs.Lex.{symbol_of, name_of};
-ghost use Rattle.smt_lex.specs.Forest.{token_at, after_at};
+ghost use Rattle.smt_lex.specs.Forest.{token_at};
 ghost use Rattle.smt_lex.specs.Forms.{none};
 ghost use Rattle.smt_lex.specs.Names.{is_reserved};
 ghost use Rattle.script_terms.specs.Parts.{place_of, symbol_in, word_in, is_name, is_keyword, keyword_in, numeral_in};

@@ -1,6 +1,6 @@
 //! The live bindings: names of terms and names of sorts, with levels.
 
-ghost use Rattle.std.specs.Prelude.{◌≡◌, ℕ, ◌<◌, ◌≤◌, Bool, length, slice_get, Some, None, OnOk};
+ghost use Rattle.std.specs.Prelude.{◌≡◌, ◌<◌, ◌≤◌, length, slice_get, Some, None, OnOk};
 ghost use Rattle.script_terms.specs.Scope.{opened, popped, emptied};
 ghost use Rattle.script_terms.specs.Known.{Scoping, nothing_known, find, is_mark, with_entry, with_sort, with_definition, declared_among, levels_in};
 

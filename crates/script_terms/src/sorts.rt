@@ -21,13 +21,10 @@ use crate::names::is_theory_sort;
 use crate::places::{begins, fault, inside, is_symbol, is_word, numeral_at, place_of};
 use crate::scopes::Scope;
 use smt_lex::Forest;
-use smt_terms::SortId;
+use smt_terms::{MOST_BITS, SortId};
 use std::alloc::{AllocError, Global};
 use std::marker::Model;
 use term_table::Table;
-
-// The greatest width of a bit vector.
-const MOST_BITS: u128 = 128;
 
 // What a form is as a sort.
 #[derive(Clone, Copy)]
@@ -142,8 +139,8 @@ fn vector_sort(place: u32, width: Option<u128>) -> Result<SortId, Fault>
     let cause = match width {
         None => Cause::BadForm,
         Some(0) => Cause::BadIndex,
-        Some(width) if width > MOST_BITS => Cause::WidthLimit,
-        Some(width) => return Ok(SortId(1 + width as u64)),
+        Some(width) if width > MOST_BITS as u128 => Cause::WidthLimit,
+        Some(width) => return Ok(SortId::of_width(width as u32)),
     };
     Err(Fault { cause, place })
 }

@@ -7,7 +7,7 @@ use Rattle.smt_terms.specs.Equal.{op_eq, term_eq}
 use Rattle.smt_terms.specs.Constants.{are_different_constants}
 
 -- an element: of a constant array its value; where the array has just been stored to, the stored value at the same index, and
--- what was there before at a different constant
+-- where both indices are constants and differ the element, found in the same way, of the array before
 abbrev pub selection : Term → Term → Term
 selection (apply (const_array s) (v ⨾ none)) j = v
 selection (apply (op o) (a ⨾ i ⨾ v ⨾ none)) j =

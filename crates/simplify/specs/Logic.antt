@@ -1,5 +1,5 @@
 -- The laws of the operators of theory Core (SMT-LIB 2.6) over operands that are simplified already. The first line that applies
--- counts; none is where none applies.
+-- counts; where none applies there is none, or of `and`, `or` and the quantifiers the term anew.
 use Rattle.std.specs.Prelude.{Bool, true, false, not, ◌&&◌, ◌||◌, nat_le, if◌then◌else◌, List, [], ◌∷◌, length, filter, Option, Some, None}
 use Rattle.std.specs.List.{list_any}
 use Rattle.smt_terms.specs.declared.op.Op.{Op}

@@ -53,6 +53,6 @@ division s t = if is_whole (pos 1) t then Some s else None
 abbrev pub remainder : Term → Term → Option Term
 remainder s t = if is_whole (pos 1) t || is_whole (negsuc 0) t then Some (whole_term (pos 0)) else None
 
--- a comparison of an operand with itself
+-- a comparison of an operand with itself, of integers or of bit vectors
 abbrev pub with_itself : Bool → Term → Term → Option Term
 with_itself b s t = if term_eq s t then Some (truth_term b) else None

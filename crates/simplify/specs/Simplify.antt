@@ -1,6 +1,7 @@
--- The simplifier: `simp t` is `red` of the head and the simplified operands. Where all operands are constants and the operator's
--- value is a constant in the range, it is that constant; else the operator's law counts, where one applies; else the term is
--- made anew. The operators are those of SMT-LIB 2.6, theories Core, Ints, FixedSizeBitVectors and ArraysEx, and logic QF_BV.
+-- The simplifier. Of an application `simp t` is `red` of the head and the simplified operands: where there are operands, all are
+-- constants, nothing is divided by zero (`div`, `mod`), and the operator's value is a constant in the range, it is that constant;
+-- else the operator's law counts, where one applies; else the application is made anew. Of a quantified formula it binds, around
+-- the simplified body, the variables that are free there. The operators are those of SMT-LIB 2.6, theories Core, Ints, FixedSizeBitVectors and ArraysEx, and logic QF_BV.
 use Rattle.std.specs.Prelude.{Bool, true, false, List, [], Option, Some, None, unwrap_or}
 use Rattle.smt_terms.specs.declared.op.Op.{Op}
 use Rattle.smt_terms.specs.declared.op.Op.TheVariants.{Not, And, Or, Xor, Implies, Equal, Distinct, Ite, Neg, Sub, Add, Mul, Div, Mod, Le, Lt, Extract, BvNot, BvNeg, BvAnd, BvOr, BvXor, BvAdd, BvMul, BvSub, BvUdiv, BvUrem, BvShl, BvLshr, BvAshr, BvComp, BvUlt, BvUle, BvSlt, BvSle, ZeroExt, SignExt, RotL, RotR, Select, Store}
@@ -13,7 +14,7 @@ use Rattle.simplify.specs.Numbers as numbers
 use Rattle.simplify.specs.Vectors as vectors
 use Rattle.simplify.specs.Arrays.{selection, storing}
 
--- an operator's law at its operands, where one applies
+-- what an operator's law makes of its operands; none where no law applies, though `and`, `or`, `select` and `store` always answer
 unfoldable pub law : Op → List Term → Option Term
 law Not ts = one (twice Not) ts
 law And ts = Some (conjunction ts)

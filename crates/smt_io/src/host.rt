@@ -1,5 +1,5 @@
 //! Texts of the host: files and the standard streams.
-ghost use Rattle.std.specs.Prelude.{◌≡◌, ℕ, ◌≤◌, List, None, length, IfOk};
+ghost use Rattle.std.specs.Prelude.{◌≡◌, ℕ, ◌≤◌, None, length, IfOk};
 ghost use Rattle.smt_io.specs.Host.{Host, new_host, host_begun, host_faults};
 
 use crate::fault_counts::FaultCounts;

@@ -1,5 +1,5 @@
 //! Where texts come from.
-ghost use Rattle.std.specs.Prelude.{◌≡◌, ℕ, ◌<◌, ◌≤◌, List, [], None, Some, Option, length, take, unwrap_or, IfOk, OnOk, OnErr, IsErrOf, MatchResult};
+ghost use Rattle.std.specs.Prelude.{◌≡◌, ℕ, ◌<◌, ◌≤◌, List, [], None, Some, Option, length, take, unwrap_or, IfOk, OnErr, IsErrOf, MatchResult};
 ghost use Rattle.smt_io.specs.Counts.{NeverFalls, Rose, raised_by};
 ghost use Rattle.smt_io.specs.Told.{behind, IsAtEnd};
 

@@ -1,5 +1,5 @@
 //! A sink that keeps its bytes in memory.
-ghost use Rattle.std.specs.Prelude.{◌≡◌, ℕ, ◌<◌, ◌≤◌, ◌↔◌, Some, length, take, vec_len, vec_capacity, IfOk, OnOk, OnErr, MatchResult, IsErr, IsTrue};
+ghost use Rattle.std.specs.Prelude.{◌≡◌, ◌<◌, ◌≤◌, ◌↔◌, length, take, vec_len, vec_capacity, IfOk, OnOk, OnErr, MatchResult, IsErr, IsTrue};
 ghost use Rattle.smt_io.specs.Counts.{NeverFalls, Rose};
 ghost use Rattle.smt_io.specs.Told.{with_bytes};
 ghost use Rattle.smt_io.specs.Calls.{is_next_named, with_failing};

@@ -1,6 +1,6 @@
 //! Commands that hold no terms.
 
-ghost use Rattle.std.specs.Prelude.{◌≡◌, ◌++◌, ◌∷◌, [], All, OnOk, map, codes, false};
+ghost use Rattle.std.specs.Prelude.{◌≡◌, ◌++◌, ◌∷◌, [], All, OnOk, map, false};
 ghost use Rattle.smt_lex.specs.Forms.{Form};
 ghost use Rattle.smt_lex.specs.FormText.{form_text};
 ghost use Rattle.smt_lex.specs.Names.{printed_symbol};

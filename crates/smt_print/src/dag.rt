@@ -1,12 +1,11 @@
 //! Terms in layout dag: each distinct subterm that has operands once, below the names of those before it.
 
-ghost use Rattle.std.specs.Prelude.{◌≡◌, ◌<◌, ◌++◌, ◌∷◌, [], ℕ, List, OnOk, OnErr, length, true, false};
+ghost use Rattle.std.specs.Prelude.{◌≡◌, ◌<◌, ◌++◌, ◌∷◌, [], ℕ, List, OnOk, OnErr, length, true};
 ghost use Rattle.smt_lex.specs.FormText.{form_text};
 ghost use Rattle.smt_lex.specs.Lexicon.{space};
-ghost use Rattle.term_table.specs.Formulas.{tree, operands, IsNode, IsTable};
+ghost use Rattle.term_table.specs.Formulas.{tree, operands, IsNode};
 ghost use Rattle.smt_print.specs.DagSteps.{definition_of, definitions_at, IsKnown, IsScope, AreScopes, IsDefinable, let_opening, let_text, end_text, visits, LeadsFrom, weights};
-ghost use Rattle.smt_print.specs.Defined.{has_node};
-ghost use Rattle.smt_print.specs.NodeForms.{is_quantified, Binds, opening};
+ghost use Rattle.smt_print.specs.NodeForms.{is_quantified, opening};
 ghost use Rattle.smt_print.specs.Prefix.{AppendsPrefix, Drafts};
 ghost use Rattle.smt_print.specs.TermForms.{definition_name, reference, dag_form};
 

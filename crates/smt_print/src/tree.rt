@@ -1,8 +1,8 @@
 //! Terms in layout tree: each as it is, with its subterms wherever they occur.
 
-ghost use Rattle.std.specs.Prelude.{◌≡◌, ◌<◌, ◌++◌, ◌∷◌, ℕ, List, OnOk, OnErr, map};
+ghost use Rattle.std.specs.Prelude.{◌≡◌, ◌<◌, ◌++◌, ◌∷◌, ℕ, List, OnOk, OnErr};
 ghost use Rattle.smt_lex.specs.FormText.{form_text};
-ghost use Rattle.term_table.specs.Formulas.{tree, IsNode, AreNodes};
+ghost use Rattle.term_table.specs.Formulas.{tree, IsNode};
 ghost use Rattle.smt_print.specs.Prefix.{AppendsPrefix, Drafts};
 ghost use Rattle.smt_print.specs.TermForms.{tree_form};
 ghost use Rattle.smt_print.specs.TreeSteps.{Leads, weights, operand_steps};

@@ -61,7 +61,7 @@ abbrev mutual
   with_constants_each ns none = none
   with_constants_each ns (t ⨾ ts) = with_constants ns t ⨾ with_constants_each ns ts
 
--- a list of one where the test holds, else none
+-- the list where the test holds, else none
 abbrev pub where_so : Bool → List Term → List Term
 where_so true ts = ts
 where_so false ts = []

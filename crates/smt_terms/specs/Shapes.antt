@@ -1,5 +1,5 @@
 -- Shapes of formulas. The connective part of a formula is what is reached from its root through connectives alone; where
--- it is said so, through quantifiers too. What an atom holds isn't looked at, but where `anywhere` is said.
+-- it is said so, through quantifiers too. What an atom holds isn't looked at, unless that is said.
 use Rattle.std.specs.Prelude.{Bool, true, false, not, ◌&&◌, ◌||◌, List, [], ◌∷◌, reverse, ◌++◌}
 use Rattle.std.specs.List.{list_any}
 use Rattle.smt_terms.specs.declared.op.Op.{Op}
@@ -15,11 +15,12 @@ abbrev pub is_atom_kind : Kind → Bool
 is_atom_kind atom = true
 is_atom_kind _ = false
 
--- an atom with quantified formulas among the atoms, and an atom with them not among these
+-- a formula that is no connective; a quantified formula counts as an atom
 abbrev pub is_atom : Term → Bool
 is_atom (apply h ts) = is_atom_kind (kind_of h ts)
 is_atom (quantified q xs body) = true
 
+-- a formula that is neither a connective nor quantified
 abbrev pub is_bare_atom : Term → Bool
 is_bare_atom (apply h ts) = is_atom_kind (kind_of h ts)
 is_bare_atom (quantified q xs body) = false

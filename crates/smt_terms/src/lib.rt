@@ -10,6 +10,6 @@ pub mod laws;
 pub mod name_hash;
 pub mod op;
 
-pub use ids::{NodeId, SortId, SymId};
+pub use ids::{MOST_BITS, NodeId, SortId, SymId};
 pub use name_hash::{BuildNameHasher, NameHasher};
 pub use op::Op;

@@ -2,7 +2,7 @@
 use Rattle.std.proofs.Common.{◌≡◌, ℕ, zero, suc, ◌+◌, ◌<◌, Bool, true, false, cond, List, [], ◌∷◌, ◌++◌, length, get_or, take, Option, Some, None, refl, ap, sym, ◌∙◌, subst, arith, true≢false, ◌-◌, ◌≤◌}
 use Rattle.std.proofs.lemmas.List.Elements.{All-get_or}
 use Rattle.smt_terms.specs.Values as plain
-use Rattle.smt_terms.specs.Values.{Pairs, no_pairs, pair, is_key, value_at, put, every_pair}
+use Rattle.smt_terms.specs.Values.{Pairs, no_pairs, pair, put}
 use Rattle.smt_values.specs.Tables.{count, pair_at, with_value_at, with_pair, value_depth, pairs_depth}
 use Rattle.smt_values.specs.Places.{place_from}
 use Rattle.smt_values.specs.declared.value.Value.{Value}

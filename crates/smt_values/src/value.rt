@@ -1,6 +1,6 @@
 //! Values: scalars, elements of declared sorts, and arrays.
 
-ghost use Rattle.std.specs.Prelude.{◌≡◌, ◌<◌, IfSome, OnOk, Some};
+ghost use Rattle.std.specs.Prelude.{◌≡◌, ◌<◌, OnOk, Some};
 ghost use Rattle.smt_terms.specs.Values.{no_pairs};
 ghost use Rattle.smt_values.specs.Tables.{count, pair_at, with_value_at, with_pair};
 

@@ -1,6 +1,6 @@
 //! What the program does, from its words to its status.
 
-ghost use Rattle.std.specs.Prelude.{◌≡◌, ◌≤◌, ◌⊎◌, length, map, string_bytes, take, vec_len, IfErr, OnOk};
+ghost use Rattle.std.specs.Prelude.{◌≡◌, ◌≤◌, ◌⊎◌, map, string_bytes, vec_len, IfErr, OnOk};
 ghost use Rattle.smt_io.specs.Counts.{Rose};
 ghost use Rattle.smt_io.specs.Told.{longest_text, with_bytes};
 ghost use Rattle.smtrw_answers.specs.Answers.{err_line};

@@ -1,7 +1,6 @@
 //! The statuses that end a run before anything is written, by what was met on the way.
 
 ghost use Rattle.std.specs.Prelude.{◌≡◌};
-ghost use Rattle.smtrw_answers.specs.Endings.{too_long};
 ghost use Rattle.smtrw_answers.specs.Faults.{status_of_lexing, status_of_reading};
 ghost use Rattle.smtrw_answers.specs.declared.status.Status.TheVariants.{OutOfMemory};
 

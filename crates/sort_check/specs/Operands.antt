@@ -1,5 +1,5 @@
 -- Operands of one sort.
-use Rattle.std.specs.Prelude.{◌≡◌, ◌≤◌, ℕ, ◌+◌, ◌-◌, ◌*◌, ◌&&◌, List, [], ◌∷◌, map, length, nat_le, Bool, true, false, Option, Some, Result, Ok, All, if◌then◌else◌}
+use Rattle.std.specs.Prelude.{◌≡◌, ◌≤◌, ℕ, ◌+◌, ◌*◌, List, [], ◌∷◌, map, length, nat_le, Bool, true, false, Option, Some, Result, Ok, All, if◌then◌else◌}
 use Rattle.smt_terms.specs.declared.ids.NodeId.{NodeId}
 use Rattle.smt_terms.specs.declared.op.Op.{Op}
 use Rattle.smt_terms.specs.Rank.{Fault, wrong_arity, Shape, only, first_misfit, rank, sort_of}
@@ -43,10 +43,6 @@ linked false o x y = apply_to_both term_algebra o x y
 abbrev pub chained : Bool → Op → Written
 chained true o = chainable_exchanged o
 chained false o = chainable o
-
--- the width of the sort of this number, and 0 for what is no bit vector
-abbrev pub width_numbered : ℕ → ℕ
-width_numbered n = if nat_le 2 n && nat_le n 129 then n - 1 else 0
 
 -- a bit vector of which one and so many more have no more than 128 bits
 pub record Repeats (t : Formulas) (k : NodeId) (more : ℕ) : Type 0 where

@@ -1,6 +1,6 @@
 //! Nodes by their operators.
 
-ghost use Rattle.std.specs.Prelude.{◌≡◌, ◌≢◌, [], ◌∷◌, IfOk, IsOk, OnErr, Ok};
+ghost use Rattle.std.specs.Prelude.{◌≡◌, ◌≢◌, IfOk, IsOk, OnErr, Ok};
 ghost use Rattle.smt_terms.specs.declared.op.Op.TheVariants.{Neg};
 ghost use Rattle.term_table.specs.Formulas.{tree, trees_at, rank_over, AreNodes, IsNode, IsOpOf, Adds, GrowsByOne, IsUnchanged};
 ghost use Rattle.smt_terms.specs.Written.{apply_to_both};

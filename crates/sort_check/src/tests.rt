@@ -9,8 +9,6 @@ use std::alloc::Global;
 use std::test::Fail;
 use term_table::{RankFault, Table};
 
-const BIT: SortId = SortId(2);
-
 const BYTE: SortId = SortId(9);
 
 // The operands by their places: two truth values, three integers, two bytes, and vectors of 64 and of 65 bits.
@@ -133,7 +131,7 @@ const REFUSED: [(&[u8], &[u128], &[usize], RankFault); 18] = [
         RankFault::WrongSort {
             arg: 0,
             have: SortId::INT,
-            want: BIT,
+            want: SortId::BIT,
         },
     ),
     (
@@ -143,7 +141,7 @@ const REFUSED: [(&[u8], &[u128], &[usize], RankFault); 18] = [
         RankFault::WrongSort {
             arg: 0,
             have: SortId::INT,
-            want: BIT,
+            want: SortId::BIT,
         },
     ),
     (b"repeat", &[0], &[5], RankFault::BadIndex),

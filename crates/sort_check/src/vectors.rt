@@ -8,19 +8,13 @@ ghost use Rattle.term_table.specs.Formulas.{tree, AreNodes, IsNode};
 ghost use Rattle.term_table.specs.ShapeRank.{kid_sorts};
 ghost use Rattle.sort_check.specs.Forms.{is_bitwise_pair};
 ghost use Rattle.sort_check.specs.Making.{term_algebra, Extends, Builds};
-ghost use Rattle.sort_check.specs.Operands.{width_numbered, Repeats};
+ghost use Rattle.sort_check.specs.Operands.{Repeats};
 
 use crate::fault::MakeFault;
 use crate::making::{make, pair};
-use smt_terms::{NodeId, Op, SortId};
+use smt_terms::{MOST_BITS, NodeId, Op};
 use std::alloc::{AllocError, Global};
 use term_table::{RankFault, Table};
-
-/// The number of the bit vectors of width 0, had they one: a width is added to it.
-const NO_BITS: u64 = 1;
-
-/// The greatest width of a bit vector.
-const MOST_BITS: u64 = 128;
 
 /// The complement of an operator over two operands.
 pub fn complemented(
@@ -190,15 +184,5 @@ fn operand_width(table: &Table, kids: &[NodeId]) -> u32
     if kids.len() != 1 {
         return 0;
     }
-    width(table.sort_of(kids[0]))
-}
-
-// The width of a bit-vector sort, and 0 for another.
-fn width(sort: SortId) -> u32
-    ensures { result ≡ width_numbered sort.0 }
-{
-    if sort.0 <= NO_BITS || sort.0 > NO_BITS + MOST_BITS {
-        return 0;
-    }
-    (sort.0 - NO_BITS) as u32
+    table.sort_of(kids[0]).width().unwrap_or(0)
 }

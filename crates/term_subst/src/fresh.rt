@@ -1,6 +1,6 @@
 //! Names that stand nowhere yet.
 
-ghost use Rattle.std.specs.Prelude.{◌≡◌, ◌∷◌, [], ℕ, reverse, OnOk, OnErr, IfOk};
+ghost use Rattle.std.specs.Prelude.{◌≡◌, [], ℕ, reverse, OnOk, OnErr, IfOk};
 ghost use Rattle.smt_terms.specs.Fresh.{Supply, numbered_name, next_number, after_draw, fresh_constant};
 ghost use Rattle.smt_values.specs.SortIds.{IsSortId, sort_at};
 ghost use Rattle.term_table.specs.Formulas.{IsSymbol, symbol_at, Adds, GrowsByOne};

@@ -1,7 +1,7 @@
 //! The machine that substitutes, with a stack of its own. It implements `subst_from m t s`: the result of a term t under the
 //! map m, from what is kept in s; one result for each node under one map, and one for each quantified term under one cut map.
 
-ghost use Rattle.std.specs.Prelude.{◌≡◌, ◌<◌, ◌∷◌, [], None, OnOk, IfOk, true, false};
+ghost use Rattle.std.specs.Prelude.{◌≡◌, ◌<◌, ◌∷◌, [], None, OnOk, IfOk, true};
 ghost use Rattle.smt_terms.specs.Free.{free};
 ghost use Rattle.smt_terms.specs.Fresh.{Supply};
 ghost use Rattle.smt_terms.specs.Rank.{sort_of};

@@ -7,7 +7,7 @@ ghost use Rattle.smt_terms.specs.Term.{variable};
 ghost use Rattle.term_table.specs.Formulas.{tree, variable_of, IsNode};
 ghost use Rattle.term_subst.specs.Maps.{map_at};
 ghost use Rattle.term_subst.specs.Renaming.{Binds, Renames};
-ghost use Rattle.term_subst.specs.State.{AreFindings, AreVariables, Gains, SameImages, variables_at};
+ghost use Rattle.term_subst.specs.State.{AreFindings, AreVariables, Gains, SameImages};
 ghost use Rattle.term_subst.specs.Substituting.{IsMap};
 
 use crate::findings::Findings;

@@ -1,6 +1,6 @@
 //! What holds of every table, as the contract of a function that changes nothing.
 
-ghost use Rattle.std.specs.Prelude.{◌≡◌, ◌↔◌, IsSome};
+ghost use Rattle.std.specs.Prelude.{◌≡◌, ◌↔◌};
 ghost use Rattle.smt_terms.specs.Rank.{IsWellSorted};
 ghost use Rattle.smt_terms.specs.declared.ids.NodeId.{NodeId};
 ghost use Rattle.smt_terms.specs.declared.ids.SymId.{SymId};

@@ -1,39 +1,20 @@
 //! The rank of an operator over operands.
 
-ghost use Rattle.std.specs.Prelude.{◌≡◌, ◌≢◌, ◌<◌, ◌≤◌, ◌+◌, ◌⊎◌, ℕ, [], ◌∷◌, length, map, replicate, get_or, All, Some, None, MatchOption, MatchResult, IfSome, IfOk, IfErr, IsTrue, ◌↔◌, ◌^◌};
-ghost use Rattle.smt_terms.specs.Sorts.{bool, int, bit_vector, array};
-ghost use Rattle.smt_terms.specs.Rank.{fixed, several, equation, distinctness, choice, whole_number, bit_constant, concatenation, extraction, extension, rotation, bitwise, bitwise_pair, bits_comparison, selection, storing, filling, only, any_width, any_array, misfit, first_misfit, rank_quantifier, is_quantifiable, may_bind, symbol_name, has_name};
+ghost use Rattle.std.specs.Prelude.{◌≡◌, ◌≢◌, ◌<◌, ◌≤◌, ◌+◌, [], ◌∷◌, length, map, replicate, All, Some, None, MatchOption, MatchResult, IfSome, IfOk, IfErr, IsTrue, ◌↔◌, ◌^◌};
+ghost use Rattle.smt_terms.specs.Sorts.{bool, bit_vector, array};
+ghost use Rattle.smt_terms.specs.Rank.{fixed, several, equation, distinctness, choice, whole_number, bit_constant, concatenation, extraction, extension, rotation, bitwise, bitwise_pair, bits_comparison, selection, storing, filling, only, any_width, any_array, misfit, first_misfit, rank_quantifier, may_bind, symbol_name, has_name};
 ghost use Rattle.smt_values.specs.SortIds.{sort_at, IsSortId};
 
 use crate::fault::RankFault;
 use crate::table::Table;
-use smt_terms::NodeId;
+use smt_terms::{MOST_BITS, NodeId};
 use smt_values::{Op, SortId, SymId};
-
-/// The number of the bit vectors of width 1.
-const BIT: SortId = SortId(2);
-
-/// The number of the bit vectors of width 0, had they one: a width is added to it.
-const NO_BITS: u64 = 1;
-
-/// The greatest width of a bit vector.
-const MOST_BITS: u64 = 128;
-
-/// The width of a bit-vector sort, and None for another sort.
-pub(crate) fn width_of(sort: SortId) -> Option<u64>
-    ensures { MatchOption result ((sort.0 < 2) ⊎ (130 ≤ sort.0)) (λ w. (sort.0 ≡ w + 1) × (1 ≤ w) × (w ≤ 128)) }
-{
-    if sort.0 < BIT.0 || sort.0 > NO_BITS + MOST_BITS {
-        return None;
-    }
-    Some(sort.0 - NO_BITS)
-}
 
 /// Whether a quantifier may bind a constant of this sort: `Bool` and the bit vectors are.
 fn is_quantifiable_sort(sort: SortId) -> bool
     ensures { IsTrue result ↔ ((sort.0 ≢ 1) × (sort.0 < 130)) }
 {
-    sort.0 != SortId::INT.0 && sort.0 <= NO_BITS + MOST_BITS
+    sort == SortId::BOOL || sort.width().is_some()
 }
 
 /// Whether the bits are below 2 to the width, for a width of at most 128.
@@ -107,19 +88,19 @@ impl Table {
     }
 
     // The width of an operand that has to be a bit vector.
-    fn width(&self, arg: u64, have: SortId) -> Result<u64, RankFault>
+    fn width(&self, arg: u64, have: SortId) -> Result<u32, RankFault>
         requires have { IsSortId self.now.sorts have }
         requires table { IsTable self.now }
         ensures width { MatchResult result (λ w. sort_at self.now.sorts have ≡ bit_vector w) (λ e. misfit arg any_width (sort_at self.now.sorts have) ≡ Some (fault_seen self.now.sorts e)) }
         ensures most { IfOk result (λ w. w ≤ 128) }
         ensures sorts { IfErr result (IsFaultOver self.now.sorts) }
     {
-        match width_of(have) {
+        match have.width() {
             Some(width) => Ok(width),
             None => Err(RankFault::WrongSort {
                 arg,
                 have,
-                want: BIT,
+                want: SortId::BIT,
             }),
         }
     }
@@ -353,7 +334,7 @@ impl Table {
         if high + low > MOST_BITS {
             return Err(RankFault::WidthLimit);
         }
-        Ok(SortId(NO_BITS + high + low))
+        Ok(SortId::of_width(high + low))
     }
 
     fn extraction(&self, kids: &[NodeId], high: u32, low: u32) -> Result<SortId, RankFault>
@@ -365,10 +346,10 @@ impl Table {
             return Err(RankFault::WrongArity);
         };
         let width = self.width(0, a)?;
-        if high as u64 >= width || low > high {
+        if high >= width || low > high {
             return Err(RankFault::BadIndex);
         }
-        Ok(SortId(NO_BITS + (high - low) as u64 + 1))
+        Ok(SortId::of_width(high - low + 1))
     }
 
     fn extension(&self, kids: &[NodeId], by: u32) -> Result<SortId, RankFault>
@@ -380,10 +361,10 @@ impl Table {
             return Err(RankFault::WrongArity);
         };
         let width = self.width(0, a)?;
-        if width + by as u64 > MOST_BITS {
+        if by > MOST_BITS - width {
             return Err(RankFault::WidthLimit);
         }
-        Ok(SortId(NO_BITS + width + by as u64))
+        Ok(SortId::of_width(width + by))
     }
 
     fn rotation(&self, kids: &[NodeId], by: u32) -> Result<SortId, RankFault>
@@ -395,7 +376,7 @@ impl Table {
             return Err(RankFault::WrongArity);
         };
         let width = self.width(0, a)?;
-        if by as u64 >= width {
+        if by >= width {
             return Err(RankFault::BadIndex);
         }
         Ok(a)
@@ -524,13 +505,13 @@ impl Table {
         if !kids.is_empty() {
             return Err(RankFault::WrongArity);
         }
-        if width as u64 > MOST_BITS {
+        if width > MOST_BITS {
             return Err(RankFault::WidthLimit);
         }
         if width == 0 || !fits(bits, width) {
             return Err(RankFault::BadIndex);
         }
-        Ok(SortId(NO_BITS + width as u64))
+        Ok(SortId::of_width(width))
     }
 }
 
@@ -571,7 +552,7 @@ impl Table {
             Op::ZeroExt(by) | Op::SignExt(by) => self.extension(kids, by),
             Op::RotL(by) | Op::RotR(by) => self.rotation(kids, by),
             Op::BvNot | Op::BvNeg => self.bitwise(kids),
-            Op::BvComp => self.bits_comparison(kids, BIT),
+            Op::BvComp => self.bits_comparison(kids, SortId::BIT),
             Op::BvUlt | Op::BvUle | Op::BvSlt | Op::BvSle => self.bits_comparison(
                 kids,
                 SortId::BOOL,

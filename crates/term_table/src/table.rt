@@ -1,6 +1,6 @@
 //! The table itself.
 
-ghost use Rattle.std.specs.Prelude.{◌≡◌, ◌<◌, ◌≤◌, ◌+◌, ◌++◌, ◌∷◌, ◌↔◌, [], ℕ, suc, length, map, get_or, IfOk, IfSome, MatchOption, OnOk, OnErr, IsOk, Contains, All, Ok, Some, false};
+ghost use Rattle.std.specs.Prelude.{◌≡◌, ◌<◌, ◌≤◌, ◌+◌, [], length, map, IfOk, MatchOption, OnOk, OnErr, IsOk, All, Ok, Some, false};
 ghost use Rattle.smt_terms.specs.Sorts.{int, array, free_sort};
 ghost use Rattle.smt_terms.specs.Made.{minus};
 ghost use Rattle.smt_terms.specs.Rank.{sort_of, is_array};
@@ -105,7 +105,7 @@ impl Model for Table {
 }
 
 impl Table {
-    ghost use Rattle.term_table.specs.Formulas.{Formulas, tree, trees_at, symbol_at, symbol_over, term_over, rank_over, operands, IsNode, AreNodes, IsSymbol, IsOpOf, Makes, IsNodeOf, Adds, Grows, GrowsByOne, IsUnchanged, IsTable};
+    ghost use Rattle.term_table.specs.Formulas.{Formulas, tree, trees_at, symbol_at, symbol_over, term_over, rank_over, operands, IsNode, AreNodes, IsSymbol, IsOpOf, Makes, IsNodeOf, Adds, GrowsByOne, IsUnchanged, IsTable};
     ghost use Rattle.smt_terms.specs.declared.ids.NodeId.{NodeId};
     ghost use Rattle.term_table.specs.View.{row_of, IsRowAt, symbol_of, FitsEntry};
 

@@ -16,9 +16,6 @@ use std::alloc::{AllocError, Global};
 use std::process::Abort;
 use std::test::Fail;
 
-// The number of the bit vectors of width 1.
-const BIT: SortId = SortId(2);
-
 // The node of an operator other than the unary minus, which has a rank over these operands.
 fn made(rt: &impl Abort, table: &mut Table, op: Op, kids: &[NodeId]) -> Result<NodeId, AllocError>
     requires kids { AreNodes table.old kids.now }
@@ -230,7 +227,7 @@ fn sorts_are_written(rt: HostRuntime) -> Result<(), Fail> {
     let outer = table.array_sort(SortId::INT, inner)?;
     let text = written_sort(alloc, &table, outer)?;
     assert!(rt; text.as_slice() == b"(Array Int (Array Bool |a b|))".as_slice());
-    let text = written_sort(alloc, &table, BIT)?;
+    let text = written_sort(alloc, &table, SortId::BIT)?;
     assert!(rt; text.as_slice() == b"(_ BitVec 1)".as_slice());
     Ok(())
 }

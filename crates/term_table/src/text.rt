@@ -1,6 +1,6 @@
 //! The texts of sorts and of scalars.
 
-ghost use Rattle.std.specs.Prelude.{◌≡◌, ◌<◌, ◌≤◌, ◌*◌, ◌^◌, ◌++◌, ◌∷◌, ◌+◌, [], false, vec_len, vec_capacity, IfOk, IsOk, OnOk, OnErr};
+ghost use Rattle.std.specs.Prelude.{◌≡◌, ◌<◌, ◌≤◌, ◌*◌, ◌^◌, ◌++◌, ◌+◌, [], false, vec_len, vec_capacity, IfOk, IsOk, OnOk, OnErr};
 ghost use Rattle.std.specs.Char.{digit_char};
 ghost use Rattle.smt_lex.specs.FormText.{form_text};
 ghost use Rattle.smt_terms.specs.Rank.{is_array};
@@ -9,7 +9,6 @@ ghost use Rattle.smt_values.specs.Meaning.{IsScalar};
 ghost use Rattle.smt_values.specs.SortIds.{sort_at, IsSortId};
 ghost use Rattle.term_table.specs.WrittenForms.{sort_form, scalar_form, integer_form, vector_form, last_digits};
 
-use crate::rank::width_of;
 use crate::table::Table;
 use itoa::Buffer;
 use smt_lex::symbol_text;
@@ -72,7 +71,7 @@ fn push_plain_sort(
     if let Some(name) = sorts.name(sort) {
         return symbol_text(alloc, name, out);
     }
-    match width_of(sort) {
+    match sort.width() {
         Some(width) => push_width(width, out),
         None if sort == SortId::BOOL => out.extend_from_slice(b"Bool"),
         None => out.extend_from_slice(b"Int"),
@@ -80,7 +79,7 @@ fn push_plain_sort(
 }
 
 // Appends the sort of the bit vectors of a width. A refusal leaves `out` as before.
-fn push_width(width: u64, out: &mut Vec<u8>) -> Result<(), AllocError>
+fn push_width(width: u32, out: &mut Vec<u8>) -> Result<(), AllocError>
     ensures ok { OnOk result (out.new.items ≡ out.old.items ++ form_text (sort_form (bit_vector width))) }
     ensures refused { OnErr result (out.new.items ≡ out.old.items) }
 {

@@ -1,11 +1,11 @@
 //! The symbols that occur free.
 
-ghost use Rattle.std.specs.Prelude.{Vec, ◌≡◌, suc, ℕ, ◌<◌, ◌≤◌, ◌+◌, ◌++◌, ◌∷◌, [], List, All, Bool, IfOk, OnOk, IfSome, Some, None, true, false, not, filter, length, map, option_to_list, reverse};
+ghost use Rattle.std.specs.Prelude.{Vec, ◌≡◌, suc, ℕ, ◌<◌, ◌≤◌, ◌+◌, ◌++◌, ◌∷◌, [], List, All, Bool, IfOk, OnOk, IfSome, Some, None, true, false, not, filter, length, option_to_list, reverse};
 ghost use Rattle.std.specs.Global.{Global};
 ghost use Rattle.smt_terms.specs.declared.ids.NodeId.{NodeId};
 ghost use Rattle.smt_terms.specs.Free.{with_more, free, is_among};
 ghost use Rattle.smt_terms.specs.Sorts.{Symbol};
-ghost use Rattle.term_table.specs.Formulas.{symbol_at, tree, trees_at, operands, IsNode, AreNodes, IsSymbol, IsTable};
+ghost use Rattle.term_table.specs.Formulas.{symbol_at, tree, trees_at, operands, IsNode, AreNodes, IsSymbol};
 ghost use Rattle.term_walk.specs.Marks.{is_marked};
 ghost use Rattle.term_walk.specs.Places.{result_at};
 ghost use Rattle.term_walk.specs.FreeLists.{named, has_own, Opens, EachOnce, own_symbols, is_quantified, AreFree, has_node, with_node, operands_left, Lists, HaveLists, IsReached};

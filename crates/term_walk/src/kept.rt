@@ -1,6 +1,6 @@
 //! Results, one for each node.
 
-ghost use Rattle.std.specs.Prelude.{◌≡◌, ℕ, ◌+◌, ◌≤◌, ◌∷◌, [], length, true, false, is_some, is_none, if◌then◌else◌, option_copied, OnOk, OnErr};
+ghost use Rattle.std.specs.Prelude.{◌≡◌, ℕ, ◌+◌, ◌≤◌, [], length, true, false, is_some, is_none, option_copied, OnOk, OnErr};
 ghost use Rattle.smt_terms.specs.declared.ids.NodeId.{NodeId};
 ghost use Rattle.term_walk.specs.Places.{place_at, result_at, is_closed_at, results, Puts, Closes};
 

@@ -1,6 +1,6 @@
 //! What a walk does at each node.
 
-ghost use Rattle.std.specs.Prelude.{◌≡◌, ◌+◌, List, IfOk};
+ghost use Rattle.std.specs.Prelude.{◌≡◌, ◌+◌, IfOk};
 ghost use Rattle.smt_terms.specs.Term.{Term};
 ghost use Rattle.term_table.specs.Formulas.{Formulas, tree, IsNode};
 ghost use Rattle.term_walk.specs.Walking.{GrowsTo, AreRelated, HaveResults};

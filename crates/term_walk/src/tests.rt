@@ -3,7 +3,7 @@
 
 ghost use Rattle.std.specs.Prelude.{◌≡◌, ◌<◌, false, IsTrue};
 ghost use Rattle.smt_terms.specs.Rank.{is_minus};
-ghost use Rattle.term_table.specs.Formulas.{AreNodes, IsNode, IsOpOf};
+ghost use Rattle.term_table.specs.Formulas.{AreNodes, IsOpOf};
 
 use crate::count::count_nodes;
 use crate::free::free_symbols;

@@ -1,10 +1,10 @@
 //! Walks.
 
-ghost use Rattle.std.specs.Prelude.{◌≡◌, ◌≢◌, ℕ, suc, ◌+◌, ◌^◌, ◌<◌, ◌≤◌, ◌∷◌, [], List, All, IsSome, IfSome, OnOk, OnErr, MatchOption, length, get_or, true};
+ghost use Rattle.std.specs.Prelude.{◌≡◌, ◌≢◌, ℕ, ◌+◌, ◌^◌, ◌<◌, ◌≤◌, ◌∷◌, [], List, All, IsSome, IfSome, OnOk, MatchOption, length, true};
 ghost use Rattle.smt_terms.specs.declared.ids.NodeId.{NodeId};
 ghost use Rattle.smt_terms.specs.Groups.{has_term};
 ghost use Rattle.smt_terms.specs.Term.{Term};
-ghost use Rattle.term_table.specs.Formulas.{no_tree, tree_in, tree, trees_at, operands, IsNode, AreNodes, IsTable, Grows};
+ghost use Rattle.term_table.specs.Formulas.{tree_in, tree, trees_at, operands, IsNode, AreNodes, IsTable};
 ghost use Rattle.term_walk.specs.Places.{result_at, is_closed_at, results};
 ghost use Rattle.term_walk.specs.Stacks.{IsReady, Wait, Leads, IsNextOperand, IsCounted, open_costs, looked_up, looked};
 ghost use Rattle.term_walk.specs.Subterms.{all_subterms, places};

@@ -1,6 +1,6 @@
 //! `define-fun` (SMT-LIB 2.6, section 4.2.3).
 
-ghost use Rattle.std.specs.Prelude.{◌≡◌, ◌<◌, ◌≤◌, [], None, length, map, All, IfOk};
+ghost use Rattle.std.specs.Prelude.{◌≡◌, ◌<◌, [], None, length, map, All, IfOk};
 ghost use Rattle.smt_terms.specs.Fresh.{Supply};
 ghost use Rattle.smt_values.specs.SortIds.{sort_at, IsSortId};
 ghost use Rattle.term_table.specs.Formulas.{Formulas};

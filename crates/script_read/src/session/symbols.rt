@@ -1,6 +1,6 @@
 //! `declare-const` and `declare-fun` (SMT-LIB 2.6, section 4.2.3).
 
-ghost use Rattle.std.specs.Prelude.{◌≡◌, ◌≤◌, List, length, map, All, IfOk};
+ghost use Rattle.std.specs.Prelude.{◌≡◌, List, map, All, IfOk};
 ghost use Rattle.smt_terms.specs.Fresh.{Supply, NeverGives};
 ghost use Rattle.smt_values.specs.SortIds.{sort_at, IsSortId};
 ghost use Rattle.term_table.specs.Formulas.{symbol_at, IsSymbol};
@@ -10,7 +10,7 @@ ghost use Rattle.script_read.specs.Script.{Standing, declares_symbol};
 ghost use Rattle.script_terms.specs.SortForms.{sorts_in};
 ghost use Rattle.script_read.specs.CommandLists.{IsCommandOf};
 ghost use Rattle.script_terms.specs.Known.{AreScopedSorts, IsEntry, meant_by, symbol_meant, sorts_known};
-ghost use Rattle.script_terms.specs.Places.{IsRead, IsForm, SparesText, form_from, forms_from};
+ghost use Rattle.script_terms.specs.Places.{IsRead, IsForm, SparesText, form_from};
 ghost use Rattle.script_terms.specs.Replies.{Follows};
 ghost use Rattle.script_read.specs.ShapeClauses.{IsNameAt, IsPlaceIn, IfGiven, named_at, listed_at};
 ghost use Rattle.script_read.specs.Steps.{StandsAt, StepsTo, one};

@@ -1,6 +1,6 @@
 //! Commands one at a time: `read_command f s`, what the command f makes of what is known.
 
-ghost use Rattle.std.specs.Prelude.{◌≡◌, ◌+◌, ◌<◌, ◌≤◌, ◌^◌, IfOk, IfSome, option_to_list};
+ghost use Rattle.std.specs.Prelude.{◌+◌, ◌<◌, ◌≤◌, ◌^◌, IfOk, IfSome, option_to_list};
 ghost use Rattle.smt_lex.specs.FormText.{form_text};
 ghost use Rattle.smt_lex.specs.Forest.{token_at};
 ghost use Rattle.term_subst.specs.Substituting.{IsLater};

@@ -1,6 +1,6 @@
 //! Annotations under way: `(! t A ..)` has t, then the names that its attributes give it.
 
-ghost use Rattle.std.specs.Prelude.{◌≡◌, ℕ, ◌+◌, ◌<◌, ◌≤◌, List, length, reverse, IfOk, IfSome, Result};
+ghost use Rattle.std.specs.Prelude.{◌≡◌, ◌<◌, ◌≤◌, List, length, IfOk, IfSome, Result};
 ghost use Rattle.std.specs.List.{list_any};
 ghost use Rattle.smt_lex.specs.Forest.{token_at};
 ghost use Rattle.smt_lex.specs.Forms.{Form};
@@ -13,7 +13,7 @@ ghost use Rattle.script_terms.specs.Parts.{annotation_word};
 ghost use Rattle.script_terms.specs.Read.{Context, mentions_local};
 ghost use Rattle.script_terms.specs.Known.{Shows, IsSpared};
 ghost use Rattle.script_terms.specs.Bound.{ShowsLocals};
-ghost use Rattle.script_terms.specs.Places.{IsForm, SparesText, form_from, forms_from};
+ghost use Rattle.script_terms.specs.Places.{IsForm, SparesText, forms_from};
 ghost use Rattle.script_terms.specs.TermClauses.{defined_name, naming, NamesGiven};
 ghost use Rattle.script_terms.specs.SymbolClauses.{has_symbol};
 
@@ -35,7 +35,7 @@ use term_walk::free_symbols;
 
 impl<'a> TermReader<'a> {
     ghost use Rattle.script_terms.specs.declared.sofar.Sofar.{Sofar as SofarSeen};
-    ghost use Rattle.script_terms.specs.Waiting.{Going, GoingBack, Stepped, SomeGoing, SomeGoingBack, Keeps, left_of, left_behind, Opens};
+    ghost use Rattle.script_terms.specs.Waiting.{Going, GoingBack, Stepped, SomeGoingBack, Keeps, left_of, left_behind, Opens};
 
     /// Begins the term of the annotation of token `list`.
     pub fn open_annotation(

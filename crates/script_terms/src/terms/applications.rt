@@ -1,6 +1,6 @@
 //! Applications of heads to terms.
 
-ghost use Rattle.std.specs.Prelude.{◌≡◌, ◌<◌, IsTrue, List, length, map};
+ghost use Rattle.std.specs.Prelude.{◌≡◌, ◌<◌, IsTrue, List, map};
 ghost use Rattle.smt_lex.specs.Forest.{token_at};
 ghost use Rattle.smt_terms.specs.Fresh.{Supply, NeverGives};
 ghost use Rattle.smt_terms.specs.Sorts.{Variable};

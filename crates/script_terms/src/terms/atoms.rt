@@ -1,7 +1,6 @@
 //! Tokens as terms: constants, and symbols that stand alone (SMT-LIB 2.6, section 3.6).
 
 ghost use Rattle.std.specs.Prelude.{◌≡◌, List, None, Some, IfOk};
-ghost use Rattle.smt_lex.specs.Lex.{symbol_of};
 ghost use Rattle.smt_lex.specs.Forms.{atom};
 ghost use Rattle.smt_lex.specs.Forest.{token_at};
 ghost use Rattle.smt_terms.specs.Fresh.{Supply};

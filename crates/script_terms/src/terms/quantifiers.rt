@@ -7,7 +7,7 @@ ghost use Rattle.smt_terms.specs.Fresh.{Supply};
 ghost use Rattle.smt_terms.specs.Rank.{are_bindable};
 ghost use Rattle.smt_terms.specs.Sorts.{bool};
 ghost use Rattle.smt_terms.specs.Term.{Term, quantified};
-ghost use Rattle.term_table.specs.Formulas.{Formulas, tree};
+ghost use Rattle.term_table.specs.Formulas.{tree};
 ghost use Rattle.term_walk.specs.Walking.{GrowsTo};
 ghost use Rattle.script_terms.specs.Refusals.{Refused, unless};
 ghost use Rattle.script_terms.specs.Reading.{Sofar as Known};
@@ -16,7 +16,7 @@ ghost use Rattle.script_terms.specs.Read.{has_sort};
 ghost use Rattle.script_terms.specs.Quantifiers.{quantifier_of, operator_of};
 ghost use Rattle.script_terms.specs.Known.{IsSpared, IsConstant};
 ghost use Rattle.script_terms.specs.Bound.{variables_of, entered};
-ghost use Rattle.script_terms.specs.Places.{IsRead, IsForm, SparesText, form_from};
+ghost use Rattle.script_terms.specs.Places.{IsRead, IsForm, SparesText};
 ghost use Rattle.script_terms.specs.TermClauses.{ReadsAlone};
 
 use crate::binders::{Binder, SortedName, draw_constants, read_variables};
@@ -36,7 +36,7 @@ use term_table::{Table, know_table};
 
 impl<'a> TermReader<'a> {
     ghost use Rattle.script_terms.specs.declared.sofar.Sofar.{Sofar as SofarSeen};
-    ghost use Rattle.script_terms.specs.Waiting.{Going, GoingBack, Stepped, SomeGoing, SomeGoingBack, Keeps, left_of, left_behind, Opens};
+    ghost use Rattle.script_terms.specs.Waiting.{Going, GoingBack, Stepped, SomeGoing, Keeps, left_of, left_behind, Opens};
 
     /// Reads the variables of the quantifier of token `list`, and begins its body.
     pub fn open_quantifier(

@@ -16,13 +16,10 @@ use crate::causes::Cause;
 use crate::numbers::number_of;
 use crate::places::GREATEST;
 use smt_lex::Item;
-use smt_terms::{NodeId, Op};
+use smt_terms::{MOST_BITS, NodeId, Op};
 use std::alloc::AllocError;
 use term_table::Table;
 use term_table::rank::fits;
-
-// The greatest width of a bit vector.
-const MOST_BITS: u128 = 128;
 
 /// The node of a constant.
 pub fn constant(table: &mut Table, constant: Op) -> Result<NodeId, AllocError>
@@ -59,7 +56,7 @@ pub fn vector(digits: &[u8], width: u128) -> Result<Op, Cause>
     if width == 0 {
         return Err(Cause::BadIndex);
     }
-    if width > MOST_BITS {
+    if width > MOST_BITS as u128 {
         return Err(Cause::WidthLimit);
     }
     let width = width as u32;

@@ -1,7 +1,7 @@
 //! The operands of an operator as what they are. An operand that isn't there or is of another kind reads as the first
 //! value of its kind: no operator that takes its operands meets one.
 
-ghost use Rattle.std.specs.Prelude.{◌≡◌, ◌≤◌, ◌<◌, ◌^◌, All, unsigned_abs, Some, slice_get};
+ghost use Rattle.std.specs.Prelude.{◌≡◌, ◌<◌, ◌^◌, All, unsigned_abs, Some, slice_get};
 ghost use Rattle.std.specs.List.{list_all, list_any};
 ghost use Rattle.smt_terms.specs.Values.{is_true, number};
 ghost use Rattle.smt_values.specs.Meaning.{scalar_value, IsScalar};

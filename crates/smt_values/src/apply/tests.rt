@@ -1,7 +1,7 @@
 //! Values of the operators against tables that `bench/operator_values.py` works out with unbounded integers from the
 //! equations of the standard, apart from the program.
 
-ghost use Rattle.std.specs.Prelude.{◌≡◌, ◌≢◌, ◌≤◌, ◌∷◌, [], All, Bool, false, ℕ, ℤ, pos};
+ghost use Rattle.std.specs.Prelude.{◌≢◌, ◌≤◌, ◌∷◌, [], All, Bool, false, ℕ, ℤ, pos};
 ghost use Rattle.smt_values.specs.Applied.{TakesOperands, HasDivisor};
 ghost use Rattle.smt_values.specs.Meaning.{IsScalar};
 

@@ -2,7 +2,7 @@
 
 ghost use Rattle.std.specs.Prelude.{◌≡◌, ◌+◌, ◌-◌, ◌%◌, ◌^◌, ◌<◌, ◌≤◌, ◌≢◌, pos, IfSome, IfNone};
 ghost use Rattle.smt_terms.specs.BitVectors as vectors;
-ghost use Rattle.smt_terms.specs.BitVectors.{nat2bv, sign, bv2int, bv2nat};
+ghost use Rattle.smt_terms.specs.BitVectors.{nat2bv, sign, bv2int};
 
 use crate::scalar::Scalar;
 

@@ -1,6 +1,6 @@
 //! A standard input that never ends.
 
-ghost use Rattle.std.specs.Prelude.{◌≡◌, ℕ, List, None, Some, Option, option_map};
+ghost use Rattle.std.specs.Prelude.{None, Some, Option, option_map};
 
 use super::{ROOM, WORDS, answer};
 use smt_io::{Failed, Inputs, MemSink, StartFault};

@@ -3,11 +3,11 @@
 //! stand for `not`, `or`, `and`, `+` and the quantifiers over one constant, `m` for the unary minus; `d` is the last node
 //! once more.
 
-ghost use Rattle.std.specs.Prelude.{◌≡◌, [], false, length, IfOk, IfSome, IsTrue, Some};
+ghost use Rattle.std.specs.Prelude.{◌≡◌, [], false, IfOk, IfSome, IsTrue, Some};
 ghost use Rattle.smt_terms.specs.Rank.{is_minus, sort_of};
 ghost use Rattle.smt_terms.specs.Fresh.{Supply};
-ghost use Rattle.smt_values.specs.SortIds.{sort_at, IsPlain, IsSortId};
-ghost use Rattle.term_table.specs.Formulas.{Formulas, tree, IsNode, AreNodes, IsOpOf};
+ghost use Rattle.smt_values.specs.SortIds.{IsPlain, IsSortId};
+ghost use Rattle.term_table.specs.Formulas.{Formulas, IsNode, AreNodes, IsOpOf};
 ghost use Rattle.term_subst.specs.Building.{AreSpared};
 ghost use Rattle.term_subst.specs.Substituting.{IsPair};
 

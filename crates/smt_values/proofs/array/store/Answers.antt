@@ -1,6 +1,6 @@
 use Rattle.std.proofs.Common.{◌≡◌, ◌∙◌, ◌-◌, sym, ap, arith}
 use Rattle.smt_terms.specs.Values as plain
-use Rattle.smt_terms.specs.Values.{table, put}
+use Rattle.smt_terms.specs.Values.{table}
 use Rattle.smt_values.specs.Meaning.{meaning}
 use Rattle.smt_values.specs.SizeTable.{sizes_by}
 use Rattle.smt_values.specs.SortIds.{sort_at}

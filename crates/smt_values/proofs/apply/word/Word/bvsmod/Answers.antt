@@ -2,7 +2,7 @@ use Rattle.std.proofs.Common.{rules, sym, ap, ◌∙◌, length}
 use mir.Val.{SFits}
 use Rattle.std.specs.Int.{w128}
 use Rattle.smt_terms.specs.BitVectors as vectors
-use Rattle.smt_terms.specs.BitVectors.{nat2bv, bv2int, bv2nat, int2bv, sign, ones}
+use Rattle.smt_terms.specs.BitVectors.{nat2bv, bv2int, int2bv}
 use Rattle.smt_values.proofs.WordLaws.{at_width, not_zero_signed, result_word, zero_divisor, some_divisor}
 use Rattle.smt_values.proofs.apply.word.Word.bvsmod.Goals as goal
 
