@@ -263,6 +263,33 @@ quantifiers : map simp (quantified universal (P ∷ Q ∷ []) p ∷ quantified e
 unfolding law literal_value op_value op_eq rank
 quantifiers = refl
 
+-- the inner quantifier's variable isn't free in its formula, and neither is a variable of another sort with its name
+shadowing : map simp (quantified universal (P ∷ []) (quantified existential (P ∷ []) p) ∷ quantified universal (P ∷ []) (pair Lt (variable (constant_named (codes "p") int)) (n 0)) ∷ []) ≡ quantified existential (P ∷ []) p ∷ pair Lt (variable (constant_named (codes "p") int)) (n 0) ∷ []
+unfolding law literal_value op_value op_eq rank
+shadowing = refl
+
+-- ---- the least and the greatest width
+
+abbrev bit : ℕ → Term
+bit i = apply (op (Bits 1 i)) none
+
+abbrev wide : ℕ → Term
+wide i = apply (op (Bits 128 i)) none
+
+abbrev b : Term
+b = variable (constant_named (codes "b") (bit_vector 1))
+
+abbrev w : Term
+w = variable (constant_named (codes "w") (bit_vector 128))
+
+narrow_vectors : map simp (pair BvAnd b (bit 1) ∷ pair BvAnd b (bit 0) ∷ pair BvAdd (bit 1) (bit 1) ∷ pair BvSlt (bit 1) (bit 0) ∷ of (Extract 0 0) b ∷ []) ≡ b ∷ bit 0 ∷ bit 0 ∷ yes ∷ b ∷ []
+unfolding law literal_value op_value op_eq rank
+narrow_vectors = refl
+
+wide_vectors : map simp (pair BvAnd w (wide (2 ^ 128 - 1)) ∷ pair BvAdd (wide (2 ^ 128 - 1)) (wide 2) ∷ pair BvSlt (wide (2 ^ 127)) (wide 0) ∷ []) ≡ w ∷ wide 1 ∷ yes ∷ []
+unfolding law literal_value op_value op_eq rank
+wide_vectors = refl
+
 simple : map is_simple (pair And p q ∷ nt (nt p) ∷ pair Or p yes ∷ []) ≡ true ∷ false ∷ false ∷ []
 unfolding law literal_value op_value op_eq rank
 simple = refl
