@@ -1,4 +1,4 @@
--- Supplies of names that stand nowhere yet. SMT-LIB 2.6, section 3.1, has no names of this kind; its symbols leave them open.
+-- Supplies of names that stand nowhere yet. The names are simple symbols (SMT-LIB 2.6, section 3.1).
 use Rattle.std.specs.Prelude.{◌≡◌, ◌≤◌, ℕ, zero, suc, true, false, List, [], ◌∷◌, length}
 use Rattle.smt_terms.specs.Sorts.{Name, Sort, Symbol, Variable}
 use Rattle.smt_terms.specs.Free.{name_among}
@@ -13,7 +13,7 @@ pub record Supply : Type 0 where
 abbrev pub numbered_name : ℕ → Name
 numbered_name i = 70 ∷ 86 ∷ numeral i
 
--- the least number from i on whose name isn't taken, where one of the next `room` and one is it
+-- the least number from i on whose name isn't taken, found by passing over at most `room` names that are
 abbrev pub free_number : List Name → ℕ → ℕ → ℕ
 free_number taken zero i = i
 free_number taken (suc room) i =

@@ -3,8 +3,7 @@
 use smt_terms::SortId;
 use thiserror::Error;
 
-/// The first reason why an operator has no rank over its operands, in the order of the variants, but for the last two:
-/// a bad index comes before a width that is too large.
+/// The first reason why an operator has no rank over its operands, in the order of the variants.
 #[derive(Clone, Copy, Debug, PartialEq, Eq, Error)]
 pub enum RankFault {
     /// Another number of operands.
@@ -17,10 +16,10 @@ pub enum RankFault {
         have: SortId,
         want: SortId,
     },
-    /// A result of more than 128 bits.
-    #[error("a result of more than 128 bits")]
-    WidthLimit,
     /// An index, or a constant, outside its range.
     #[error("an index or a constant outside its range")]
     BadIndex,
+    /// A result of more than 128 bits.
+    #[error("a result of more than 128 bits")]
+    WidthLimit,
 }
