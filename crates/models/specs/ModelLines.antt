@@ -85,7 +85,7 @@ elements_from s i (suc more) = element_form s i ∷ elements_from s (suc i) more
 abbrev pub sort_entry : Sizes → Name → Form
 sort_entry sizes s = list_form (word_form (codes "@sort") ∷ symbol_form s ∷ elements_from s 0 (sizes s))
 
--- ---- the tables of `div` and `mod` by zero, where they aren't 0 everywhere
+-- ---- the tables of `div` and `mod` by zero, where they have rows or aren't 0 elsewhere
 
 abbrev pub row_of : NumberRow → Row
 row_of r = record { keys = whole r.key ∷ []; result = whole r.result }

@@ -1,5 +1,5 @@
 -- Values as model texts write them: constants, elements of free sorts, and arrays that are constant but for some places.
--- SMT-LIB 2.6, sections 3.6 (qualified identifiers) and 4.1.8 (abstract values begin with `@`).
+-- SMT-LIB 2.6, sections 3.6 (qualified identifiers) and 3.1 (symbols that begin with `@` name abstract values).
 use Rattle.std.specs.Prelude.{ℕ, ◌^◌, ◌==◌, Bool, true, false, ◌&&◌, nat_lt, if◌then◌else◌, codes, ℤ, pos, neg_ℤ, Result, Ok, Option, Some, None, option_map}
 use Rattle.smt_lex.specs.Lexicon.{starts_as}
 use Rattle.smt_lex.specs.Lex.{Token, symbol_of, name_of}

@@ -38,11 +38,17 @@ division : again two (codes "((define-fun y () Int 4) (define-fun x () (_ BitVec
 unfolding is_syntax_word is_command_word
 division = refl
 
--- a table that is 0 everywhere isn't printed
+-- a table without rows that is 0 isn't printed
 division_everywhere : again two (codes "((define-fun @mod0 ((a Int)) Int (- 1)) (define-fun @div0 ((a Int)) Int 0) (define-fun y () Int (- 170141183460469231731687303715884105727)))")
     ≡ read_as (codes "(" ∷ codes "(define-fun x () (_ BitVec 8) #x00)" ∷ codes "(define-fun y () Int (- 170141183460469231731687303715884105727))" ∷ codes "(define-fun @mod0 ((x!0 Int)) Int (- 1))" ∷ codes ")" ∷ [])
 unfolding is_syntax_word is_command_word
 division_everywhere = refl
+
+-- a table with a row is, although that says 0 as well
+division_with_a_row : again two (codes "((define-fun @mod0 ((a Int)) Int (ite (= a 0) 0 0)))")
+    ≡ read_as (codes "(" ∷ codes "(define-fun x () (_ BitVec 8) #x00)" ∷ codes "(define-fun y () Int 0)" ∷ codes "(define-fun @mod0 ((x!0 Int)) Int (ite (= x!0 0) 0 0))" ∷ codes ")" ∷ [])
+unfolding is_syntax_word is_command_word
+division_with_a_row = refl
 
 -- the second row for 3 is dropped
 division_rows : again two (codes "((define-fun @mod0 ((a Int)) Int (ite (= a 3) 1 (ite (= 3 a) 2 (ite (= a (- 3)) 5 0)))))")
