@@ -1,5 +1,5 @@
 -- The rank of a quantifier, one operand after the other.
-use Rattle.std.proofs.Common.{◌≡◌, ◌≢◌, ℕ, zero, suc, ◌+◌, ◌<◌, ◌≤◌, Bool, true, false, cond, not, ◌||◌, ◌&&◌, is_some, nat_le, nat_lt, ◌==◌, ◌-◌, List, [], ◌∷◌, ◌++◌, map, length, drop, take, get_or, Option, Some, None, Ok, Err, Result, refl, ap, sym, ◌∙◌, arith}
+use Rattle.std.proofs.Common.{◌≡◌, ◌≢◌, ℕ, zero, suc, ◌+◌, ◌<◌, ◌≤◌, Bool, true, false, cond, not, ◌||◌, ◌&&◌, is_some, nat_le, nat_lt, ◌==◌, ◌-◌, List, [], ◌∷◌, ◌++◌, map, length, drop, take, get_or, Option, Some, None, Ok, Err, Result, IsOk, ◌⊎◌, inl, inr, subst, refl, ap, sym, ◌∙◌, arith}
 use Rattle.std.proofs.Math.Seq.{drop-cons, take-suc}
 use Rattle.std.proofs.lemmas.List.{get_or-map, length-map, map-append}
 use Rattle.std.proofs.lemmas.Bool.Decides.{nat_tests}
@@ -12,7 +12,9 @@ use Rattle.smt_terms.specs.Rank.{Fault, wrong_arity, wrong_sort, is_quantifiable
 use Rattle.smt_terms.proofs.Ranked.{rank-takes}
 use Rattle.smt_terms.proofs.Sorted.{applied, length-sorts_of}
 use Rattle.smt_values.specs.SortIds.{sort_at, sort_numbered}
-use Rattle.term_table.specs.Formulas.{Formulas, no_tree, tree_in, trees_at}
+use Rattle.smt_terms.specs.declared.op.Op.{Op}
+use Rattle.smt_terms.specs.declared.op.Op.TheVariants.{Forall, Exists}
+use Rattle.term_table.specs.Formulas.{Formulas, no_tree, tree_in, trees_at, rank_over, sorts_in, kind}
 
 -- ---- names
 
@@ -201,3 +203,25 @@ last_fault false w f e = cc
 pub last_fine : (b : Bool) (w : Fault) → None ≡ cond b None (Some w) → cond b (Ok bool) (Err w) ≡ Ok bool
 last_fine true w e = refl
 last_fine false w e = absurd cc
+
+-- ---- a quantifier that has a rank gives a truth value
+
+where_fine : (b : Bool) (r : Result Sort Fault) (f : Fault) → (IsOk r → r ≡ Ok bool) → IsOk (cond b r (Err f)) → cond b r (Err f) ≡ Ok bool
+where_fine true r f fine h = fine h
+where_fine false r f fine h = absurd cc
+
+bound_truth : (k : ℕ) (ns : List Name) (ts : List Term) (ss : List Sort) → IsOk (rank_bound k ns ts ss) → rank_bound k ns ts ss ≡ Ok bool
+bound_truth k ns [] ss h = absurd cc
+bound_truth k ns (t ∷ []) [] h = absurd cc
+bound_truth k ns (t ∷ u ∷ ts) [] h = absurd cc
+bound_truth k ns (t ∷ []) (s ∷ []) h = where_fine (sort_eq s bool) (Ok bool) (wrong_sort k s bool) (λ _. refl) h
+bound_truth k ns (t ∷ []) (s ∷ r ∷ ss) h = where_fine (may_bind ns t) (rank_bound (suc k) (symbol_name t ∷ ns) [] (r ∷ ss)) (wrong_sort k s bool) (bound_truth (suc k) (symbol_name t ∷ ns) [] (r ∷ ss)) h
+bound_truth k ns (t ∷ u ∷ ts) (s ∷ ss) h = where_fine (may_bind ns t) (rank_bound (suc k) (symbol_name t ∷ ns) (u ∷ ts) ss) (wrong_sort k s bool) (bound_truth (suc k) (symbol_name t ∷ ns) (u ∷ ts) ss) h
+
+binder_truth : (ts : List Term) → IsOk (rank_quantifier ts (sorts_in ts)) → rank_quantifier ts (sorts_in ts) ≡ Ok bool
+binder_truth ts h = where_fine (nat_le 2 (length ts)) (rank_bound 0 [] ts (sorts_in ts)) wrong_arity (bound_truth 0 [] ts (sorts_in ts)) h
+
+pub quantifier_truth : (t : Formulas) (p : Op) (ts : List Term) → (p ≡ Forall) ⊎ (p ≡ Exists) → IsOk (rank_over t p ts) → rank_over t p ts ≡ Ok bool
+unfolding kind
+quantifier_truth t p ts (inl e) h = ap (λ q. rank_over t q ts) e ∙ binder_truth ts (subst (λ q. IsOk (rank_over t q ts)) e h)
+quantifier_truth t p ts (inr e) h = ap (λ q. rank_over t q ts) e ∙ binder_truth ts (subst (λ q. IsOk (rank_over t q ts)) e h)

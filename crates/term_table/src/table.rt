@@ -218,8 +218,21 @@ impl Table {
         ensures spare { self.old.spare ≤ self.new.spare + 1 }
         ensures err { OnErr result (IsUnchanged self.old self.new) }
     {
-        let sort = self.rank(op, kids).unwrap();
+        let sort = self.made_sort(op, kids);
         self.intern_of_sort(op, kids, sort)
+    }
+
+    // The sort of the node that this operator makes of these operands.
+    fn made_sort(&self, op: Op, kids: &[NodeId]) -> SortId
+        requires { Makes self.now op kids.now }
+        ensures rank { rank_over self.now op (trees_at self.now kids.now) ≡ Ok (sort_at self.now.sorts result) }
+        ensures sort { IsSortId self.now.sorts result }
+    {
+        // That of a quantifier is known without its rank, which compares each variable's name with those of all before it.
+        match op {
+            Op::Forall | Op::Exists => SortId::BOOL,
+            _ => self.rank(op, kids).unwrap(),
+        }
     }
 
     /// As `intern`, where the sort of the node is known.
@@ -290,7 +303,7 @@ impl Table {
         ensures sorts { self.new.sorts ≡ self.old.sorts }
         ensures spare { self.old.spare ≤ self.new.spare + 1 }
     {
-        let sort = self.rank(op, kids).unwrap();
+        let sort = self.made_sort(op, kids);
         let node = Node {
             op,
             kids: operands(self.alloc, kids).unwrap(),
