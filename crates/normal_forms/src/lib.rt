@@ -11,7 +11,7 @@ pub mod laws;
 pub mod making;
 pub mod negation_normal_form;
 pub mod node_forms;
-mod opposites;
+pub mod opposites;
 pub mod room;
 pub mod shapes;
 #[cfg(test)]

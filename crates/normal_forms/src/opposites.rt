@@ -24,8 +24,8 @@ fn under_not(table: &Table, id: NodeId) -> Option<NodeId>
     }
 }
 
-// The formula without its `not`, or else with one.
-pub(crate) fn opposite(table: &mut Table, id: NodeId) -> Result<NodeId, AllocError>
+/// The formula without its `not`, or else with one.
+pub fn opposite(table: &mut Table, id: NodeId) -> Result<NodeId, AllocError>
     requires { IsFormula table.old id }
     ensures formula { IfOk result (IsFormula table.new) }
     ensures term { IfOk result (λ k. tree table.new k ≡ opposite (tree table.old id)) }
