@@ -1,9 +1,9 @@
 -- Reading over writing keeps values.
-use Rattle.std.proofs.Common.{◌≡◌, true, cond, ◌&&◌, [], ◌∷◌, Some, refl, ap, sym, ◌∙◌, subst, inl, inr}
+use Rattle.std.proofs.Common.{◌≡◌, List, true, cond, ◌&&◌, [], ◌∷◌, Some, refl, ap, sym, ◌∙◌, subst, inl, inr}
 use Rattle.std.specs.Prelude.{is_some, if◌then◌else◌}
 use Rattle.smt_terms.specs.declared.op.Op.{Op}
 use Rattle.smt_terms.specs.declared.op.Op.TheVariants.{Equal, Ite, Select, Store}
-use Rattle.smt_terms.specs.Sorts.{bool}
+use Rattle.smt_terms.specs.Sorts.{Sort, bool}
 use Rattle.smt_terms.specs.Term.{Head, op, const_array, Term, apply, quantified, Terms, none, ◌⨾◌}
 use Rattle.smt_terms.specs.ArrayTerms.{selected, stored}
 use Rattle.smt_terms.specs.Connectives.{equal}
@@ -12,15 +12,16 @@ use Rattle.smt_terms.specs.Equal.{op_eq, term_eq}
 use Rattle.smt_terms.specs.Keeps.{Keeps, KeepsValues}
 use Rattle.smt_terms.specs.Models.{Model}
 use Rattle.smt_terms.specs.Operators.{op_value}
-use Rattle.smt_terms.specs.Rank.{shape, sort_of, is_regular, IsWellSorted}
+use Rattle.smt_terms.specs.Rank.{shape, sort_of, sorts_of, is_regular, are_regular, IsWellSorted}
 use Rattle.smt_terms.specs.Val.{Env, val}
 use Rattle.smt_terms.specs.Values.{is_true, same, select}
 use Rattle.smt_terms.proofs.Equal.{Decides-op_eq}
 use Rattle.smt_terms.proofs.FromBelow.{from_below}
-use Rattle.smt_terms.proofs.Keeping.{KeepsAll, keeps_itself, keeps_through, keeps_apply, keeps_made, keeps_quantified, two_or_more}
-use Rattle.smt_terms.proofs.Operands.{more_sorts, narrow_sort, sort_over_more, regular_over_more, equal_value}
+use Rattle.smt_terms.proofs.Keeping.{KeepsAll, keeps_none, keeps_more, keeps_itself, keeps_through, keeps_apply, keeps_made, keeps_quantified, two_or_more}
+use Rattle.smt_terms.proofs.Operands.{more_sorts, narrow_sort, sort_over_more, regular_over_more, well_sorted, equal_value}
 use Rattle.smt_terms.proofs.Same.{same-itself}
 use Rattle.smt_terms.proofs.SameStores.{same_choice}
+use Rattle.smt_terms.proofs.Sorted.{sorted}
 use Rattle.smt_terms.proofs.Tests.{both_true, and_true, true_or_false}
 use Rattle.array_forms.specs.Reads.{where_equal, over_store, read, made_by_reading, reads, reads_all}
 use Rattle.smt_terms.proofs.StoredTerms.{keeps, keeps_constant, Stored, stored_term, before_sort, split_value, keeps_element, before_fine, keeps_before}
@@ -80,7 +81,7 @@ keeps_three o b i v j r below fine = elim (true_or_false (op_eq o Store)) [
     at_store : IsWellSorted (selected (stored b i v) j) → Keeps (selected (stored b i v) j) (over_store i j v r)
     at_store there = let g = stored_term b i v j there in keeps_store b i v j g r (below (before_fine b i v j g))
 
-read_keeps : (a j : Term) → IsWellSorted (selected a j) → Keeps (selected a j) (read a j)
+pub read_keeps : (a j : Term) → IsWellSorted (selected a j) → Keeps (selected a j) (read a j)
 read_keeps (apply (const_array s) (v ⨾ none)) j fine = keeps_constant s v j fine
 read_keeps (apply (op o) (b ⨾ i ⨾ v ⨾ none)) j fine = keeps_three o b i v j (read b j) (read_keeps b j) fine
 read_keeps a j fine = keeps_itself (selected a j) fine
@@ -110,3 +111,11 @@ reads_keep = from_below reads made_by_reading quantified (record {
   at_none = refl;
   at_more = λ t ts. refl;
 }) over_head keeps_quantified
+
+-- and the operands of a term
+pub operands_keep : (ts : Terms) (ss : List Sort) → are_regular ts ≡ true → sorts_of ts ≡ Some ss → KeepsAll ts (reads_all ts)
+operands_keep none ss fine has = keeps_none
+operands_keep (t ⨾ ts) ss fine has =
+    let parts = sorted t ts ss has in
+    let rules = both_true (is_regular t) (are_regular ts) fine in
+    keeps_more t (reads t) ts (reads_all ts) (reads_keep t (well_sorted t parts.sort parts.first rules.0)) (operands_keep ts parts.sorts rules.1 parts.others)

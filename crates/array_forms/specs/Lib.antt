@@ -1,2 +1,6 @@
+pub mod Literals
+pub mod ReadNodes
 pub mod Reads
+pub mod ValueLaws
 pub mod ValueTerm
+pub mod Writes

@@ -4,3 +4,9 @@
 #![tactic(auto)]
 
 pub mod laws;
+mod over_write;
+mod reading;
+pub mod value_terms;
+
+pub use over_write::read_over_write;
+pub use value_terms::array_value;
