@@ -1,4 +1,4 @@
--- The laws of `and`, `or` and `distinct` over all their operands give terms of the same value.
+-- The laws of `and` and `or` over all their operands give terms of the same value.
 use Rattle.std.proofs.Common.{◌≡◌, ℕ, ◌≤◌, Bool, true, false, not, cond, ◌&&◌, ◌||◌, inl, inr, List, [], ◌∷◌, replicate, refl, ap, sym, ◌∙◌, subst, arith}
 use Rattle.std.specs.Prelude.{filter}
 use Rattle.std.specs.List.{list_any, list_all}

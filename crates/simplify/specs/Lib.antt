@@ -1,6 +1,14 @@
+pub mod ArrayNodes
 pub mod Arrays
 pub mod Folding
+pub mod Gathering
+pub mod Joined
 pub mod Logic
+pub mod NodesOfSorts
 pub mod Numbers
+pub mod Occurring
+pub mod Reduced
+pub mod Scalars
+pub mod Simplified
 pub mod Simplify
 pub mod Vectors
