@@ -11,6 +11,7 @@ use Rattle.smt_terms.specs.Shapes.{is_clear}
 use Rattle.smt_terms.specs.SubstLaws.{names_within, GivesNone, Later}
 use Rattle.smt_terms.proofs.Keeping.{keeps_itself}
 use Rattle.array_forms.specs.Reads.{reads}
+use Rattle.simplify.specs.Simplify.{simp}
 use Rattle.normal_forms.specs.Laws.{RewritesAlone, RewritesAs, RewritesFresh, RewritesWith}
 use Rattle.normal_forms.specs.Nnf.{nnf}
 use Rattle.normal_forms.specs.Aig.{aig}
@@ -23,6 +24,7 @@ use Rattle.passes.specs.declared.names.Pass.TheVariants.{Simplify, Nnf, Aig, Pre
 use Rattle.passes.specs.Laws.{keeps_values}
 use Rattle.passes.specs.Passed.{Way, alone, rewritten, in_place, written}
 use Rattle.passes.proofs.ReadsInside.{reads-symbols, reads-names, reads-clear, reads-within}
+use Rattle.passes.proofs.SimplifiesInside.{simplify-symbols, simplify-names, simplify-clear, simplify-within}
 use Rattle.passes.proofs.WithinForms.{nnf-within, aig-within}
 use Rattle.passes.proofs.WithinPrenex.{prenex-within}
 use Rattle.passes.proofs.WithinQuantifiers.{shannon-within, selfsub-within}
@@ -95,7 +97,17 @@ reads_replaces keeps t w fine given = record {
   names = λ n among. given n (reads-names t n among);
 }
 
+simplified_replaces : KeepsValues simp → (t : Term) (w : Way) → IsWellSorted t → GivesNone w.names (names_within t) → Replaces t w.names (alone (simp t), w)
+simplified_replaces keeps t w fine given = record {
+  term = simp t;
+  group = refl;
+  kept = record { keeps = keeps t fine; symbols = simplify-symbols t; clear = simplify-clear t fine; within = λ sorts names numbered all. simplify-within sorts names t all };
+  later = λ n never. never;
+  names = λ n among. given n (simplify-names t n among);
+}
+
 pub record FormLaws : Type 0 where
+  pub simplify : KeepsValues simp
   pub nnf : RewritesAs nnf
   pub aig : RewritesAs aig
   pub prenex : RewritesWith prenex
@@ -104,6 +116,7 @@ pub record FormLaws : Type 0 where
   pub selfsub : RewritesWith selfsub
 
 pub rule_of : FormLaws → (p : Pass) → keeps_values p ≡ true → Rule p
+rule_of laws Simplify is = record { replaces = simplified_replaces laws.simplify; declares = λ f. refl }
 rule_of laws Nnf is = record { replaces = as_form nnf laws.nnf (λ t sorts names numbered all. nnf-within sorts names t all); declares = λ f. refl }
 rule_of laws Aig is = record { replaces = as_form aig laws.aig (λ t sorts names numbered all. aig-within sorts names t all); declares = λ f. refl }
 rule_of laws Prenex is = record { replaces = with_form prenex laws.prenex (λ t s sorts names numbered all. prenex-within sorts names numbered t s all); declares = λ f. refl }
@@ -111,7 +124,6 @@ rule_of laws Reads is = record { replaces = reads_replaces laws.reads; declares 
 rule_of laws Shannon is = record { replaces = as_form shannon laws.shannon (λ t sorts names numbered all. shannon-within sorts names t all); declares = λ f. refl }
 rule_of laws SelfSub is = record { replaces = with_form selfsub laws.selfsub (λ t s sorts names numbered all. selfsub-within sorts names numbered t s all); declares = λ f. refl }
 rule_of laws Rules is = record { replaces = unchanged; declares = λ f. refl }
-rule_of laws Simplify is = absurd cc
 rule_of laws Ite is = absurd cc
 rule_of laws Cnf is = absurd cc
 rule_of laws Ackermann is = absurd cc

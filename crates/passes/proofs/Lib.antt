@@ -11,6 +11,7 @@ pub mod Rewritable
 pub mod RewrittenCommands
 pub mod RunnableLists
 mod Rows
+mod SimplifiesInside
 mod Standing
 pub mod Truths
 mod Walked

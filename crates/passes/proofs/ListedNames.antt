@@ -67,11 +67,11 @@ one_not_run (q ∷ ps) qs p not_run = go (can_run q) (one_not_run ps qs p not_ru
 -- passes that can be run stand behind no stored rules
 no_rules : (ps : List Pass) → list_all can_run ps ≡ true → groups_after_rules ps ≡ false
 no_rules [] run = refl
-no_rules (Simplify ∷ ps) run = absurd (true≢false (sym run))
+no_rules (Simplify ∷ ps) run = no_rules ps run
 no_rules (Nnf ∷ ps) run = no_rules ps run
 no_rules (Aig ∷ ps) run = no_rules ps run
 no_rules (Prenex ∷ ps) run = no_rules ps run
-no_rules (Reads ∷ ps) run = absurd (true≢false (sym run))
+no_rules (Reads ∷ ps) run = no_rules ps run
 no_rules (Shannon ∷ ps) run = no_rules ps run
 no_rules (SelfSub ∷ ps) run = no_rules ps run
 no_rules (Rules ∷ ps) run = absurd (true≢false (sym run))

@@ -24,7 +24,7 @@ use Rattle.normal_forms.proofs.Inside.{in-left, Within, NamedIn, Inside, InsideO
 use Rattle.normal_forms.proofs.Replaced.{operands-within}
 use Rattle.script_read.specs.Printable.{head_sorts, all_within, all_within_each}
 
-abbrev AllOf : (Term → Type 0) → Terms → Type 0
+abbrev pub AllOf : (Term → Type 0) → Terms → Type 0
 AllOf P none = ⊤
 AllOf P (t ⨾ ts) = P t × AllOf P ts
 
@@ -79,7 +79,7 @@ module _ (P : Term → Type 0) (down : (h : Head) (ts : Terms) → P (apply h ts
 
 -- ---- symbols, names and clearness
 
-all-map : (P Q : Term → Type 0) → ((r : Term) → P r → Q r) → (ts : Terms) → AllOf P ts → AllOf Q ts
+pub all-map : (P Q : Term → Type 0) → ((r : Term) → P r → Q r) → (ts : Terms) → AllOf P ts → AllOf Q ts
 all-map P Q step none all = tt
 all-map P Q step (t ⨾ ts) all = (step t all.0, all-map P Q step ts all.1)
 
@@ -115,24 +115,24 @@ module _ (sorts : Sort → Bool) (names : Name → Bool) where
   abbrev within : Term → Bool
   within t = all_within sorts names t
 
-  abbrev IsWithin : Term → Type 0
+  abbrev pub IsWithin : Term → Type 0
   IsWithin t = within t ≡ true
 
-  abbrev passes : Variable → Bool
+  abbrev pub passes : Variable → Bool
   passes x = sorts x.sort && names x.name
 
   apart : (ts : Terms) → all_within_each sorts names ts ≡ true → AllOf IsWithin ts
   apart none all = tt
   apart (t ⨾ ts) all = let parts = both_true (within t) (all_within_each sorts names ts) all in (parts.0, apart ts parts.1)
 
-  together : (ts : Terms) → AllOf IsWithin ts → all_within_each sorts names ts ≡ true
+  pub together : (ts : Terms) → AllOf IsWithin ts → all_within_each sorts names ts ≡ true
   together none all = refl
   together (t ⨾ ts) all = and_true (within t) (all_within_each sorts names ts) all.0 (together ts all.1)
 
-  operands : (h : Head) (ts : Terms) → IsWithin (apply h ts) → AllOf IsWithin ts
+  pub operands : (h : Head) (ts : Terms) → IsWithin (apply h ts) → AllOf IsWithin ts
   operands h ts given = apart ts (both_true (list_all sorts (head_sorts h)) (all_within_each sorts names ts) given).1
 
-  over : (h : Head) (ts us : Terms) → IsWithin (apply h ts) → AllOf IsWithin us → IsWithin (apply h us)
+  pub over : (h : Head) (ts us : Terms) → IsWithin (apply h ts) → AllOf IsWithin us → IsWithin (apply h us)
   over h ts us given each = and_true (list_all sorts (head_sorts h)) (all_within_each sorts names us) (both_true (list_all sorts (head_sorts h)) (all_within_each sorts names ts) given).0 (together us each)
 
   mutual

@@ -8,17 +8,25 @@ use Rattle.smt_terms.specs.Term.{Term}
 use Rattle.normal_forms.specs.Nnf.{nnf}
 use Rattle.normal_forms.specs.Aig.{aig}
 use Rattle.normal_forms.specs.Quantifiers.{shannon}
+use Rattle.array_forms.specs.Reads.{reads}
+use Rattle.simplify.specs.Simplify.{simp}
 use Rattle.script_read.specs.Commands.{Command, assert}
 
 -- what becomes of a term, and the names that are left
 abbrev pub Form : Type 0
 Form = Term → Supply → Term × Supply
 
+abbrev pub simplified_form : Form
+simplified_form t s = (simp t, s)
+
 abbrev pub nnf_form : Form
 nnf_form t s = (nnf t, s)
 
 abbrev pub aig_form : Form
 aig_form t s = (aig t, s)
+
+abbrev pub reads_form : Form
+reads_form t s = (reads t, s)
 
 abbrev pub shannon_form : Form
 shannon_form t s = (shannon t, s)

@@ -12,13 +12,13 @@ use Rattle.script_read.specs.Printable.{printable}
 use Rattle.script_read.specs.Satisfied.{sat}
 use Rattle.smt_print.specs.Laws.{Each}
 use Rattle.passes.specs.declared.names.Pass.{Pass}
-use Rattle.passes.specs.declared.names.Pass.TheVariants.{Nnf, Aig, Prenex, Reads, Shannon, SelfSub, Rules}
+use Rattle.passes.specs.declared.names.Pass.TheVariants.{Simplify, Nnf, Aig, Prenex, Reads, Shannon, SelfSub, Rules}
 use Rattle.passes.specs.Passed.{apply_pass, passed}
 use Rattle.passes.specs.Carry.{back, forth}
 
--- the passes of these laws: all that put one assertion in the place of each, but `simplify`; stored rules count as changing
--- nothing here
+-- the passes of these laws: all that put one assertion in the place of each; stored rules count as changing nothing here
 abbrev pub keeps_values : Pass → Bool
+keeps_values Simplify = true
 keeps_values Nnf = true
 keeps_values Aig = true
 keeps_values Prenex = true

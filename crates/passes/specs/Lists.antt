@@ -57,9 +57,11 @@ groups_after_rules (p ∷ ps) = groups_after_rules ps
 
 -- the passes that can be run so far; in a list, the name of another one is none
 abbrev pub can_run : Pass → Bool
+can_run Simplify = true
 can_run Nnf = true
 can_run Aig = true
 can_run Prenex = true
+can_run Reads = true
 can_run Shannon = true
 can_run SelfSub = true
 can_run _ = false

@@ -13,6 +13,7 @@ use normal_forms::laws::{
     aig_keeps_values, nnf_keeps_values, prenex_keeps_values, selfsub_keeps_values,
     shannon_keeps_values,
 };
+use simplify::laws::simplify_keeps_values;
 
 /// Behind each of these passes, and behind a list of them, printable commands are printable again, with the same checks; at
 /// each of them the same sorts, symbols and literals are live, and as many assertions, each of which has the sort of the one
@@ -21,6 +22,7 @@ pub fn passes_keep_commands()
     ensures pass { PassKeepsCommands }
     ensures list { PassesKeepCommands }
 {
+    simplify_keeps_values();
     nnf_keeps_values();
     aig_keeps_values();
     prenex_keeps_values();

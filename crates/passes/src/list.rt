@@ -130,7 +130,13 @@ fn can_be_run(pass: Pass) -> bool
 {
     matches!(
         pass,
-        Pass::Nnf | Pass::Aig | Pass::Prenex | Pass::Shannon | Pass::SelfSub
+        Pass::Simplify
+            | Pass::Nnf
+            | Pass::Aig
+            | Pass::Prenex
+            | Pass::Reads
+            | Pass::Shannon
+            | Pass::SelfSub
     )
 }
 

@@ -1,5 +1,5 @@
-//! Passes that put one assertion in the place of each, as rewriters of single formulas: `nnf`, `aig`, `prenex`, `shannon` and
-//! `selfsub`.
+//! Passes that put one assertion in the place of each, as rewriters of single formulas: `simplify`, `nnf`, `aig`, `prenex`,
+//! `reads`, `shannon` and `selfsub`.
 
 ghost use Rattle.std.specs.Prelude.{◌≡◌, IfOk, OnOk};
 ghost use Rattle.smt_terms.specs.SubstLaws.{names_within, GivesNone};
@@ -8,16 +8,20 @@ ghost use Rattle.term_subst.specs.Substituting.{IsLater, NeverGivesGained};
 ghost use Rattle.term_table.specs.Formulas.{tree};
 ghost use Rattle.term_walk.specs.Walking.{GrowsTo};
 
+use array_forms::laws::reads_keep_values;
+use array_forms::read_over_write;
 use boolean_quantifiers::{self_subst, shannon};
 use normal_forms::and_inverter_form::aig_kept;
 use normal_forms::negation_normal_form::nnf_kept;
 use normal_forms::node_forms::Forms;
 use quantifier_forms::prenex;
+use simplify::laws::simplify_keeps_values;
+use simplify::simplify;
 use smt_terms::NodeId;
 use std::alloc::{AllocError, Global};
 use std::sync::ledger::Ledger;
 use term_subst::Fresh;
-use term_table::Table;
+use term_table::{Table, know_table};
 use term_walk::{Kept, Steps};
 
 /// Puts a formula in the place of another.
@@ -46,6 +50,36 @@ pub(crate) trait Rewriter {
         ensures drawn { NeverGivesGained fresh.new table.old.symbols table.new.symbols }
         ensures grows { GrowsTo table.old table.new }
         ensures fits { Self.fits self.new table.new };
+}
+
+/// `simplify`, with the results of earlier formulas kept.
+#[derive(Drop)]
+pub(crate) struct Simplification<L: Ledger> {
+    pub(crate) alloc: Global,
+    pub(crate) kept: Kept<NodeId>,
+    pub(crate) steps: Steps<L>,
+}
+
+impl<L: Ledger> Rewriter for Simplification<L> {
+    ghost use Rattle.term_walk.specs.Walking.{Fits};
+    ghost use Rattle.simplify.specs.Reduced.{IsSimplified};
+    ghost use Rattle.passes.specs.Behind.{simplified_form};
+
+    ghost form = { simplified_form };
+
+    ghost fits = { λ s t. Fits IsSimplified t s.kept };
+
+    fn rewrite(
+        &mut self,
+        table: &mut Table,
+        id: NodeId,
+        fresh: &mut Fresh,
+    ) -> Result<NodeId, AllocError> {
+        know_table(table);
+        simplify_keeps_values();
+        let id = simplify(self.alloc, table, id, &mut self.kept, &mut self.steps)?;
+        Ok(id)
+    }
 }
 
 /// `nnf`, with the results of earlier formulas kept.
@@ -124,6 +158,36 @@ impl Rewriter for Prefix {
         fresh: &mut Fresh,
     ) -> Result<NodeId, AllocError> {
         let id = prenex(self.alloc, table, id, fresh)?;
+        Ok(id)
+    }
+}
+
+/// `reads`, with the results of earlier formulas kept.
+#[derive(Drop)]
+pub(crate) struct Reading<L: Ledger> {
+    pub(crate) alloc: Global,
+    pub(crate) kept: Kept<NodeId>,
+    pub(crate) steps: Steps<L>,
+}
+
+impl<L: Ledger> Rewriter for Reading<L> {
+    ghost use Rattle.term_walk.specs.Walking.{Fits};
+    ghost use Rattle.array_forms.specs.ReadNodes.{HasReads};
+    ghost use Rattle.passes.specs.Behind.{reads_form};
+
+    ghost form = { reads_form };
+
+    ghost fits = { λ s t. Fits HasReads t s.kept };
+
+    fn rewrite(
+        &mut self,
+        table: &mut Table,
+        id: NodeId,
+        fresh: &mut Fresh,
+    ) -> Result<NodeId, AllocError> {
+        know_table(table);
+        reads_keep_values();
+        let id = read_over_write(self.alloc, table, id, &mut self.kept, &mut self.steps)?;
         Ok(id)
     }
 }

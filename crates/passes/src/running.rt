@@ -9,13 +9,15 @@ ghost use Rattle.term_walk.specs.Walking.{GrowsTo};
 ghost use Rattle.passes.specs.Lists.{can_run};
 ghost use Rattle.passes.specs.Passed.{apply_pass, passed};
 ghost use Rattle.passes.specs.Laws.{keeps_values, IsReady};
-ghost use Rattle.passes.specs.Behind.{nnf_form, aig_form, in_form, AreRewritable};
+ghost use Rattle.passes.specs.Behind.{simplified_form, nnf_form, aig_form, reads_form, in_form, AreRewritable};
 ghost use Rattle.passes.specs.Assertion.{assertion_of};
 
 use crate::laws::passes_keep_commands;
 use crate::list::Passes;
 use crate::names::Pass;
-use crate::rewriters::{Expansion, Inversion, Negation, Prefix, Rewriter, SelfSubstitution};
+use crate::rewriters::{
+    Expansion, Inversion, Negation, Prefix, Reading, Rewriter, SelfSubstitution, Simplification,
+};
 use normal_forms::room::make_room;
 use script_read::{Command, Commands, Script};
 use smt_terms::NodeId;
@@ -90,6 +92,10 @@ fn run_pass(
     ensures grows { GrowsTo table.old table.new }
 {
     match pass {
+        Pass::Simplify => {
+            simplify_each::<Brand>(alloc, table, script, fresh, Blank::new(1))?;
+            Ok(())
+        }
         Pass::Nnf => {
             negate::<Brand>(alloc, table, script, fresh, Blank::new(1))?;
             Ok(())
@@ -102,6 +108,10 @@ fn run_pass(
             rewrite_each(table, script, &mut Prefix { alloc }, fresh)?;
             Ok(())
         }
+        Pass::Reads => {
+            tell_reads::<Brand>(alloc, table, script, fresh, Blank::new(1))?;
+            Ok(())
+        }
         Pass::Shannon => {
             rewrite_each(table, script, &mut Expansion { alloc }, fresh)?;
             Ok(())
@@ -112,6 +122,35 @@ fn run_pass(
         }
         _ => unreachable!(),
     }
+}
+
+/// `simplify`, with its steps counted in a ledger of their own.
+fn simplify_each<L: Ledger>(
+    alloc: Global,
+    table: &mut Table,
+    script: &mut Script,
+    fresh: &mut Fresh,
+    blank: Blank,
+) -> Result<(), AllocError>
+    requires name { blank.name ≡ L.name }
+    requires parts { blank.parts ≡ L.parts }
+    requires some { 0 < L.parts }
+    requires numbers { AreCommandsOf table.old script.old.commands }
+    requires ready { AreRewritable (commands_of table.old script.old.commands) fresh.old }
+    ensures numbers { OnOk result (AreCommandsOf table.new script.new.commands) }
+    ensures commands { OnOk result (commands_of table.new script.new.commands ≡ (in_form simplified_form (commands_of table.old script.old.commands) fresh.old).0) }
+    ensures left { OnOk result (fresh.new ≡ (in_form simplified_form (commands_of table.old script.old.commands) fresh.old).1) }
+    ensures later { IsLater fresh.old fresh.new }
+    ensures drawn { NeverGivesGained fresh.new table.old.symbols table.new.symbols }
+    ensures grows { GrowsTo table.old table.new }
+{
+    let mut simplification = Simplification {
+        alloc,
+        kept: Kept::new(alloc),
+        steps: Steps::<L>::new(blank),
+    };
+    rewrite_each(table, script, &mut simplification, fresh)?;
+    Ok(())
 }
 
 /// `nnf`, with its steps counted in a ledger of their own, in a table that has room for what is made.
@@ -170,6 +209,35 @@ fn invert<L: Ledger>(
         steps: Steps::<L>::new(blank),
     };
     rewrite_each(table, script, &mut inversion, fresh)?;
+    Ok(())
+}
+
+/// `reads`, with its steps counted in a ledger of their own.
+fn tell_reads<L: Ledger>(
+    alloc: Global,
+    table: &mut Table,
+    script: &mut Script,
+    fresh: &mut Fresh,
+    blank: Blank,
+) -> Result<(), AllocError>
+    requires name { blank.name ≡ L.name }
+    requires parts { blank.parts ≡ L.parts }
+    requires some { 0 < L.parts }
+    requires numbers { AreCommandsOf table.old script.old.commands }
+    requires ready { AreRewritable (commands_of table.old script.old.commands) fresh.old }
+    ensures numbers { OnOk result (AreCommandsOf table.new script.new.commands) }
+    ensures commands { OnOk result (commands_of table.new script.new.commands ≡ (in_form reads_form (commands_of table.old script.old.commands) fresh.old).0) }
+    ensures left { OnOk result (fresh.new ≡ (in_form reads_form (commands_of table.old script.old.commands) fresh.old).1) }
+    ensures later { IsLater fresh.old fresh.new }
+    ensures drawn { NeverGivesGained fresh.new table.old.symbols table.new.symbols }
+    ensures grows { GrowsTo table.old table.new }
+{
+    let mut reading = Reading {
+        alloc,
+        kept: Kept::new(alloc),
+        steps: Steps::<L>::new(blank),
+    };
+    rewrite_each(table, script, &mut reading, fresh)?;
     Ok(())
 }
 

@@ -21,13 +21,13 @@ fn count_of(text: &str) -> usize {
 fn lists(rt: HostRuntime) {
     for (text, count) in [
         ("nnf", 1),
-        ("nnf,aig,prenex,shannon,selfsub", 5),
+        ("simplify,nnf,aig,prenex,reads,shannon,selfsub", 7),
         (NAMES, 32),
         (TOO_MANY, 100),
         ("", 100),
         ("nnf,", 100),
         ("nnf, aig", 100),
-        ("nnf,simplify", 100),
+        ("nnf,rules", 100),
         ("rules,cnf", 100),
     ] {
         assert!(rt; count_of(text) == count, "{text}");

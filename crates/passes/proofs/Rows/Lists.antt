@@ -66,10 +66,10 @@ rules_and_too_many = refl
 
 -- ---- so far
 
-standing : pass_list (codes "nnf,aig,prenex,shannon,selfsub") ≡ Ok (Nnf ∷ Aig ∷ Prenex ∷ Shannon ∷ SelfSub ∷ [])
+standing : pass_list (codes "simplify,nnf,aig,prenex,reads,shannon,selfsub") ≡ Ok (Simplify ∷ Nnf ∷ Aig ∷ Prenex ∷ Reads ∷ Shannon ∷ SelfSub ∷ [])
 unfolding pass_named
 standing = refl
 
-to_come : pass_list (codes "nnf,simplify") ≡ Err BadPass
+to_come : pass_list (codes "nnf,rules") ≡ Err BadPass
 unfolding pass_named
 to_come = refl

@@ -2,7 +2,7 @@
 use Prim.Native.String.{String}
 use Rattle.std.specs.Prelude.{◌≡◌, ℕ, List, [], ◌∷◌, map, true, codes, Result, Ok, Err, refl}
 use Rattle.smt_print.specs.declared.layout.Layout.TheVariants.{Tree, Dag}
-use Rattle.passes.specs.declared.names.Pass.TheVariants.{Nnf, Aig, Prenex, Shannon, SelfSub, Simplify, Rules, Ite, Cnf}
+use Rattle.passes.specs.declared.names.Pass.TheVariants.{Nnf, Aig, Prenex, Reads, Shannon, SelfSub, Simplify, Rules, Ite, Cnf}
 use Rattle.passes.specs.Lists.{pass_named}
 use Rattle.smtrw_answers.specs.declared.status.Usage.{Usage}
 use Rattle.smtrw_answers.specs.declared.status.Why.{Why}
@@ -204,11 +204,11 @@ value_before_missing = refl
 
 -- ---- what the program has so far
 
-standing_passes : so_far ("rewrite" ∷ "--passes=nnf,aig,prenex,shannon,selfsub" ∷ "-" ∷ []) ≡ Ok (rewrite (Nnf ∷ Aig ∷ Prenex ∷ Shannon ∷ SelfSub ∷ []) Tree (word 3 "-"))
+standing_passes : so_far ("rewrite" ∷ "--passes=simplify,nnf,aig,prenex,reads,shannon,selfsub" ∷ "-" ∷ []) ≡ Ok (rewrite (Simplify ∷ Nnf ∷ Aig ∷ Prenex ∷ Reads ∷ Shannon ∷ SelfSub ∷ []) Tree (word 3 "-"))
 unfolding pass_named
 standing_passes = refl
 
-a_pass_to_come : so_far ("rewrite" ∷ "--passes" ∷ "nnf,simplify" ∷ "-" ∷ []) ≡ fault 3 BadPass
+a_pass_to_come : so_far ("rewrite" ∷ "--passes" ∷ "nnf,rules" ∷ "-" ∷ []) ≡ fault 3 BadPass
 unfolding pass_named
 a_pass_to_come = refl
 

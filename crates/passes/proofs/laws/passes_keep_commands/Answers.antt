@@ -5,6 +5,7 @@ use Rattle.passes.proofs.laws.passes_keep_commands.Goals as goal
 pub returns : goal.returns
 returns c =
     let laws : FormLaws = record {
+      simplify = c.simplify_keeps_values.ensures;
       nnf = c.nnf_keeps_values.ensures.values;
       aig = c.aig_keeps_values.ensures.values;
       prenex = c.prenex_keeps_values.ensures.values;

@@ -2,11 +2,24 @@ use Rattle.std.proofs.Common.{◌∙◌, ap, sym}
 use Rattle.normal_forms.specs.Prenex.{prenex}
 use Rattle.normal_forms.specs.Quantifiers.{selfsub}
 use Rattle.script_read.specs.CommandLists.{commands_of}
-use Rattle.passes.specs.declared.names.Pass.TheVariants.{Nnf, Aig, Prenex, Shannon, SelfSub}
-use Rattle.passes.specs.Behind.{nnf_form, aig_form, shannon_form}
-use Rattle.passes.proofs.InForm.{is_nnf_form, is_aig_form, is_prenex_form, is_shannon_form, is_selfsub_form, applied_as}
+use Rattle.passes.specs.declared.names.Pass.TheVariants.{Simplify, Nnf, Aig, Prenex, Reads, Shannon, SelfSub}
+use Rattle.passes.specs.Behind.{simplified_form, nnf_form, aig_form, reads_form, shannon_form}
+use Rattle.passes.proofs.InForm.{is_simplified_form, is_nnf_form, is_aig_form, is_prenex_form, is_reads_form, is_shannon_form, is_selfsub_form, applied_as}
 use Rattle.passes.proofs.Rewritable.{ready_rewritable}
 use Rattle.passes.proofs.running.run_pass.Goals as goal
+
+pub simplify_each-requires-clause-ready : goal.simplify_each-requires-clause-ready
+simplify_each-requires-clause-ready c = ready_rewritable (commands_of c.args.table.now c.args.script.now.commands) c.args.fresh.now c.requires.ready
+
+pub returns-in_ok-simplify_each-in-Simplify-clause-commands : goal.returns-in_ok-simplify_each-in-Simplify-clause-commands
+returns-in_ok-simplify_each-in-Simplify-clause-commands c =
+    c.in_ok-simplify_each-in-Simplify.ensures.commands
+    ∙ sym (ap (λ r. r.0) (applied_as c.args.pass Simplify simplified_form c.in-Simplify.is is_simplified_form (commands_of c.args.table.now c.args.script.now.commands) c.args.fresh.now))
+
+pub returns-in_ok-simplify_each-in-Simplify-clause-left : goal.returns-in_ok-simplify_each-in-Simplify-clause-left
+returns-in_ok-simplify_each-in-Simplify-clause-left c =
+    c.in_ok-simplify_each-in-Simplify.ensures.left
+    ∙ sym (ap (λ r. r.1) (applied_as c.args.pass Simplify simplified_form c.in-Simplify.is is_simplified_form (commands_of c.args.table.now c.args.script.now.commands) c.args.fresh.now))
 
 pub negate-requires-clause-ready : goal.negate-requires-clause-ready
 negate-requires-clause-ready c = ready_rewritable (commands_of c.args.table.now c.args.script.now.commands) c.args.fresh.now c.requires.ready
@@ -46,6 +59,19 @@ pub returns-in_ok-rewrite_each-in-Prenex-clause-left : goal.returns-in_ok-rewrit
 returns-in_ok-rewrite_each-in-Prenex-clause-left c =
     c.in_ok-rewrite_each-in-Prenex.ensures.left
     ∙ sym (ap (λ r. r.1) (applied_as c.args.pass Prenex prenex c.in-Prenex.is is_prenex_form (commands_of c.args.table.now c.args.script.now.commands) c.args.fresh.now))
+
+pub tell_reads-requires-clause-ready : goal.tell_reads-requires-clause-ready
+tell_reads-requires-clause-ready c = ready_rewritable (commands_of c.args.table.now c.args.script.now.commands) c.args.fresh.now c.requires.ready
+
+pub returns-in_ok-tell_reads-in-Reads-clause-commands : goal.returns-in_ok-tell_reads-in-Reads-clause-commands
+returns-in_ok-tell_reads-in-Reads-clause-commands c =
+    c.in_ok-tell_reads-in-Reads.ensures.commands
+    ∙ sym (ap (λ r. r.0) (applied_as c.args.pass Reads reads_form c.in-Reads.is is_reads_form (commands_of c.args.table.now c.args.script.now.commands) c.args.fresh.now))
+
+pub returns-in_ok-tell_reads-in-Reads-clause-left : goal.returns-in_ok-tell_reads-in-Reads-clause-left
+returns-in_ok-tell_reads-in-Reads-clause-left c =
+    c.in_ok-tell_reads-in-Reads.ensures.left
+    ∙ sym (ap (λ r. r.1) (applied_as c.args.pass Reads reads_form c.in-Reads.is is_reads_form (commands_of c.args.table.now c.args.script.now.commands) c.args.fresh.now))
 
 pub rewrite_each-requires-in-Shannon-clause-ready : goal.rewrite_each-requires-in-Shannon-clause-ready
 rewrite_each-requires-in-Shannon-clause-ready c = ready_rewritable (commands_of c.args.table.now c.args.script.now.commands) c.args.fresh.now c.requires.ready

@@ -5,3 +5,9 @@ ghosts-negate a = record { name = a.blank.name; parts = 1 }
 
 abbrev pub ghosts-invert : goal.ghosts-invert
 ghosts-invert a = record { name = a.blank.name; parts = 1 }
+
+abbrev pub ghosts-tell_reads : goal.ghosts-tell_reads
+ghosts-tell_reads a = record { name = a.blank.name; parts = 1 }
+
+abbrev pub ghosts-simplify_each : goal.ghosts-simplify_each
+ghosts-simplify_each a = record { name = a.blank.name; parts = 1 }
