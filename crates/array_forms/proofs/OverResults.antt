@@ -1,6 +1,6 @@
 -- What reading over writing makes of a head over the results of its operands.
-use Rattle.std.proofs.Common.{◌≡◌, ℕ, ◌+◌, ◌<◌, true, false, cond, List, [], ◌∷◌, ◌++◌, map, length, get_or, take, Option, Some, None, option_copied, is_some, Bor, refl, ap, sym, ◌∙◌, subst, inl, inr}
-use Rattle.std.proofs.lemmas.List.{map-append, take_more}
+use Rattle.std.proofs.Common.{◌≡◌, true, false, cond, List, [], ◌∷◌, ◌++◌, map, length, get_or, Option, Some, None, option_copied, is_some, Bor, refl, ap, sym, ◌∙◌, subst, inl, inr}
+use Rattle.std.proofs.lemmas.List.{map-append}
 use Rattle.smt_terms.specs.declared.ids.NodeId.{NodeId}
 use Rattle.smt_terms.specs.declared.op.Op.{Op}
 use Rattle.smt_terms.specs.declared.op.Op.TheVariants.{Neg, Select, Whole}
@@ -244,11 +244,3 @@ copied-some None h = h
 
 pub trees-push : (t : Formulas) (ks : List NodeId) (k : NodeId) → trees_at t (ks ++ k ∷ []) ≡ trees_at t ks ++ tree t k ∷ []
 trees-push t ks k = map-append (tree_in t.trees) ks (k ∷ [])
-
--- one result more
-pub results-push : (t : Formulas) (kids found : List NodeId) (n : ℕ) (d r : NodeId) → n < length kids → trees_at t found ≡ map reads (trees_at t (take n kids)) → tree t r ≡ reads (tree t (get_or kids n d)) → trees_at t (found ++ r ∷ []) ≡ map reads (trees_at t (take (n + 1) kids))
-results-push t kids found n d r lt so_far last =
-    trees-push t found r
-    ∙ (λ i. so_far i ++ last i ∷ [])
-    ∙ sym (map-append reads (trees_at t (take n kids)) (tree t (get_or kids n d) ∷ []))
-    ∙ ap (map reads) (sym (trees-push t (take n kids) (get_or kids n d)) ∙ ap (trees_at t) (sym (take_more kids n d lt)))

@@ -1,6 +1,6 @@
 -- The nodes of values.
-use Rattle.std.proofs.Common.{◌≡◌, ℕ, zero, suc, ◌+◌, ◌^◌, ◌<◌, ◌≤◌, true, false, cond, ◌&&◌, List, [], ◌∷◌, length, Option, Some, None, Ok, is_ok, refl, ap, sym, ◌∙◌, subst, arith}
-use Rattle.std.specs.Prelude.{nat_abs, IfSome}
+use Rattle.std.proofs.Common.{◌≡◌, ℕ, zero, suc, ◌+◌, ◌≤◌, true, false, ◌&&◌, List, [], ◌∷◌, length, Option, Some, None, Ok, refl, ap, sym, ◌∙◌, subst, arith}
+use Rattle.std.specs.Prelude.{IfSome}
 use Rattle.std.proofs.lemmas.Bool.Decides.{Decides-eqb}
 use Rattle.smt_terms.specs.declared.ids.NodeId.{NodeId}
 use Rattle.smt_terms.specs.declared.ids.SortId.{SortId}
@@ -8,65 +8,31 @@ use Rattle.smt_terms.specs.declared.op.Op.TheVariants as op_named
 use Rattle.smt_terms.specs.Sorts.{Sort, bool, int, bit_vector, array, free_sort}
 use Rattle.smt_terms.specs.Term.{op, const_array, Term, apply, none, ◌⨾◌}
 use Rattle.smt_terms.specs.BitVectors.{nat2bv}
-use Rattle.smt_terms.specs.Constants.{whole_term, bits_term, constant_term}
-use Rattle.smt_terms.specs.Rank.{shape, width, most_bits, rank, sort_of, is_array, is_minus_of, is_minus}
+use Rattle.smt_terms.specs.Constants.{constant_term}
+use Rattle.smt_terms.specs.Rank.{shape, width, most_bits, rank, sort_of, is_array, is_minus}
 use Rattle.smt_terms.specs.Values.{Value, element, table, Pairs, no_pairs, pair, Sizes, every_pair, is_value}
 use Rattle.smt_terms.proofs.BitLengths.{length-nat2bv}
-use Rattle.smt_terms.proofs.ConstantTerms.{bv2nat-nat2bv}
 use Rattle.smt_terms.proofs.Operands.{more_sorts}
-use Rattle.smt_terms.proofs.Ranked.{takes-rank, lt_true}
+use Rattle.smt_terms.proofs.Ranked.{takes-rank}
 use Rattle.smt_terms.proofs.Same.{array_value}
 use Rattle.smt_terms.proofs.Sorted.{sort_of-apply}
 use Rattle.smt_terms.proofs.Tests.{both_true}
 use Rattle.smt_values.specs.declared.scalar.Scalar.{Scalar}
 use Rattle.smt_values.specs.declared.scalar.Scalar.TheVariants.{Truth, Whole, Bits}
-use Rattle.smt_values.specs.Meaning.{scalar_value, scalar_sort, IsScalar}
+use Rattle.smt_values.specs.Meaning.{scalar_value, scalar_sort}
 use Rattle.smt_values.specs.SortIds.{sort_at, IsSortId}
 use Rattle.smt_values.specs.Tables.{Table, as_value, count, pair_at}
 use Rattle.term_table.specs.Formulas.{Formulas, tree, trees_at, no_tree, kind, term_over, sort_or_bool, Makes, IsNode, AreNodes, Grows, GrowsByOne}
 use Rattle.term_walk.specs.Walking.{GrowsTo}
 use Rattle.term_walk.proofs.Visits.{grows-self, table-grows}
 use Rattle.term_table.proofs.Made.{makes_ranked}
-use Rattle.array_forms.specs.Literals.{literal_of}
 use Rattle.array_forms.specs.ValueTerm.{stored, filled, stores, value_term}
 
 -- ---- constants
 
-literal-ranked : (k : Scalar) → IsScalar k → rank (op (literal_of k)) [] ≡ Ok (scalar_sort k)
-unfolding shape
-literal-ranked (Truth b) fine = let narrow : width bool ≤ most_bits = omega arith in takes-rank (op (op_named.Truth b)) [] bool (refl, refl) narrow
-literal-ranked (Whole n) fine = let narrow : width int ≤ most_bits = omega arith in takes-rank (op (op_named.Whole n)) [] int (refl, fine, refl) narrow
-literal-ranked (Bits w n) fine = let some : 1 ≤ w = fine.0 in let more : 0 < w = omega arith in takes-rank (op (op_named.Bits w n)) [] (bit_vector w) (refl, more, fine.2, refl) fine.1
-
-no-nodes : (t : Formulas) → AreNodes t []
-no-nodes t i d lt = absurd (omega arith)
-
 one-node : (t : Formulas) (k : NodeId) → IsNode t k → AreNodes t (k ∷ [])
 one-node t k node zero d lt = node
 one-node t k node (suc i) d lt = absurd (omega arith)
-
-pub literal-makes : (t : Formulas) (k : Scalar) → IsScalar k → Makes t (literal_of k) []
-unfolding kind is_minus_of
-literal-makes t (Truth b) fine = record { kids = no-nodes t; numbers = tt; ranked = ap is_ok (literal-ranked (Truth b) fine); minus = refl }
-literal-makes t (Whole n) fine = record { kids = no-nodes t; numbers = tt; ranked = ap is_ok (literal-ranked (Whole n) fine); minus = refl }
-literal-makes t (Bits w n) fine = record { kids = no-nodes t; numbers = tt; ranked = ap is_ok (literal-ranked (Bits w n) fine); minus = refl }
-
-literal-term : (t : Formulas) (k : Scalar) → term_over t (literal_of k) [] ≡ apply (op (literal_of k)) none
-unfolding kind
-literal-term t (Truth b) = refl
-literal-term t (Whole n) = refl
-literal-term t (Bits w n) = refl
-
-pub literal-sort : (t : Formulas) (k : Scalar) → IsScalar k → sort_of (term_over t (literal_of k) []) ≡ Some (scalar_sort k)
-literal-sort t k fine = ap sort_of (literal-term t k) ∙ sort_of-apply (op (literal_of k)) none [] (scalar_sort k) refl (literal-ranked k fine)
-
-pub literal-constant : (t : Formulas) (k : Scalar) → IsScalar k → Some (term_over t (literal_of k) []) ≡ constant_term (scalar_value k)
-literal-constant t k fine = ap (λ u. Some u) (literal-term t k) ∙ by k fine
-  where
-    by : (k : Scalar) → IsScalar k → Some (apply (op (literal_of k)) none) ≡ constant_term (scalar_value k)
-    by (Truth b) fine = refl
-    by (Whole n) fine = sym (ap (λ b. cond b (Some (whole_term n)) None) (lt_true (nat_abs n) (2 ^ 127) fine))
-    by (Bits w n) fine = sym (λ i. Some (bits_term (length-nat2bv w n i) (bv2nat-nat2bv w n fine.2 i)))
 
 -- the sort of a scalar is the only one that it is a value of
 pub scalar-sort : (k : Scalar) (s : Sort) (sizes : Sizes) → is_value s sizes (scalar_value k) ≡ true → scalar_sort k ≡ s

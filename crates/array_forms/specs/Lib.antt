@@ -1,4 +1,3 @@
-pub mod Literals
 pub mod ReadNodes
 pub mod Reads
 pub mod ValueLaws

@@ -2,9 +2,9 @@
 //! through a term from below: over the results of the operands a `select` is what is read there, a minus over a constant is
 //! the constant, and any other operator or quantifier stays.
 
-ghost use Rattle.std.specs.Prelude.{◌≡◌, ◌∷◌, [], ◌+◌, ◌≤◌, map, true, false, All, IsSome, IsTrue, IfOk, OnOk};
+ghost use Rattle.std.specs.Prelude.{◌≡◌, ◌∷◌, [], ◌+◌, ◌≤◌, map, true, false, IsTrue, IfOk, OnOk};
 ghost use Rattle.term_table.specs.Formulas.{tree, trees_at, operands, IsNode, AreNodes};
-ghost use Rattle.term_walk.specs.Places.{result_at, results};
+ghost use Rattle.term_walk.specs.Places.{results};
 ghost use Rattle.term_walk.specs.Subterms.{all_subterms, places};
 ghost use Rattle.term_walk.specs.Walking.{GrowsTo, AreRelated, Fits, HaveResults, AllHaveResults, Stay, GainsBelow};
 ghost use Rattle.normal_forms.specs.Shape.{is_quantified};
@@ -13,6 +13,7 @@ ghost use Rattle.array_forms.specs.Reads.{reads};
 
 use crate::reading::read;
 use normal_forms::binding::{bind, body_of, is_universal};
+use normal_forms::results::results_of;
 use smt_terms::NodeId;
 use smt_values::Op;
 use std::alloc::{AllocError, Global};
@@ -56,24 +57,21 @@ fn quantified(
     Ok(result)
 }
 
-// The results of these nodes.
-fn results_of(
+// The results of a node's operands.
+fn operand_results(
     alloc: Global,
     table: &Table,
+    id: NodeId,
     kept: &Kept<NodeId>,
-    kids: &[NodeId],
 ) -> Result<Vec<NodeId>, AllocError>
+    requires node { IsNode table.now id }
     requires related { AreRelated HasReads table.now kept.now }
-    requires kids { All (λ k. IsSome (result_at kept.now k.0)) kids.now }
+    requires kids { HaveResults table.now (tree table.now id) kept.now }
     ensures nodes { IfOk result (λ ks. AreNodes table.now ks.items) }
-    ensures terms { IfOk result (λ ks. trees_at table.now ks.items ≡ map reads (trees_at table.now kids.now)) }
+    ensures terms { IfOk result (λ ks. trees_at table.now ks.items ≡ map reads (operands (tree table.now id))) }
 {
-    let mut results = Vec::with_capacity(alloc, kids.len())?;
-    for kid in kids {
-        let found = *kept.get(*kid).unwrap();
-        results.push(found)?;
-    }
-    Ok(results)
+    let found = results_of(alloc, kept, table.kids(id))?;
+    Ok(found)
 }
 
 // Whether a node that isn't quantified is its own result, where these are those of its operands.
@@ -139,7 +137,7 @@ fn applied(
     ensures symbols { table.new.symbols ≡ table.old.symbols }
     ensures sorts { table.new.sorts ≡ table.old.sorts }
 {
-    let kids = results_of(alloc, table, kept, table.kids(id))?;
+    let kids = operand_results(alloc, table, id, kept)?;
     if is_own_result(table, id, &kids) {
         return Ok(id);
     }

@@ -19,10 +19,10 @@ ghost use Rattle.term_walk.specs.Walking.{GrowsTo};
 ghost use Rattle.array_forms.specs.Reads.{where_equal, over_store, read};
 ghost use Rattle.array_forms.specs.Writes.{IsLastWrite, EndsAt, over_writes, Suits};
 
+use normal_forms::comparing::are_same;
 use smt_terms::NodeId;
 use smt_values::Op;
 use std::alloc::{AllocError, Global};
-use term_table::laws::equal_formulas_have_one_number;
 use term_table::{Table, know_table};
 
 // A write: the array before it, and which element it put where.
@@ -31,16 +31,6 @@ struct Write {
     before: NodeId,
     index: NodeId,
     value: NodeId,
-}
-
-// Whether two nodes name the same term.
-fn are_same(table: &Table, a: NodeId, b: NodeId) -> bool
-    requires a { IsNode table.now a }
-    requires b { IsNode table.now b }
-    ensures { result ≡ term_eq (tree table.now a) (tree table.now b) }
-{
-    equal_formulas_have_one_number(table);
-    a.0 == b.0
 }
 
 // Whether a node is a constant of Bool, Int or bit vectors.

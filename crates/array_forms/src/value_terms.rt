@@ -11,9 +11,9 @@ ghost use Rattle.smt_values.specs.Tables.{as_value};
 ghost use Rattle.smt_values.specs.Valid.{IsValue, HasPairs};
 ghost use Rattle.term_table.specs.Formulas.{tree, IsNode};
 ghost use Rattle.term_walk.specs.Walking.{GrowsTo};
-ghost use Rattle.array_forms.specs.Literals.{literal_of};
 ghost use Rattle.array_forms.specs.ValueTerm.{stored, stores, value_term};
 
+use normal_forms::literals::node_of;
 use smt_terms::NodeId;
 use smt_values::{ArrayValue, Op, Scalar, SortId, Value};
 use std::alloc::{AllocError, Global};
@@ -52,37 +52,12 @@ fn term_of(table: &mut Table, value: &Value, sort: SortId) -> Result<Option<Node
 {
     match value {
         Value::Scalar(scalar) => {
-            let id = constant(table, *scalar)?;
+            let id = node_of(table, *scalar)?;
             Ok(Some(id))
         }
         Value::Element(_) => Ok(None),
         Value::Array(array) => term_of_array(table, array, sort),
     }
-}
-
-// The operator of a constant.
-fn literal(scalar: Scalar) -> Op
-    ensures { result ≡ literal_of scalar }
-{
-    match scalar {
-        Scalar::Truth(truth) => Op::Truth(truth),
-        Scalar::Whole(n) => Op::Whole(n),
-        Scalar::Bits { width, bits } => Op::Bits { width, bits },
-    }
-}
-
-#[tactic(auto, unfolding(term_table::specs::Formulas::kind))]
-fn constant(table: &mut Table, scalar: Scalar) -> Result<NodeId, AllocError>
-    requires { IsScalar scalar }
-    ensures node { IfOk result (IsNode table.new) }
-    ensures sort { IfOk result (λ k. sort_of (tree table.new k) ≡ Some (scalar_sort scalar)) }
-    ensures term { IfOk result (λ k. Some (tree table.new k) ≡ constant_term (scalar_value scalar)) }
-    ensures grows { GrowsTo table.old table.new }
-    ensures symbols { table.new.symbols ≡ table.old.symbols }
-    ensures sorts { table.new.sorts ≡ table.old.sorts }
-{
-    let id = table.intern(literal(scalar), &[])?;
-    Ok(id)
 }
 
 #[cycle(nesting)]

@@ -12,13 +12,14 @@ use Rattle.smt_terms.specs.Connectives.{Kind, negation, operator_kind, opposite}
 use Rattle.smt_terms.specs.Term.{universal, existential, op, Term, apply, quantified, Terms, none, ◌⨾◌, list, over}
 use Rattle.term_table.specs.Formulas.{Formulas, no_tree, tree, tree_in, trees_at, operands, AreNodes}
 use Rattle.term_walk.specs.declared.kept.Place.{Place}
-use Rattle.term_walk.specs.Places.{result_at}
 use Rattle.term_walk.specs.Walking.{GrowsTo, AreRelated}
 use Rattle.normal_forms.specs.declared.connective.Connective.TheVariants.{Not}
 use Rattle.normal_forms.specs.Aig.{inverted, aig, aig_each}
-use Rattle.normal_forms.specs.InvertedNodes.{IsInverted, HasInverted, AreResults}
+use Rattle.normal_forms.specs.InvertedNodes.{IsInverted, HasInverted}
 use Rattle.normal_forms.specs.Nodes.{IsFormula, formula_stays}
 use Rattle.normal_forms.specs.Shape.{IsOfKind, is_quantified, is_universally_quantified, quantifier_seen, variables_of, body_in, term_kind}
+use Rattle.normal_forms.specs.Results.{AreResults}
+use Rattle.normal_forms.proofs.KeptResults.{kids-count, kid-term, each-related, terms-of-results}
 use Rattle.normal_forms.proofs.NodeShapes.{AreOperands, connective-operands}
 
 -- ---- what stands under a `not`
@@ -81,42 +82,20 @@ opposite-terms old new kids ids count each =
 
 -- ---- results, one for each
 
-pub results-push : (ks : List (Place NodeId)) (kids ids new : List NodeId) (n : ℕ) (e r : NodeId) → length ids ≡ n → n < length kids → ((i : ℕ) (d : NodeId) → i < n → result_at ks (get_or kids i d).0 ≡ Some (get_or ids i d)) → result_at ks (get_or kids n e).0 ≡ Some r → new ≡ ids ++ r ∷ [] → (i : ℕ) (d : NodeId) → i < n + 1 → result_at ks (get_or kids i d).0 ≡ Some (get_or new i d)
-results-push ks kids ids new n e r count within each found is i d lt =
-    elim (eqb_tells i n) [
-      | inl same ↦
-          let kid : get_or kids i d ≡ get_or kids n e = ap (λ j. get_or kids j d) same.1 ∙ get_or_default kids n d e within in
-          let last : get_or new i d ≡ r = ap (λ xs. get_or xs i d) is ∙ ap (λ j. get_or (ids ++ r ∷ []) j d) (same.1 ∙ sym count) ∙ get_or-append_seam ids r [] d in
-          ap (λ (k : NodeId). result_at ks k.0) kid ∙ found ∙ ap Some (sym last)
-      | inr apart ↦
-          let below : i < n = let a = apart.1 in omega arith in
-          each i d below ∙ ap Some (sym (ap (λ xs. get_or xs i d) is ∙ get_or-append ids (r ∷ []) d i (omega (arith, count))))
-    ]
-
 module _ (t : Formulas) (u : Term) (ks : List (Place NodeId)) (kids ids : List NodeId) (related : AreRelated HasInverted t ks) (terms_are : trees_at t kids ≡ operands u) (bools : All (λ v. sort_of v ≡ Some bool) (operands u)) (found : AreResults ks kids ids) where
-  kids-count : length kids ≡ length (operands u)
-  kids-count = sym (length-map kids (tree_in t.trees)) ∙ ap length terms_are
-
-  kid-term : (i : ℕ) (d : NodeId) → i < length kids → tree t (get_or kids i d) ≡ get_or (operands u) i no_tree
-  kid-term i d lt = sym (get_or-map (tree_in t.trees) kids i d no_tree lt) ∙ ap (λ us. get_or us i no_tree) terms_are
+  kids-bool : (i : ℕ) (d : NodeId) → i < length kids → sort_of (tree t (get_or kids i d)) ≡ Some bool
+  kids-bool i d lt =
+      let count = kids-count t u kids terms_are in
+      ap sort_of (kid-term t u kids terms_are i d lt) ∙ bools i no_tree (omega (arith, count))
 
   each-inverted : (i : ℕ) (d : NodeId) → i < length kids → IsInverted t (tree t (get_or kids i d)) (get_or ids i d)
-  each-inverted i d lt =
-      let count = kids-count in
-      related.related (get_or kids i d) (get_or ids i d) (found.each i d lt) (ap sort_of (kid-term i d lt) ∙ bools i no_tree (omega (arith, count)))
+  each-inverted i d lt = each-related HasInverted t ks kids ids related found i d lt (kids-bool i d lt)
 
   pub inverted-formulas : All (IsFormula t) ids
   inverted-formulas i d lt = let n = found.number in (each-inverted i d (omega (arith, n))).formula
 
   pub inverted-terms : trees_at t ids ≡ map aig (operands u)
-  inverted-terms =
-      let n = found.number in
-      let count = kids-count in
-      let zero_node : NodeId = record { 0 = 0 } in
-      let ids_count : length (trees_at t ids) ≡ length ids = length-map ids (tree_in t.trees) in
-      let forms_count : length (map aig (operands u)) ≡ length (operands u) = length-map (operands u) aig in
-      ext_get_or no_tree (trees_at t ids) (map aig (operands u)) (omega (arith, n, count, ids_count, forms_count))
-      (λ i lt. get_or-map (tree_in t.trees) ids i zero_node no_tree (omega (arith, ids_count)) ∙ (each-inverted i zero_node (omega (arith, n, ids_count))).term ∙ ap aig (kid-term i zero_node (omega (arith, n, ids_count))) ∙ sym (get_or-map aig (operands u) i no_tree no_tree (omega (arith, n, count, ids_count))))
+  inverted-terms = terms-of-results t u kids ids terms_are found.number aig (λ i d lt. (each-inverted i d lt).term)
 
 -- ---- the definition, by a term's kind
 

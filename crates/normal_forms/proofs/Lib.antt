@@ -11,7 +11,9 @@ pub mod Inside
 mod Inverted
 mod Joined
 mod Kept
+pub mod KeptResults
 mod Keeps
+pub mod LiteralNodes
 pub mod MadeNodes
 pub mod Nnf
 pub mod NnfShape

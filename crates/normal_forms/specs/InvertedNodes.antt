@@ -1,13 +1,11 @@
 -- The and-inverter form of a formula as a node of a table.
-use Rattle.std.specs.Prelude.{◌≡◌, ℕ, ◌<◌, List, length, get_or, Some}
+use Rattle.std.specs.Prelude.{◌≡◌, Some}
 use Rattle.std.proofs.Common.{◌∙◌}
 use Rattle.smt_terms.specs.declared.ids.NodeId.{NodeId}
 use Rattle.smt_terms.specs.Sorts.{bool}
 use Rattle.smt_terms.specs.Rank.{sort_of}
 use Rattle.smt_terms.specs.Term.{Term}
 use Rattle.term_table.specs.Formulas.{Formulas, no_tree, tree}
-use Rattle.term_walk.specs.declared.kept.Place.{Place}
-use Rattle.term_walk.specs.Places.{result_at}
 use Rattle.term_walk.specs.Walking.{GrowsTo}
 use Rattle.normal_forms.specs.Aig.{aig}
 use Rattle.normal_forms.specs.Nodes.{IsFormula, formula_stays}
@@ -28,8 +26,3 @@ inverted_stays old new u k grows has is =
       formula = formula_stays old new k grows f.formula;
       term = grows.trees.same k.0 no_tree f.formula.node ∙ f.term;
     }
-
--- the results of these nodes, one for each
-pub record AreResults (ks : List (Place NodeId)) (kids ids : List NodeId) : Type 0 where
-  pub number : length ids ≡ length kids
-  pub each : (i : ℕ) (d : NodeId) → i < length kids → result_at ks (get_or kids i d).0 ≡ Some (get_or ids i d)

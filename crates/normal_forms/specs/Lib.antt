@@ -2,8 +2,10 @@ pub mod Aig
 pub mod FormNodes
 pub mod InvertedNodes
 pub mod Laws
+pub mod Literals
 pub mod Nnf
 pub mod Nodes
 pub mod Prenex
 pub mod Quantifiers
+pub mod Results
 pub mod Shape

@@ -13,23 +13,23 @@
 //! - `(forall (x) a)`: itself over the form of a, and so `exists`
 //! - `true`, `false`, an atom: itself
 
-ghost use Rattle.std.specs.Prelude.{◌≡◌, ◌∷◌, [], ◌+◌, ◌≤◌, length, map, true, All, IsSome, IsTrue, IfOk};
+ghost use Rattle.std.specs.Prelude.{◌≡◌, ◌∷◌, [], ◌+◌, ◌≤◌, length, map, true, All, IsTrue, IfOk};
 ghost use Rattle.smt_terms.specs.Connectives.{all_of, opposite};
 ghost use Rattle.smt_terms.specs.Shapes.{is_aig};
 ghost use Rattle.smt_terms.specs.Term.{Term};
 ghost use Rattle.term_table.specs.Formulas.{tree, trees_at, operands, IsNode};
-ghost use Rattle.term_walk.specs.Places.{result_at};
 ghost use Rattle.term_walk.specs.Subterms.{all_subterms, places};
 ghost use Rattle.term_walk.specs.Walking.{GrowsTo, AreRelated, Fits, HaveResults};
 ghost use Rattle.normal_forms.specs.Aig as plain;
 ghost use Rattle.normal_forms.specs.Nodes.{IsFormula};
 ghost use Rattle.normal_forms.specs.Shape.{Takes, IsOfKind, kind_seen, is_quantified};
-ghost use Rattle.normal_forms.specs.InvertedNodes.{IsInverted, HasInverted, AreResults};
+ghost use Rattle.normal_forms.specs.InvertedNodes.{IsInverted, HasInverted};
 
 use crate::binding::{bind, body_of, is_universal};
 use crate::connective::{Connective, Shape};
 use crate::making::{conjunction, truth};
 use crate::opposites::{choice, implication, opposite, opposites, same_sides};
+use crate::results::results_of;
 use crate::shapes::{is_formula, shape_of};
 use smt_terms::NodeId;
 use std::alloc::{AllocError, Global};
@@ -109,23 +109,6 @@ fn inverted(
         Connective::Distinct => all_differ(table, ids),
         Connective::Ite => choice(table, ids[0], ids[1], ids[2]),
     }
-}
-
-// The results of these nodes.
-fn results_of(
-    alloc: Global,
-    kept: &Kept<NodeId>,
-    kids: &[NodeId],
-) -> Result<Vec<NodeId>, AllocError>
-    requires { All (λ k. IsSome (result_at kept.now k.0)) kids.now }
-    ensures { IfOk result (λ ks. AreResults kept.now kids.now ks.items) }
-{
-    let mut results = Vec::with_capacity(alloc, kids.len())?;
-    for kid in kids {
-        let found = *kept.get(*kid).unwrap();
-        results.push(found)?;
-    }
-    Ok(results)
 }
 
 // The forms of a connective's operands.

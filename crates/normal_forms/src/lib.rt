@@ -5,13 +5,16 @@
 
 pub mod and_inverter_form;
 pub mod binding;
+pub mod comparing;
 mod connective;
 mod forms;
 pub mod laws;
+pub mod literals;
 pub mod making;
 pub mod negation_normal_form;
 pub mod node_forms;
 pub mod opposites;
+pub mod results;
 pub mod room;
 pub mod shapes;
 #[cfg(test)]

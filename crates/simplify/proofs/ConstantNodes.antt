@@ -1,4 +1,4 @@
--- The constant of a node, by its operator, and the node of a constant.
+-- The constant of a node, by its operator.
 use Rattle.std.proofs.Common.{◌≡◌, ℕ, ◌+◌, ◌-◌, ◌/◌, ◌^◌, ◌<◌, ◌≤◌, ◌==◌, ◌↔◌, Bool, true, false, ℤ, List, [], ◌∷◌, Option, Some, None, Ok, is_ok, refl, ap, sym, ◌∙◌, arith, of_z, to_z, FitsSigned}
 use Rattle.std.specs.Int.{w128}
 use Rattle.std.specs.Prelude.{unsigned_abs}
@@ -25,15 +25,6 @@ use Rattle.smt_values.specs.declared.scalar.Scalar.TheVariants as scalar
 use Rattle.term_table.specs.Formulas.{Formulas, tree, operands, Kind, theory, applied, filled, binder, kind, kind_term, term_over, Makes, AreNodes}
 use Rattle.term_table.proofs.Operators.{kind-theory}
 use Rattle.simplify.specs.Folding.{bits_pass}
-use Rattle.simplify.specs.Scalars.{literal_of}
-use Rattle.simplify.proofs.ConstantTests.{truth_term_of, whole_term_of, bits_term_of}
-
--- ---- nodes by their numbers
-
-pub same-number : (t : Formulas) (a b : NodeId) → (a ≡ b) ↔ (tree t a ≡ tree t b) → (a.0 == b.0) ≡ term_eq (tree t a) (tree t b)
-same-number t a b law = alike_from (a.0 == b.0) (term_eq (tree t a) (tree t b))
-    (λ h. let same : a.0 ≡ b.0 = (Decides-eqb a.0 b.0).0 h in (Decides-term_eq (tree t a) (tree t b)).1 (law.0 (λ i. record { 0 = same i })))
-    (λ h. (Decides-eqb a.0 b.0).1 (ap (λ (k : NodeId). k.0) (law.1 ((Decides-term_eq (tree t a) (tree t b)).0 h))))
 
 -- ---- a node with a value is a constant
 
@@ -109,32 +100,3 @@ ones-number w le =
     let shifted : 340282366920938463463374607431768211455 / 2 ^ (128 - w) ≡ 2 ^ w - 1 = ones_shr 128 (128 - w) place ∙ ap (λ k. 2 ^ k - 1) width in
     let some : 0 < 2 ^ w = pow_pos w in
     omega (arith, shifted, some)
-
--- ---- the node of a constant
-
-no-nodes : (t : Formulas) → AreNodes t []
-no-nodes t i d lt = absurd (omega arith)
-
-literal-ranked : (k : Scalar) → IsScalar k → rank (op (literal_of k)) [] ≡ Ok (scalar_sort k)
-unfolding shape
-literal-ranked (scalar.Truth b) fine = let narrow : width bool ≤ most_bits = omega arith in takes-rank (op (Truth b)) [] bool (refl, refl) narrow
-literal-ranked (scalar.Whole n) fine = let narrow : width int ≤ most_bits = omega arith in takes-rank (op (Whole n)) [] int (refl, fine, refl) narrow
-literal-ranked (scalar.Bits w n) fine = let some : 1 ≤ w = fine.0 in let more : 0 < w = omega arith in takes-rank (op (Bits w n)) [] (bit_vector w) (refl, more, fine.2, refl) fine.1
-
-literal-kind : (k : Scalar) → kind (literal_of k) ≡ theory (literal_of k)
-unfolding kind
-literal-kind (scalar.Truth b) = refl
-literal-kind (scalar.Whole n) = refl
-literal-kind (scalar.Bits w n) = refl
-
-pub makes-literal : (t : Formulas) (k : Scalar) → IsScalar k → Makes t (literal_of k) []
-unfolding kind is_minus_of
-makes-literal t (scalar.Truth b) fine = record { kids = no-nodes t; numbers = tt; ranked = ap is_ok (literal-ranked (scalar.Truth b) fine); minus = refl }
-makes-literal t (scalar.Whole n) fine = record { kids = no-nodes t; numbers = tt; ranked = ap is_ok (literal-ranked (scalar.Whole n) fine); minus = refl }
-makes-literal t (scalar.Bits w n) fine = record { kids = no-nodes t; numbers = tt; ranked = ap is_ok (literal-ranked (scalar.Bits w n) fine); minus = refl }
-
-pub literal-term : (t : Formulas) (k : Scalar) → IsScalar k → constant_term (scalar_value k) ≡ Some (term_over t (literal_of k) [])
-unfolding kind
-literal-term t (scalar.Truth b) fine = truth_term_of b
-literal-term t (scalar.Whole n) fine = whole_term_of n fine
-literal-term t (scalar.Bits w n) fine = bits_term_of w n fine.2

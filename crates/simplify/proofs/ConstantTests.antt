@@ -148,14 +148,3 @@ module _ (u : Term) (w n : ℕ) (is : constant_value u ≡ Some (bits (nat2bv w 
       (λ h. (Decides-bits_eq (nat2bv w n) (nat2bv w m)).1 (ap (nat2bv w) (f h)))
       (λ h. g (sym number_there ∙ ap bv2nat ((Decides-bits_eq (nat2bv w n) (nat2bv w m)).0 h) ∙ bv2nat-nat2bv w m below))
       ∙ ap (λ k. bits_eq (nat2bv w n) (nat2bv w k)) last ∙ sym ones_there ∙ sym (ap (bits_pass (λ bs. bits_eq bs (ones (length bs)))) is)
-
--- ---- the constant of a scalar
-
-pub truth_term_of : (b : Bool) → constant_term (truth b) ≡ Some (truth_term b)
-truth_term_of b = refl
-
-pub whole_term_of : (n : ℤ) → unsigned_abs n < 2 ^ 127 → constant_term (whole n) ≡ Some (whole_term n)
-whole_term_of n small = ap (λ b. if b then Some (whole_term n) else None) (lt_true (unsigned_abs n) (2 ^ 127) small)
-
-pub bits_term_of : (w n : ℕ) → n < 2 ^ w → constant_term (bits (nat2bv w n)) ≡ Some (bits_term w n)
-bits_term_of w n small = λ i. Some (bits_term (length-nat2bv w n i) (bv2nat-nat2bv w n small i))

@@ -24,9 +24,10 @@ use Rattle.term_table.specs.Formulas.{Formulas, no_tree, no_symbol, tree_in, tre
 use Rattle.term_walk.specs.declared.kept.Place.{Place}
 use Rattle.term_walk.specs.Places.{result_at}
 use Rattle.term_walk.specs.Walking.{AreRelated}
-use Rattle.normal_forms.specs.InvertedNodes.{AreResults}
 use Rattle.normal_forms.specs.Nodes.{IsFormula}
+use Rattle.normal_forms.specs.Results.{AreResults}
 use Rattle.normal_forms.specs.Shape.{is_quantified, is_universally_quantified, quantifier_seen, variables_of, body_in}
+use Rattle.normal_forms.proofs.KeptResults.{each-related, nodes-of-results, terms-of-results}
 use Rattle.simplify.specs.Logic.{quantification}
 use Rattle.simplify.specs.Reduced.{IsOver, IsSimplified}
 use Rattle.simplify.specs.Simplified.{kind_reduced, reduced_over, IsNoBinder}
@@ -35,18 +36,6 @@ use Rattle.simplify.proofs.Reductions.{sort-there}
 use Rattle.simplify.proofs.SimplifyKeeps.{simplify_keeps}
 
 -- ---- results, one for each operand
-
-pub results-push : (ks : List (Place NodeId)) (kids ids new : List NodeId) (n : ℕ) (e r : NodeId) → length ids ≡ n → n < length kids → ((i : ℕ) (d : NodeId) → i < n → result_at ks (get_or kids i d).0 ≡ Some (get_or ids i d)) → result_at ks (get_or kids n e).0 ≡ Some r → new ≡ ids ++ r ∷ [] → (i : ℕ) (d : NodeId) → i < n + 1 → result_at ks (get_or kids i d).0 ≡ Some (get_or new i d)
-results-push ks kids ids new n e r count within each found is i d lt =
-    elim (eqb_tells i n) [
-      | inl same ↦
-          let kid : get_or kids i d ≡ get_or kids n e = ap (λ j. get_or kids j d) same.1 ∙ get_or_default kids n d e within in
-          let last : get_or new i d ≡ r = ap (λ xs. get_or xs i d) is ∙ ap (λ j. get_or (ids ++ r ∷ []) j d) (same.1 ∙ sym count) ∙ get_or-append_seam ids r [] d in
-          ap (λ (k : NodeId). result_at ks k.0) kid ∙ found ∙ ap Some (sym last)
-      | inr apart ↦
-          let below : i < n = let a = apart.1 in omega arith in
-          each i d below ∙ ap Some (sym (ap (λ xs. get_or xs i d) is ∙ get_or-append ids (r ∷ []) d i (omega (arith, count))))
-    ]
 
 pub copied-some : {T : Type 0} (o : Option (Bor T)) → is_some (option_copied o) ≡ true → is_some o ≡ true
 copied-some (Some r) h = refl
@@ -57,27 +46,11 @@ no-operands t [] b e h = refl
 no-operands t (k ∷ ks) b e h = absurd (let none_there : (length (k ∷ ks) == 0) ≡ true = sym e ∙ h in let zero_there : length (k ∷ ks) ≡ 0 = (Decides-eqb (length (k ∷ ks)) 0).0 none_there in omega arith)
 
 module _ (t : Formulas) (u : Term) (ks : List (Place NodeId)) (kids ids : List NodeId) (related : AreRelated IsSimplified t ks) (terms_are : trees_at t kids ≡ operands u) (found : AreResults ks kids ids) where
-  kids-count : length kids ≡ length (operands u)
-  kids-count = sym (length-map kids (tree_in t.trees)) ∙ ap length terms_are
-
-  kid-term : (i : ℕ) (d : NodeId) → i < length kids → tree t (get_or kids i d) ≡ get_or (operands u) i no_tree
-  kid-term i d lt = sym (get_or-map (tree_in t.trees) kids i d no_tree lt) ∙ ap (λ us. get_or us i no_tree) terms_are
-
-  each-simplified : (i : ℕ) (d : NodeId) → i < length kids → IsSimplified t (tree t (get_or kids i d)) (get_or ids i d)
-  each-simplified i d lt = related.related (get_or kids i d) (get_or ids i d) (found.each i d lt)
-
   pub simplified-nodes : AreNodes t ids
-  simplified-nodes i d lt = let n = found.number in (each-simplified i d (omega (arith, n, lt))).node
+  simplified-nodes = nodes-of-results IsSimplified t ks kids ids related found (λ v k is. is.node)
 
   pub simplified-terms : trees_at t ids ≡ map simp (operands u)
-  simplified-terms =
-      let n = found.number in
-      let count = kids-count in
-      let zero_node : NodeId = record { 0 = 0 } in
-      let ids_count : length (trees_at t ids) ≡ length ids = length-map ids (tree_in t.trees) in
-      let forms_count : length (map simp (operands u)) ≡ length (operands u) = length-map (operands u) simp in
-      ext_get_or no_tree (trees_at t ids) (map simp (operands u)) (omega (arith, n, count, ids_count, forms_count))
-      (λ i lt. get_or-map (tree_in t.trees) ids i zero_node no_tree (omega (arith, ids_count, lt)) ∙ (each-simplified i zero_node (omega (arith, n, ids_count, lt))).term ∙ ap simp (kid-term i zero_node (omega (arith, n, ids_count, lt))) ∙ sym (get_or-map simp (operands u) i no_tree no_tree (omega (arith, n, count, ids_count, lt))))
+  simplified-terms = terms-of-results t u kids ids terms_are found.number simp (λ i d lt. (each-related IsSimplified t ks kids ids related found i d lt).term)
 
 -- ---- an operator over simplified operands
 

@@ -1,12 +1,10 @@
 -- Constants at operands, as scalars.
 use Rattle.std.specs.Prelude.{◌≡◌, ◌<◌, List, map, length, All, Some, None}
 use Rattle.smt_terms.specs.declared.op.Op.{Op}
-use Rattle.smt_terms.specs.declared.op.Op.TheVariants.{Truth, Whole, Bits}
 use Rattle.smt_terms.specs.Sorts.{Sort}
 use Rattle.smt_terms.specs.Term.{Term}
 use Rattle.smt_values.specs.Meaning.{scalar_value, scalar_sort, IsScalar}
 use Rattle.smt_values.specs.declared.scalar.Scalar.{Scalar}
-use Rattle.smt_values.specs.declared.scalar.Scalar.TheVariants as scalar
 use Rattle.term_table.specs.Formulas.{sorts_in}
 use Rattle.simplify.specs.Folding.{constant_values, folded}
 
@@ -20,9 +18,3 @@ pub record AreConstants (ts : List Term) (ks : List Scalar) : Type 0 where
 -- not all of the operands are constants, or there is none
 abbrev pub AreUnfolded : List Term → Type 0
 AreUnfolded ts = (o : Op) (ss : List Sort) → folded o ss ts ≡ None
-
--- the operator of a constant
-abbrev pub literal_of : Scalar → Op
-literal_of (scalar.Truth b) = Truth b
-literal_of (scalar.Whole n) = Whole n
-literal_of (scalar.Bits width n) = Bits width n

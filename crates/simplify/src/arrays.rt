@@ -13,7 +13,8 @@ ghost use Rattle.simplify.specs.Arrays as plain;
 ghost use Rattle.simplify.specs.Folding.{two, three};
 ghost use Rattle.simplify.specs.Reduced.{Names, Answers};
 
-use crate::constants::{are_same, constant};
+use crate::constants::constant;
+use normal_forms::comparing::are_same;
 use smt_terms::NodeId;
 use smt_values::Op;
 use std::alloc::AllocError;

@@ -14,7 +14,8 @@ ghost use Rattle.simplify.specs.Folding.{folded, folded_values};
 ghost use Rattle.simplify.specs.Scalars.{AreConstants, AreUnfolded};
 ghost use Rattle.simplify.specs.Reduced.{IsOver, Answers};
 
-use crate::constants::{constant, node_of};
+use crate::constants::constant;
+use normal_forms::literals::node_of;
 use smt_terms::NodeId;
 use smt_values::{Op, Scalar, apply_scalar};
 use std::alloc::{AllocError, Global};

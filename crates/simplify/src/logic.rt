@@ -11,8 +11,9 @@ ghost use Rattle.simplify.specs.Folding as plain;
 ghost use Rattle.simplify.specs.Logic as logic;
 ghost use Rattle.simplify.specs.Reduced.{Answers, IsOver};
 
-use crate::constants::{are_same, is_truth};
+use crate::constants::is_truth;
 use crate::operands::{once, only_operand};
+use normal_forms::comparing::are_same;
 use normal_forms::making::truth;
 use normal_forms::opposites::opposite;
 use normal_forms::shapes::is_formula;

@@ -17,7 +17,9 @@ ghost use Rattle.simplify.specs.Gathering.{Gathers, IsWhole, is_other, combined_
 ghost use Rattle.simplify.specs.NodesOfSorts.{IsNumber};
 ghost use Rattle.simplify.specs.Reduced.{Names, Answers};
 
-use crate::constants::{are_same, constant, is_whole, node_of};
+use crate::constants::{constant, is_whole};
+use normal_forms::comparing::are_same;
+use normal_forms::literals::node_of;
 use normal_forms::making::truth;
 use smt_terms::NodeId;
 use smt_values::{Op, Scalar, apply_scalar};

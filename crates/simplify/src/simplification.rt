@@ -1,11 +1,10 @@
 //! The simplifier, as a walk from below.
 
-ghost use Rattle.std.specs.Prelude.{◌≡◌, ◌+◌, ◌≤◌, ◌∷◌, [], map, true, false, All, IsSome, IfOk, OnOk};
+ghost use Rattle.std.specs.Prelude.{◌≡◌, ◌+◌, ◌≤◌, ◌∷◌, [], map, true, false, IfOk, OnOk};
 ghost use Rattle.term_table.specs.Formulas.{tree, trees_at, operands, IsNode, AreNodes};
-ghost use Rattle.term_walk.specs.Places.{result_at, results};
+ghost use Rattle.term_walk.specs.Places.{results};
 ghost use Rattle.term_walk.specs.Subterms.{all_subterms, places};
 ghost use Rattle.term_walk.specs.Walking.{GrowsTo, AreRelated, Fits, Stay, GainsBelow, HaveResults, AllHaveResults};
-ghost use Rattle.normal_forms.specs.InvertedNodes.{AreResults};
 ghost use Rattle.normal_forms.specs.Shape.{is_quantified};
 ghost use Rattle.simplify.specs.Reduced.{IsOver, IsSimplified};
 ghost use Rattle.simplify.specs.Simplified.{reduced_over, IsNoBinder};
@@ -14,6 +13,7 @@ ghost use Rattle.simplify.specs.Simplify.{simp};
 use crate::quantifying::quantified_form;
 use crate::reduction::reduce;
 use normal_forms::binding::body_of;
+use normal_forms::results::results_of;
 use quantifier_forms::rebuilding::is_binder;
 use smt_terms::NodeId;
 use smt_values::Op;
@@ -22,23 +22,6 @@ use std::sync::ledger::Ledger;
 use term_table::{Table, know_table};
 use term_walk::walks::walk;
 use term_walk::{Kept, NodeStep, Steps};
-
-// The results of these nodes.
-fn results_of(
-    alloc: Global,
-    kept: &Kept<NodeId>,
-    kids: &[NodeId],
-) -> Result<Vec<NodeId>, AllocError>
-    requires { All (λ k. IsSome (result_at kept.now k.0)) kids.now }
-    ensures { IfOk result (λ ks. AreResults kept.now kids.now ks.items) }
-{
-    let mut results = Vec::with_capacity(alloc, kids.len())?;
-    for kid in kids {
-        let found = *kept.get(*kid).unwrap();
-        results.push(found)?;
-    }
-    Ok(results)
-}
 
 // The simplified operands of a node.
 fn simplified_operands(

@@ -9,7 +9,9 @@ ghost use Rattle.simplify.specs.NodesOfSorts.{IsVector};
 ghost use Rattle.simplify.specs.Reduced.{Names, Answers};
 ghost use Rattle.simplify.specs.Vectors as vectors;
 
-use crate::constants::{all_ones, are_same, is_bits, is_ones, node_of};
+use crate::constants::{all_ones, is_bits, is_ones};
+use normal_forms::comparing::are_same;
+use normal_forms::literals::node_of;
 use smt_terms::NodeId;
 use smt_values::{Op, Scalar};
 use std::alloc::AllocError;

@@ -28,7 +28,7 @@ term_of-returns-in_ok-id-in-Scalar-clause-term t c =
     let sizes = c.requires.value.0 in
     let same = scalar-sort c.in-Scalar.scalar s sizes (subst (λ v. is_value s sizes (meaning v) ≡ true) c.in-Scalar.is c.requires.value.1.valid) in
     let is = sym c.in-Scalar.is in
-    c.in_ok-id-in-Scalar.ensures.term ∙ sym (scalar-term c.in-Scalar.scalar) ∙ (λ x. value_term (same x) (meaning (is x)))
+    sym c.in_ok-id-in-Scalar.ensures.term ∙ sym (scalar-term c.in-Scalar.scalar) ∙ (λ x. value_term (same x) (meaning (is x)))
 
 pub term_of-returns-in-Element-clause-term : goal.term_of-returns-in-Element-clause-term
 term_of-returns-in-Element-clause-term t c =

@@ -5,7 +5,7 @@ use Rattle.smt_terms.proofs.Equal.{Decides-term_eq}
 use Rattle.smt_terms.proofs.Tests.{alike_from}
 use Rattle.std.proofs.lemmas.Bool.Decides.{Decides-eqb}
 use Rattle.term_table.specs.Formulas.{tree}
-use Rattle.array_forms.proofs.reading.are_same.Goals as goal
+use Rattle.normal_forms.proofs.comparing.are_same.Goals as goal
 
 pub returns : goal.returns
 returns c =

@@ -1,8 +1,8 @@
 use Rattle.std.proofs.Common.{◌≡◌, ◌+◌, [], ◌∷◌, length, get_or, Some, option_copied, ap, sym, ◌∙◌, arith, length-append}
 use Rattle.smt_terms.specs.declared.ids.NodeId.{NodeId}
 use Rattle.term_walk.specs.Places.{result_at}
-use Rattle.normal_forms.proofs.Inverted.{results-push}
-use Rattle.normal_forms.proofs.and_inverter_form.results_of.Goals as goal
+use Rattle.normal_forms.proofs.KeptResults.{results-push}
+use Rattle.normal_forms.proofs.results.results_of.Goals as goal
 
 pub loop-kid-preserved : goal.loop-kid-preserved
 loop-kid-preserved c =

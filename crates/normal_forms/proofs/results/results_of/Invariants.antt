@@ -1,7 +1,7 @@
 use Rattle.std.proofs.Common.{◌≡◌, ℕ, ◌<◌, length, get_or, Some}
 use Rattle.smt_terms.specs.declared.ids.NodeId.{NodeId}
 use Rattle.term_walk.specs.Places.{result_at}
-use Rattle.normal_forms.proofs.and_inverter_form.results_of.Given as goal
+use Rattle.normal_forms.proofs.results.results_of.Given as goal
 
 abbrev pub invariant-loop-kid : goal.invariant-loop-kid
 invariant-loop-kid l = record {
