@@ -1,1 +1,32 @@
+mod Answering
+mod AskedRules
+mod BitRules
+mod CellsKept
+pub mod DrawnFrom
+mod EightRewrite
+mod ExclusiveRules
+mod Fillings
+mod Holes
+mod HolesInOrder
+mod LogicRules
+mod MadeTerms
+mod OperandsSeen
+mod PlacedNodes
+mod Powers
+mod PowersOfTwo
+mod PowersRead
+mod Replacing
+mod RewritesKeep
+mod RewritingKeeps
+pub mod RewritingLaw
 mod Rows
+mod RuleAnswers
+mod RuledTerms
+mod RuleSteps
+mod ShownOperators
+mod SortedPlaces
+mod TemplateLaws
+mod ViewCells
+mod ViewLaws
+mod ViewRanks
+mod ViewValues

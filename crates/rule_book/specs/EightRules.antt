@@ -1,11 +1,12 @@
 -- The eight rules: which views show a rule's left side, and the template that is its right side. The operators are those of
 -- SMT-LIB 2.6, theories Core, Ints and FixedSizeBitVectors and logic QF_BV.
 use Rattle.std.specs.Prelude.{ℕ, zero, suc, ◌-◌, ◌^◌, Bool, false, ◌&&◌, ◌==◌, nat_le, if◌then◌else◌, List, [], ◌∷◌, map, Option, Some, None, codes}
-use Rattle.std.specs.List.{list_any}
+use Rattle.std.specs.List.{list_any, list_all}
 use Rattle.smt_terms.specs.declared.op.Op.{Op}
 use Rattle.smt_terms.specs.declared.op.Op.TheVariants.{Bits, Not, And, Or, Xor, Ite, Sub, Neg, Add, BvAnd, BvMul, BvUdiv, BvUrem, BvShl, BvLshr}
 use Rattle.smt_terms.specs.Sorts.{Name}
 use Rattle.smt_terms.specs.Equal.{name_eq, op_eq}
+use Rattle.smt_terms.specs.Free.{name_among}
 use Rattle.rule_book.specs.View.{TermCell, TermView}
 use Rattle.rule_book.specs.Template.{hole, literal, applied, Template}
 use Rattle.rule_book.specs.Soundness.{Answers, cells_under}
@@ -132,6 +133,10 @@ the_eight =
 
 abbrev pub eight_names : List Name
 eight_names = map (λ r. r.name) the_eight
+
+-- each of the names is one of the eight
+abbrev pub all_eight : List Name → Bool
+all_eight ns = list_all (λ n. name_among eight_names n) ns
 
 abbrev pub answer_of : List NamedRule → Name → Answers
 answer_of [] n v = None

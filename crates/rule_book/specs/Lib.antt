@@ -1,5 +1,15 @@
 pub mod EightRules
+pub mod Facts
+pub mod Filling
+pub mod OneAnswer
+pub mod Operands
+pub mod Placed
+pub mod Rewriting
 pub mod Ruled
+pub mod RuledNodes
+pub mod RuleLaws
+pub mod Seen
 pub mod Soundness
 pub mod Template
+pub mod Told
 pub mod View

@@ -3,3 +3,20 @@
 //! shown, so a formula keeps its value whatever rules are in the book.
 
 #![tactic(auto)]
+
+mod applying;
+mod book;
+pub mod eight_rules;
+mod filling;
+pub mod laws;
+mod templates;
+mod viewing;
+mod views;
+
+pub use applying::apply;
+pub use book::{AddFault, Named, Rule, RuleBook};
+pub use templates::{Parts, Piece, Tmpl};
+pub use views::{Cell, Cells, View};
+
+#[cfg(test)]
+mod tests;
