@@ -20,7 +20,19 @@ use Rattle.passes.specs.Laws.{keeps_values, IsReady, AreEquivalent, KeepsCommand
 use Rattle.passes.specs.Passed.{Way, apply_pass, passed}
 use Rattle.passes.proofs.Assertions.{Rule, FormLaws, rule_of}
 use Rattle.passes.proofs.Literals.{same_literals}
-use Rattle.passes.proofs.Walked.{Walked, walked, all_like, keeps_own}
+use Rattle.passes.proofs.PassTurns.{pass_turns}
+use Rattle.passes.proofs.Walked.{Walked, EachTurnsInto, walked, all_like, keeps_own}
+
+-- ---- commands, one by one
+
+pub turned_keep : (cs ds : List (Command Term)) (s r : Supply) → EachTurnsInto cs s ds r → IsReady cs s → KeepsCommands cs (ds, r)
+turned_keep cs ds s r turns ready =
+    let out : Walked cs false start s ds r = walked cs s r ds turns false start start refl ready.printable ready.names in
+    let same : Alike Term Term Keeps cs ds = alike Term Term Keeps cs ds out.like in
+    record {
+      ready = record { printable = out.printable; names = out.names };
+      equivalent = record { kinds = sym same.kinds; signatures = λ k. sym (same.signatures k); live = same.live; literals = same_literals cs ds out.literals };
+    }
 
 -- ---- one pass
 
@@ -28,14 +40,7 @@ abbrev first_way : Supply → Way
 first_way s = record { levels = one_level; names = s }
 
 by_rule : (p : Pass) → Rule p → (cs : List (Command Term)) (s : Supply) → IsReady cs s → KeepsCommands cs (apply_pass p cs s)
-by_rule p rule cs s ready =
-    let ds : List (Command Term) = (apply_pass p cs s).0 in
-    let out : Walked cs false start s (apply_pass p cs s).0 (apply_pass p cs s).1 = walked p rule cs (first_way s) false start start refl ready.printable ready.names in
-    let same : Alike Term Term Keeps cs (apply_pass p cs s).0 = alike Term Term Keeps cs ds out.like in
-    record {
-      ready = record { printable = out.printable; names = out.names };
-      equivalent = record { kinds = sym same.kinds; signatures = λ k. sym (same.signatures k); live = same.live; literals = same_literals cs ds out.literals };
-    }
+by_rule p rule cs s ready = turned_keep cs (apply_pass p cs s).0 s (apply_pass p cs s).1 (pass_turns p rule cs (first_way s)) ready
 
 pub pass_keeps : FormLaws → PassKeepsCommands
 pass_keeps laws p cs s is ready = by_rule p (rule_of laws p is) cs s ready
@@ -63,7 +68,7 @@ each_then [] (u ∷ us) ws h k = absurd h
 each_then (t ∷ ts) [] ws h k = absurd h
 each_then (t ∷ ts) (u ∷ us) [] h k = absurd k
 
-equivalent_then : (cs ds es : List (Command Term)) → AreEquivalent cs ds → AreEquivalent ds es → AreEquivalent cs es
+pub equivalent_then : (cs ds es : List (Command Term)) → AreEquivalent cs ds → AreEquivalent ds es → AreEquivalent cs es
 equivalent_then cs ds es h k = record {
   kinds = k.kinds ∙ h.kinds;
   signatures = λ n. k.signatures n ∙ h.signatures n;
@@ -71,7 +76,7 @@ equivalent_then cs ds es h k = record {
   literals = λ n. k.literals n ∙ h.literals n;
 }
 
-equivalent_itself : (cs : List (Command Term)) (s : Supply) → IsReady cs s → AreEquivalent cs cs
+pub equivalent_itself : (cs : List (Command Term)) (s : Supply) → IsReady cs s → AreEquivalent cs cs
 equivalent_itself cs s ready =
     let same : Alike Term Term Keeps cs cs = alike Term Term Keeps cs cs (all_like Keeps keeps_own cs false start ready.printable) in
     record { kinds = refl; signatures = λ k. refl; live = same.live; literals = λ k. refl }

@@ -5,10 +5,15 @@ pub mod Literals
 pub mod PassAfterPass
 mod ModelsCarried
 mod ModelsStay
+pub mod OnePass
 mod Outlines
+mod PassTurns
 mod ReadsInside
 pub mod Rewritable
+mod RewritesInside
 pub mod RewrittenCommands
+pub mod RuledCommands
+mod RulesKeep
 pub mod RunnableLists
 mod Rows
 mod SimplifiesInside

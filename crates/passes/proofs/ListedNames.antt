@@ -1,14 +1,15 @@
 -- A list of names, taken one after the other.
 use Rattle.std.proofs.Common.{◌≡◌, ℕ, suc, ◌+◌, ◌<◌, ◌≤◌, ◌&&◌, Bool, true, false, cond, eqb, nat_lt, List, [], ◌∷◌, ◌++◌, map, drop, length, get_or, Option, Some, None, Ok, Err, refl, sym, ap, ◌∙◌, arith, add-one, append-nil, append_assoc, true≢false}
 use Rattle.std.specs.Str.{bytes_eq}
-use Rattle.std.specs.List.{list_all, slice_split, onto_first as first_onto}
+use Rattle.std.specs.List.{list_all, list_any, slice_split, onto_first as first_onto}
 use Rattle.std.proofs.Math.Seq.{drop-cons}
 use Rattle.std.proofs.lemmas.Bool.Decides.{nat_tests}
 use Rattle.std.proofs.lemmas.List.{drop_all, get_or-map, length-append, length-map}
 use Rattle.smt_terms.specs.Sorts.{Name}
-use Rattle.passes.specs.Lists.{all_known, between_commas, can_run, groups_after_rules, in_order, listed, onto_first, pass_among, pass_named, passes_named, with_pass}
+use Rattle.smt_terms.proofs.Tests.{both_true, or_false}
+use Rattle.passes.specs.Lists.{all_known, between_commas, can_run, groups_after_rules, in_order, listed, makes_groups, onto_first, pass_among, pass_named, passes_named, with_pass}
 use Rattle.passes.specs.declared.names.Pass.{Pass}
-use Rattle.passes.specs.declared.names.Pass.TheVariants.{Simplify, Nnf, Aig, Prenex, Reads, Shannon, SelfSub, Rules, Ite, Cnf, Ackermann}
+use Rattle.passes.specs.declared.names.Pass.TheVariants.{Rules, Ite, Cnf, Ackermann}
 use Rattle.passes.specs.declared.names.ListFault.TheVariants.{BadPass, AfterRules}
 
 -- ---- what stands between commas, in the words of `split`
@@ -64,20 +65,23 @@ one_not_run (q ∷ ps) qs p not_run = go (can_run q) (one_not_run ps qs p not_ru
     go true rest = rest
     go false rest = refl
 
--- passes that can be run stand behind no stored rules
-no_rules : (ps : List Pass) → list_all can_run ps ≡ true → groups_after_rules ps ≡ false
-no_rules [] run = refl
-no_rules (Simplify ∷ ps) run = no_rules ps run
-no_rules (Nnf ∷ ps) run = no_rules ps run
-no_rules (Aig ∷ ps) run = no_rules ps run
-no_rules (Prenex ∷ ps) run = no_rules ps run
-no_rules (Reads ∷ ps) run = no_rules ps run
-no_rules (Shannon ∷ ps) run = no_rules ps run
-no_rules (SelfSub ∷ ps) run = no_rules ps run
-no_rules (Rules ∷ ps) run = absurd (true≢false (sym run))
-no_rules (Ite ∷ ps) run = absurd (true≢false (sym run))
-no_rules (Cnf ∷ ps) run = absurd (true≢false (sym run))
-no_rules (Ackermann ∷ ps) run = absurd (true≢false (sym run))
+-- passes that can be run make no groups, so none that does stands behind stored rules
+makes_none : (p : Pass) → can_run p ≡ true → makes_groups p ≡ false
+makes_none Ite run = absurd (true≢false (sym run))
+makes_none Cnf run = absurd (true≢false (sym run))
+makes_none Ackermann run = absurd (true≢false (sym run))
+makes_none _ run = refl
+
+none_make : (ps : List Pass) → list_all can_run ps ≡ true → list_any makes_groups ps ≡ false
+none_make [] run = refl
+none_make (p ∷ ps) run =
+    let parts = both_true (can_run p) (list_all can_run ps) run in
+    or_false (makes_groups p) (list_any makes_groups ps) (makes_none p parts.0) (none_make ps parts.1)
+
+none_after_rules : (ps : List Pass) → list_all can_run ps ≡ true → groups_after_rules ps ≡ false
+none_after_rules [] run = refl
+none_after_rules (Rules ∷ ps) run = none_make ps run
+none_after_rules (p ∷ ps) run = none_after_rules ps (both_true (can_run p) (list_all can_run ps) run).1
 
 -- whatever their number
 refused : (ns : List Name) → all_known can_run (passes_named ns) ≡ Err BadPass → listed can_run ns ≡ Err BadPass
@@ -125,7 +129,7 @@ all_taken ns k ps end t =
     sym (ap (λ b. cond b (Err BadPass) (all_known can_run (passes_named ns))) few
     ∙ ap (all_known can_run) known
     ∙ ap (λ b. cond b (in_order ps) (Err BadPass)) t.run
-    ∙ ap (λ b. cond b (Err AfterRules) (Ok ps)) (no_rules ps t.run))
+    ∙ ap (λ b. cond b (Err AfterRules) (Ok ps)) (none_after_rules ps t.run))
 
 -- ---- passes by their names, one place after the other
 

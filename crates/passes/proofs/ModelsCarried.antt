@@ -1,4 +1,5 @@
--- Models of the commands behind passes are models of those before them, and the other way round.
+-- Models of commands are models of equivalent ones, and so those behind passes are models of those before them, and the other way
+-- round.
 use Rattle.std.proofs.Common.{◌≡◌, ◌∙◌, sym, ℕ, false, ◌&&◌, List, subst}
 use Rattle.std.specs.List.{list_all}
 use Rattle.smt_terms.specs.Fresh.{Supply}
@@ -7,7 +8,7 @@ use Rattle.smt_terms.specs.Term.{Term}
 use Rattle.script_read.specs.Commands.{Command, Signature, start, live, signature}
 use Rattle.script_read.specs.Satisfied.{is_true_in, sat}
 use Rattle.smt_print.proofs.LikePoints.{alike}
-use Rattle.passes.specs.Laws.{IsReady, AreEquivalent, PassesKeepCommands, PassesLeaveModels, IsModelOf, PassesCarryModels}
+use Rattle.passes.specs.Laws.{IsReady, AreEquivalent, PassesKeepCommands, PassesLeaveModels, IsModelOf, CarriesModels, EquivalentsHaveOneModel, PassesCarryModels}
 use Rattle.passes.specs.Passed.{passed}
 use Rattle.passes.proofs.Literals.{IsFormula}
 use Rattle.passes.proofs.Truths.{AreFormulas, truths_kept}
@@ -35,12 +36,19 @@ forward cs ds k formulas same m is = record {
   sat = sym (sat_alike cs ds k formulas same m is.over.valid) ∙ is.sat;
 }
 
+pub one_model : EquivalentsHaveOneModel
+one_model cs ds s ready same = record {
+  kinds = same.kinds;
+  back = λ k m is. backward cs ds k (live_formulas cs s ready k) same m is;
+  forth = λ k m is. forward cs ds k (live_formulas cs s ready k) same m is;
+}
+
 pub passes_carry : PassesKeepCommands → PassesLeaveModels → PassesCarryModels
 passes_carry kept stay ps cs s all ready =
     let ds : List (Command Term) = (passed ps cs s).0 in
-    let same : AreEquivalent cs (passed ps cs s).0 = (kept ps cs s all ready).equivalent in
+    let carries : CarriesModels cs (passed ps cs s).0 (λ k m. m) (λ k m. m) = one_model cs ds s ready (kept ps cs s all ready).equivalent in
     record {
-      kinds = same.kinds;
-      back = λ k m is. subst (IsModelOf cs k) (sym (stay ps cs s all k m).0) (backward cs ds k (live_formulas cs s ready k) same m is);
-      forth = λ k m is. subst (IsModelOf ds k) (sym (stay ps cs s all k m).1) (forward cs ds k (live_formulas cs s ready k) same m is);
+      kinds = carries.kinds;
+      back = λ k m is. subst (IsModelOf cs k) (sym (stay ps cs s all k m).0) (carries.back k m is);
+      forth = λ k m is. subst (IsModelOf (passed ps cs s).0 k) (sym (stay ps cs s all k m).1) (carries.forth k m is);
     }

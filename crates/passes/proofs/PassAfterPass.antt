@@ -1,46 +1,60 @@
 -- A list of passes goes from the first to the last.
-use Rattle.std.proofs.Common.{◌≡◌, ◌∙◌, sym, ap, subst, ℕ, suc, ◌+◌, ◌<◌, ◌≤◌, true, List, [], ◌∷◌, drop, length, slice_get, Some, add-one}
-use Rattle.std.specs.List.{list_all}
+use Rattle.std.proofs.Common.{◌≡◌, ◌∙◌, sym, ap, subst, ℕ, suc, ◌+◌, ◌<◌, ◌≤◌, refl, List, [], ◌∷◌, drop, length, slice_get, Some, add-one}
 use Rattle.std.proofs.Math.Seq.{drop-cons}
 use Rattle.std.proofs.lemmas.List.{drop_all}
 use Rattle.std.proofs.lemmas.Option.{slice_get_within, get_or_from_slice_get}
 use Rattle.smt_terms.specs.Fresh.{Supply}
+use Rattle.smt_terms.specs.Sorts.{Name}
 use Rattle.smt_terms.specs.Term.{Term}
 use Rattle.script_read.specs.Commands.{Command}
 use Rattle.passes.specs.declared.names.Pass.{Pass}
-use Rattle.passes.specs.Laws.{IsReady, KeepsCommands, PassKeepsCommands}
-use Rattle.passes.specs.Lists.{can_run}
-use Rattle.passes.specs.Passed.{apply_pass, passed}
-use Rattle.passes.proofs.RunnableLists.{keeps, one_runs}
+use Rattle.passes.specs.declared.names.Pass.TheVariants.{Rules}
+use Rattle.passes.specs.Laws.{IsReady, AreEquivalent, KeepsCommands}
+use Rattle.passes.specs.Led.{LeadsTo}
+use Rattle.passes.proofs.Kept.{equivalent_itself, equivalent_then}
 
-module _ (ps : List Pass) (cs : List (Command Term)) (s : Supply) where
-  -- what the passes from the i-th on make of these commands, all of them make of the first ones
-  pub record IsPassed (i : ℕ) (ds : List (Command Term)) (r : Supply) : Type 0 where
+-- ---- one pass, and then others
+
+module _ (ps : List Pass) (rules : List Name) (ds : List (Command Term)) (r : Supply) where
+  leads_from : (cs es : List (Command Term)) (s q : Supply) → es ≡ cs → q ≡ s → LeadsTo ps es q rules ds r → LeadsTo ps cs s rules ds r
+  leads_from cs es s q e f leads = subst (λ x. LeadsTo ps cs x rules ds r) f (subst (λ x. LeadsTo ps x q rules ds r) e leads)
+
+  first_then : (p : Pass) (cs es : List (Command Term)) (s q : Supply) → LeadsTo (p ∷ []) cs s rules es q → LeadsTo ps es q rules ds r → LeadsTo (p ∷ ps) cs s rules ds r
+  first_then Rules cs es s q first rest = (first.0, (first.1.0, leads_from first.0 es s q first.1.1.0 first.1.1.1 rest))
+  first_then p cs es s q first rest = leads_from _ es _ q first.0 first.1 rest
+
+-- ---- the first passes of a list
+
+module _ (ps : List Pass) (cs : List (Command Term)) (s : Supply) (rules : List Name) where
+  -- the first i passes made these commands: whatever the passes behind them make of these, all of them may make of the first ones
+  pub record IsBehind (i : ℕ) (ds : List (Command Term)) (r : Supply) : Type 0 where
     pub ready : IsReady ds r
-    pub rest : passed (drop i ps) ds r ≡ passed ps cs s
+    pub equivalent : AreEquivalent cs ds
+    pub rest : (es : List (Command Term)) (q : Supply) → LeadsTo (drop i ps) ds r rules es q → LeadsTo ps cs s rules es q
 
-  pub passed_none : IsReady cs s → IsPassed 0 cs s
-  passed_none ready = record { ready = ready; rest = ap (λ qs. passed qs cs s) (drop-none ps) }
+  pub behind_none : IsReady cs s → IsBehind 0 cs s
+  behind_none ready = record {
+    ready = ready;
+    equivalent = equivalent_itself cs s ready;
+    rest = λ es q leads. subst (λ qs. LeadsTo qs cs s rules es q) (drop-none ps) leads;
+  }
     where
       drop-none : (qs : List Pass) → drop 0 qs ≡ qs
-      drop-none [] = λ i. []
-      drop-none (q ∷ qs) = λ i. q ∷ qs
+      drop-none [] = refl
+      drop-none (q ∷ qs) = refl
 
-  pub passed_one : PassKeepsCommands → list_all can_run ps ≡ true → (i : ℕ) (p : Pass) (ds es : List (Command Term)) (r q : Supply) → slice_get ps i ≡ Some p
-      → IsPassed i ds r → es ≡ (apply_pass p ds r).0 → q ≡ (apply_pass p ds r).1 → IsPassed (i + 1) es q
-  passed_one law run i p ds es r q at is commands left =
+  pub behind_one : (i : ℕ) (p : Pass) (ds es : List (Command Term)) (r q : Supply) → slice_get ps i ≡ Some p
+      → IsBehind i ds r → LeadsTo (p ∷ []) ds r rules es q → KeepsCommands ds (es, q) → IsBehind (i + 1) es q
+  behind_one i p ds es r q at is leads kept =
       let within : i < length ps = slice_get_within ps i p at in
       let first : drop i ps ≡ p ∷ drop (suc i) ps = drop-cons ps i p within ∙ ap (λ x. x ∷ drop (suc i) ps) (get_or_from_slice_get ps i p p at) in
-      let kept : KeepsCommands ds (apply_pass p ds r) = law p ds r (keeps p (one_runs ps i p run at)) is.ready in
       record {
-        ready = subst (λ x. IsReady x q) (sym commands) (subst (λ x. IsReady (apply_pass p ds r).0 x) (sym left) kept.ready);
-        rest =
-            (λ j. passed (drop (add-one i j) ps) (commands j) (left j))
-            ∙ ap (λ qs. passed qs ds r) (sym first)
-            ∙ is.rest;
+        ready = kept.ready;
+        equivalent = equivalent_then cs ds es is.equivalent kept.equivalent;
+        rest = λ fs o further.
+            is.rest fs o (subst (λ qs. LeadsTo qs ds r rules fs o) (sym first)
+            (first_then (drop (suc i) ps) rules fs o p ds es r q leads (subst (λ n. LeadsTo (drop n ps) es q rules fs o) (add-one i) further)));
       }
 
-  pub passed_all : (i : ℕ) (ds : List (Command Term)) (r : Supply) → length ps ≤ i → IsPassed i ds r → (ds ≡ (passed ps cs s).0) × (r ≡ (passed ps cs s).1)
-  passed_all i ds r past is =
-      let last = ap (λ qs. passed qs ds r) (sym (drop_all i ps past)) ∙ is.rest in
-      (ap (λ x. x.0) last, ap (λ x. x.1) last)
+  pub behind_all : (i : ℕ) (ds : List (Command Term)) (r : Supply) → length ps ≤ i → IsBehind i ds r → LeadsTo ps cs s rules ds r
+  behind_all i ds r past is = is.rest ds r (subst (λ qs. LeadsTo qs ds r rules ds r) (sym (drop_all i ps past)) (refl, refl))

@@ -43,58 +43,64 @@ is_assert (Some ResetAssertions) id n e = absurd cc
 is_assert (Some (Globals b)) id n e = absurd cc
 is_assert (Some Exit) id n e = absurd cc
 
--- a command that is no assertion
-record IsOther (t : Formulas) (o : Option Command) : Type 0 where
-  command : Command
-  is : o ≡ Some command
-  other : is_assertion (command_of t command) ≡ false
+-- what is found is a command, and no assertion
+pub record IsOther (o : Option (CommandOf Term)) : Type 0 where
+  pub command : CommandOf Term
+  pub is : o ≡ Some command
+  pub other : is_assertion command ≡ false
 
-is_other : (t : Formulas) (o : Option Command) → option_map assertion_of o ≡ Some None → IsOther t o
+is_other : (t : Formulas) (o : Option Command) → option_map assertion_of o ≡ Some None → IsOther (option_map (command_of t) o)
 is_other t None e = absurd cc
-is_other t (Some (Passed text)) e = record { command = Passed text; is = refl; other = refl }
-is_other t (Some (DeclareSort s)) e = record { command = DeclareSort s; is = refl; other = refl }
-is_other t (Some (Declare f)) e = record { command = Declare f; is = refl; other = refl }
 is_other t (Some (Assert k m)) e = absurd cc
-is_other t (Some Check) e = record { command = Check; is = refl; other = refl }
-is_other t (Some (CheckAssuming ids)) e = record { command = CheckAssuming ids; is = refl; other = refl }
-is_other t (Some (Push m)) e = record { command = Push m; is = refl; other = refl }
-is_other t (Some (Pop m)) e = record { command = Pop m; is = refl; other = refl }
-is_other t (Some Reset) e = record { command = Reset; is = refl; other = refl }
-is_other t (Some ResetAssertions) e = record { command = ResetAssertions; is = refl; other = refl }
-is_other t (Some (Globals b)) e = record { command = Globals b; is = refl; other = refl }
-is_other t (Some Exit) e = record { command = Exit; is = refl; other = refl }
+is_other t (Some c) e = record { command = command_of t c; is = refl; other = refl }
 
-module _ (form : Form) (cs : List (CommandOf Term)) (s : Supply) (t : Formulas) (ks : List Command) (i : ℕ) (r : Supply)
-    (few : i < length cs) (numbers : AreCommandsOf t ks) (is : IsUnderWay form cs s i (commands_of t ks) r) where
-  pub other_stays : option_map assertion_of (slice_get ks i) ≡ Some None → IsUnderWay form cs s (i + 1) (commands_of t ks) r
-  other_stays e =
-      let o : IsOther t (slice_get ks i) = is_other t (slice_get ks i) e in
-      kept_step form cs s i (commands_of t ks) r (command_of t o.command) few is (slice_get-map (command_of t) ks i ∙ ap (option_map (command_of t)) o.is) o.other
+-- ---- the command at a place
+
+module _ (t : Formulas) (ks : List Command) (i : ℕ) where
+  pub other_seen : option_map assertion_of (slice_get ks i) ≡ Some None → IsOther (slice_get (commands_of t ks) i)
+  other_seen e = subst IsOther (sym (slice_get-map (command_of t) ks i)) (is_other t (slice_get ks i) e)
 
   module _ (id : NodeId) (n : ℕ) (e : option_map assertion_of (slice_get ks i) ≡ Some (Some (id, n))) where
     found : slice_get ks i ≡ Some (Assert id n)
     found = is_assert (slice_get ks i) id n e
 
-    seen : slice_get (commands_of t ks) i ≡ Some (assert n (tree t id))
+    pub seen : slice_get (commands_of t ks) i ≡ Some (assert n (tree t id))
     seen = slice_get-map (command_of t) ks i ∙ ap (option_map (command_of t)) found
 
+    pub node_there : AreCommandsOf t ks → IsNode t id
+    node_there numbers = all_at (IsCommandOf t) ks i (Assert id n) found numbers
+
+-- ---- another assertion in its place
+
+module _ (t : Formulas) (ks : List Command) (numbers : AreCommandsOf t ks) (u : Formulas) (grows : GrowsTo t u) (i : ℕ) (n : ℕ) (k : NodeId) where
+  pub numbers_then : IsNode u k → AreCommandsOf u (set ks i (Assert k n))
+  numbers_then node = All-set (IsCommandOf u) ks i (Assert k n) node (commands_within t u grows ks numbers)
+
+  pub commands_then : commands_of u (set ks i (Assert k n)) ≡ set (commands_of t ks) i (assert n (tree u k))
+  commands_then = map-set (command_of u) ks i (Assert k n) ∙ ap (λ ds. set ds i (assert n (tree u k))) (commands_stay t u grows ks numbers)
+
+-- ---- forms, one assertion after the other
+
+module _ (form : Form) (cs : List (CommandOf Term)) (s : Supply) (t : Formulas) (ks : List Command) (i : ℕ) (r : Supply)
+    (few : i < length cs) (numbers : AreCommandsOf t ks) (is : IsUnderWay form cs s i (commands_of t ks) r) where
+  pub other_stays : option_map assertion_of (slice_get ks i) ≡ Some None → IsUnderWay form cs s (i + 1) (commands_of t ks) r
+  other_stays e =
+      let o : IsOther (slice_get (commands_of t ks) i) = other_seen t ks i e in
+      kept_step form cs s i (commands_of t ks) r o.command few is o.is o.other
+
+  module _ (id : NodeId) (n : ℕ) (e : option_map assertion_of (slice_get ks i) ≡ Some (Some (id, n))) where
     module _ (ready : AreRewritable cs s) where
       may : IsRewritable s (assert n (tree t id))
-      may = all_at (IsRewritable s) cs i (assert n (tree t id)) (its_own form cs s i (commands_of t ks) r (assert n (tree t id)) few is seen) ready
+      may = all_at (IsRewritable s) cs i (assert n (tree t id)) (its_own form cs s i (commands_of t ks) r (assert n (tree t id)) few is (seen t ks i id n e)) ready
 
       pub formula_there : IsFormula t id
-      formula_there = record { node = all_at (IsCommandOf t) ks i (Assert id n) found numbers; sort = may.0 }
+      formula_there = record { node = node_there t ks i id n e numbers; sort = may.0 }
 
       pub names_there : IsLater s r → GivesNone r (names_within (tree t id))
       names_there later = none_later s r later (names_within (tree t id)) may.1
 
-    module _ (u : Formulas) (k : NodeId) (q : Supply) (grows : GrowsTo t u) where
-      pub numbers_then : IsNode u k → AreCommandsOf u (set ks i (Assert k n))
-      numbers_then node = All-set (IsCommandOf u) ks i (Assert k n) node (commands_within t u grows ks numbers)
-
-      pub replaced : tree u k ≡ (form (tree t id) r).0 → q ≡ (form (tree t id) r).1 → IsUnderWay form cs s (i + 1) (commands_of u (set ks i (Assert k n))) q
-      replaced term left =
-          let there : commands_of u (set ks i (Assert k n)) ≡ set (commands_of t ks) i (assert n (tree u k)) =
-          map-set (command_of u) ks i (Assert k n) ∙ ap (λ ds. set ds i (assert n (tree u k))) (commands_stay t u grows ks numbers) in
-          subst (λ ds. IsUnderWay form cs s (i + 1) ds q) (sym there)
-          (changed_step form cs s i (commands_of t ks) r n (tree t id) (tree u k) q few is seen term left)
+    pub replaced : (u : Formulas) (k : NodeId) (q : Supply) → GrowsTo t u → tree u k ≡ (form (tree t id) r).0 → q ≡ (form (tree t id) r).1
+        → IsUnderWay form cs s (i + 1) (commands_of u (set ks i (Assert k n))) q
+    replaced u k q grows term left =
+        subst (λ ds. IsUnderWay form cs s (i + 1) ds q) (sym (commands_then t ks numbers u grows i n k))
+        (changed_step form cs s i (commands_of t ks) r n (tree t id) (tree u k) q few is (seen t ks i id n e) term left)

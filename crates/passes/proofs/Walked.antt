@@ -1,25 +1,23 @@
--- Commands behind a pass: alike, with the same literals, and printable again.
-use Rattle.std.proofs.Common.{◌≡◌, ◌∙◌, sym, ap, refl, ℕ, Bool, true, ◌&&◌, ◌⊎◌, inl, inr, List, [], ◌∷◌, ◌++◌, map, subst}
+-- Commands that turn into others, one by one: alike, with the same literals, and printable again.
+use Rattle.std.proofs.Common.{◌≡◌, ◌∙◌, sym, ap, refl, ℕ, Bool, true, ◌&&◌, ◌⊎◌, inl, inr, List, [], ◌∷◌, ◌++◌, subst}
 use Rattle.std.specs.Prelude.{flat_map}
 use Rattle.std.specs.List.{list_all}
 use Rattle.smt_terms.specs.Sorts.{Name}
 use Rattle.smt_terms.specs.Term.{Term}
 use Rattle.smt_terms.specs.Free.{name_among}
 use Rattle.smt_terms.specs.Fresh.{Supply, NeverGives}
-use Rattle.smt_terms.specs.Groups.{Group}
 use Rattle.smt_terms.specs.Keeps.{Keeps}
+use Rattle.smt_terms.specs.Rank.{IsWellSorted}
 use Rattle.smt_terms.specs.SubstLaws.{names_within, GivesNone, Later}
 use Rattle.smt_terms.proofs.Keeping.{keeps_itself}
 use Rattle.smt_terms.proofs.Tests.{both_true, and_true}
 use Rattle.normal_forms.proofs.Inside.{in-left, in-right, in-both}
-use Rattle.script_read.specs.Commands.{Command, passed, declare_sort, declare, assert, check, check_assuming, push, pop, reset, reset_assertions, globals, exit, with_asserted, State, after}
+use Rattle.script_read.specs.Commands.{Command, passed, declare_sort, declare, assert, check, check_assuming, push, pop, reset, reset_assertions, globals, exit, State, after}
 use Rattle.script_read.specs.Laws.{names_in_command}
 use Rattle.script_read.specs.Printable.{is_live_literal, may_stand, fixes, may_be_followed, printable_from}
 use Rattle.smt_print.specs.Laws.{Each}
 use Rattle.smt_print.proofs.LikePoints.{LikeCommand, like_passed, like_sort, like_symbol, like_assert, like_check, like_assuming, like_push, like_pop, like_reset, like_emptying, like_globals, like_exit, LikeCommands}
-use Rattle.passes.specs.declared.names.Pass.{Pass}
-use Rattle.passes.specs.Passed.{Way, in_place, Replacement, literal_kept, replaced_by, onward, behind, replacements_from, group_commands, written}
-use Rattle.passes.proofs.Assertions.{Replaces, Rule}
+use Rattle.passes.proofs.Assertions.{Replaces}
 use Rattle.passes.proofs.Literals.{literals_in, literals_before, IsFormula, formula_sorted, sorted_formula, literal_fine}
 use Rattle.passes.proofs.Outlines.{asserts_nothing, outline, same_after, asserted_after, declare_the_same, stands_alike}
 use Rattle.passes.proofs.Standing.{Stands, stands, stands_still}
@@ -30,12 +28,12 @@ LikeTerms cs ds = LikeCommands Term Term Keeps cs ds
 -- ---- the first of commands
 
 -- what is known of a command that may stand first
-record First (begun : Bool) (s : State Term) (c : Command Term) (cs : List (Command Term)) : Type 0 where
-  stands : may_stand begun s c ≡ true
-  followed : may_be_followed c cs ≡ true
-  rest : printable_from (fixes begun c) (after c s) cs ≡ true
+pub record First (begun : Bool) (s : State Term) (c : Command Term) (cs : List (Command Term)) : Type 0 where
+  pub stands : may_stand begun s c ≡ true
+  pub followed : may_be_followed c cs ≡ true
+  pub rest : printable_from (fixes begun c) (after c s) cs ≡ true
 
-first : (begun : Bool) (s : State Term) (c : Command Term) (cs : List (Command Term)) → printable_from begun s (c ∷ cs) ≡ true → First begun s c cs
+pub first : (begun : Bool) (s : State Term) (c : Command Term) (cs : List (Command Term)) → printable_from begun s (c ∷ cs) ≡ true → First begun s c cs
 first begun s c cs h =
     let a = both_true (may_stand begun s c) (may_be_followed c cs && printable_from (fixes begun c) (after c s) cs) h in
     let b = both_true (may_be_followed c cs) (printable_from (fixes begun c) (after c s) cs) a.1 in
@@ -77,10 +75,6 @@ followed exit [] (d ∷ ds) like h = absurd like
 followed exit (c ∷ cs) ds like h = absurd cc
 followed _ cs ds like h = refl
 
-terms_kept : (ls : List Term) → map (λ (r : Replacement). r.term) (map literal_kept ls) ≡ ls
-terms_kept [] = refl
-terms_kept (l ∷ ls) = ap (λ more. l ∷ more) (terms_kept ls)
-
 -- ---- what becomes of commands from a state on, where w are the names that are left before, and left those behind
 
 pub record Walked (cs : List (Command Term)) (begun : Bool) (s : State Term) (w : Supply) (ds : List (Command Term)) (left : Supply) : Type 0 where
@@ -120,83 +114,65 @@ stays begun s t w left c cs ds plain same h given rest = record {
   names = named_later w left c cs ds rest.later given rest.names;
 }
 
--- an assertion, which gives way
-gives_way : (begun : Bool) (s t : State Term) (w : Supply) (r : Group × Way) (left : Supply) (i : ℕ) (a : Term) (cs ds : List (Command Term)) → outline s ≡ outline t → First begun s (assert i a) cs → Stands s a → GivesNone w (flat_map names_in_command (assert i a ∷ cs))
-    → (u : Replaces a w r)
-    → Walked cs true (after (assert i u.term) t) r.1.names ds left → Walked (assert i a ∷ cs) begun t w (assert i u.term ∷ ds) left
-gives_way begun s t w r left i a cs ds same h stand given u rest = record {
-  like = (like_assert i i a u.term u.kept.keeps, rest.like);
+-- an assertion, in the place of which another one comes
+gives_way : (begun : Bool) (s t : State Term) (w r left : Supply) (i : ℕ) (a u : Term) (cs ds : List (Command Term)) → outline s ≡ outline t → First begun s (assert i a) cs → Stands s a → GivesNone w (flat_map names_in_command (assert i a ∷ cs))
+    → Replaces a u w r
+    → Walked cs true (after (assert i u) t) r ds left → Walked (assert i a ∷ cs) begun t w (assert i u ∷ ds) left
+gives_way begun s t w r left i a u cs ds same h stand given by rest = record {
+  like = (like_assert i i a u by.kept.keeps, rest.like);
   literals = rest.literals;
-  printable = prints begun t (assert i u.term) ds (record {
-    stands = stands_still begun s t (declare_the_same s t same) i a u.term u.kept stand;
+  printable = prints begun t (assert i u) ds (record {
+    stands = stands_still begun s t (declare_the_same s t same) i a u by.kept stand;
     followed = refl;
     rest = rest.printable;
   });
-  later = λ n never. rest.later n (u.later n never);
-  names = λ n among. go n (in-both (names_within u.term) (flat_map names_in_command ds) n among);
+  later = λ n never. rest.later n (by.later n never);
+  names = λ n among. go n (in-both (names_within u) (flat_map names_in_command ds) n among);
 }
   where
-    go : (n : Name) → (name_among (names_within u.term) n ≡ true) ⊎ (name_among (flat_map names_in_command ds) n ≡ true) → NeverGives left n
-    go n (inl here) = rest.later n (u.names n here)
+    go : (n : Name) → (name_among (names_within u) n ≡ true) ⊎ (name_among (flat_map names_in_command ds) n ≡ true) → NeverGives left n
+    go n (inl here) = rest.later n (by.names n here)
     go n (inr there) = rest.names n there
 
--- ---- a pass
+-- ---- commands that turn into others, one by one
 
-module _ (p : Pass) (rule : Rule p) where
-  abbrev Behind : List (Command Term) → Bool → State Term → Supply → List (Command Replacement) × Supply → Type 0
-  Behind cs begun t w r = Walked cs begun t w (flat_map (written p) r.0) r.1
+-- c turns into d, where the names to draw are w before it and r behind it
+abbrev pub TurnsInto : Command Term → Supply → Command Term → Supply → Type 0
+TurnsInto (assert i a) w d r = (u : Term) × ((d ≡ assert i u) × (IsWellSorted a → GivesNone w (names_within a) → Replaces a u w r))
+TurnsInto c w d r = (d ≡ c) × (r ≡ w)
 
-  abbrev Goes : List (Command Term) → Type 0
-  Goes cs = (w : Way) (begun : Bool) (s t : State Term) → outline s ≡ outline t → printable_from begun s cs ≡ true → GivesNone w.names (flat_map names_in_command cs) → Behind cs begun t w.names (replacements_from p cs w)
+abbrev pub EachTurnsInto : List (Command Term) → Supply → List (Command Term) → Supply → Type 0
+EachTurnsInto [] w [] left = left ≡ w
+EachTurnsInto (c ∷ cs) w (d ∷ ds) left = (r : Supply) × (TurnsInto c w d r × EachTurnsInto cs r ds left)
+EachTurnsInto _ w _ left = ⊥
 
-  written_plain : (c : Command Term) → asserts_nothing c ≡ true → written p (with_asserted literal_kept c) ≡ c ∷ []
-  written_plain (assert i t) plain = absurd cc
-  written_plain (declare f) plain = rule.declares f
-  written_plain (check_assuming ls) plain = ap (λ ts. check_assuming ts ∷ []) (terms_kept ls)
-  written_plain _ plain = refl
+abbrev Goes : List (Command Term) → Type 0
+Goes cs = (w left : Supply) (ds : List (Command Term)) → EachTurnsInto cs w ds left → (begun : Bool) (s t : State Term) → outline s ≡ outline t → printable_from begun s cs ≡ true → GivesNone w (flat_map names_in_command cs) → Walked cs begun t w ds left
 
-  names_onward : (c : Command Term) (w : Way) → (onward c w).names ≡ w.names
-  names_onward (push n) w = refl
-  names_onward (pop n) w = refl
-  names_onward reset w = refl
-  names_onward reset_assertions w = refl
-  names_onward _ w = refl
+plain_step : (c : Command Term) (cs : List (Command Term)) → asserts_nothing c ≡ true → Goes cs → (w r left : Supply) (d : Command Term) (ds : List (Command Term)) → d ≡ c → r ≡ w → EachTurnsInto cs r ds left
+    → (begun : Bool) (s t : State Term) → outline s ≡ outline t → printable_from begun s (c ∷ cs) ≡ true → GivesNone w (flat_map names_in_command (c ∷ cs)) → Walked (c ∷ cs) begun t w (d ∷ ds) left
+plain_step c cs plain below w r left d ds is names turns begun s t same h given =
+    let f : First begun s c cs = first begun s c cs h in
+    let rest : Walked cs (fixes begun c) (after c t) w ds left =
+    below w left ds (subst (λ x. EachTurnsInto cs x ds left) names turns) (fixes begun c) (after c s) (after c t) (same_after c s t same) f.rest (names_behind w c cs given) in
+    subst (λ x. Walked (c ∷ cs) begun t w (x ∷ ds) left) (sym is) (stays begun s t w left c cs ds plain same f given rest)
 
-  plain_step : (c : Command Term) (cs : List (Command Term)) → asserts_nothing c ≡ true → Goes cs → (w : Way) (begun : Bool) (s t : State Term) → outline s ≡ outline t → printable_from begun s (c ∷ cs) ≡ true → GivesNone w.names (flat_map names_in_command (c ∷ cs))
-      → Behind (c ∷ cs) begun t w.names (behind (with_asserted literal_kept c) (replacements_from p cs (onward c w)))
-  plain_step c cs plain below w begun s t same h given =
-      let r : List (Command Replacement) × Supply = replacements_from p cs (onward c w) in
-      let f : First begun s c cs = first begun s c cs h in
-      let rest : Walked cs (fixes begun c) (after c t) w.names (flat_map (written p) r.0) r.1 =
-      subst (λ names. Walked cs (fixes begun c) (after c t) names (flat_map (written p) r.0) r.1) (names_onward c w)
-      (below (onward c w) (fixes begun c) (after c s) (after c t) (same_after c s t same) f.rest (subst (λ names. GivesNone names (flat_map names_in_command cs)) (sym (names_onward c w)) (names_behind w.names c cs given))) in
-      subst (λ xs. Walked (c ∷ cs) begun t w.names (xs ++ flat_map (written p) r.0) r.1) (sym (written_plain c plain))
-      (stays begun s t w.names r.1 c cs (flat_map (written p) r.0) plain same f given rest)
+assert_step : (i : ℕ) (a : Term) (cs : List (Command Term)) → Goes cs → (w r left : Supply) (d : Command Term) (ds : List (Command Term)) → TurnsInto (assert i a) w d r → EachTurnsInto cs r ds left
+    → (begun : Bool) (s t : State Term) → outline s ≡ outline t → printable_from begun s (assert i a ∷ cs) ≡ true → GivesNone w (flat_map names_in_command (assert i a ∷ cs)) → Walked (assert i a ∷ cs) begun t w (d ∷ ds) left
+assert_step i a cs below w r left d ds turn turns begun s t same h given =
+    let f : First begun s (assert i a) cs = first begun s (assert i a) cs h in
+    let stand : Stands s a = stands begun s i a f.stands in
+    let by : Replaces a turn.0 w r = turn.1.1 stand.sorted (λ n among. given n (in-left (names_within a) (flat_map names_in_command cs) n among)) in
+    let rest : Walked cs true (after (assert i turn.0) t) r ds left =
+    below r left ds turns true (after (assert i a) s) (after (assert i turn.0) t) (asserted_after i a turn.0 s t same) f.rest (λ n among. by.later n (names_behind w (assert i a) cs given n among)) in
+    subst (λ x. Walked (assert i a ∷ cs) begun t w (x ∷ ds) left) (sym turn.1.0) (gives_way begun s t w r left i a turn.0 cs ds same f stand given by rest)
 
-  assert_step : (i : ℕ) (a : Term) (cs : List (Command Term)) → Goes cs → (w : Way) (begun : Bool) (s t : State Term) → outline s ≡ outline t → printable_from begun s (assert i a ∷ cs) ≡ true → GivesNone w.names (flat_map names_in_command (assert i a ∷ cs))
-      → (r : Group × Way) → in_place p a w ≡ r
-      → Behind (assert i a ∷ cs) begun t w.names (behind (replaced_by i a r).0 (replacements_from p cs r.1))
-  assert_step i a cs below w begun s t same h given r is =
-      let f : First begun s (assert i a) cs = first begun s (assert i a) cs h in
-      let stand : Stands s a = stands begun s i a f.stands in
-      let u : Replaces a w.names r = subst (Replaces a w.names) is (rule.replaces a w stand.sorted (λ n among. given n (in-left (names_within a) (flat_map names_in_command cs) n among))) in
-      let rest : Behind cs true (after (assert i u.term) t) r.1.names (replacements_from p cs r.1) =
-      below r.1 true (after (assert i a) s) (after (assert i u.term) t) (asserted_after i a u.term s t same) f.rest
-      (λ n among. u.later n (names_behind w.names (assert i a) cs given n among)) in
-      subst (λ g. Walked (assert i a ∷ cs) begun t w.names (group_commands i g ++ flat_map (written p) (replacements_from p cs r.1).0) (replacements_from p cs r.1).1) (sym u.group)
-      (gives_way begun s t w.names r (replacements_from p cs r.1).1 i a cs (flat_map (written p) (replacements_from p cs r.1).0) same f stand given u rest)
+step : (c : Command Term) (cs : List (Command Term)) → Goes cs → Goes (c ∷ cs)
+step c cs below w left [] turns begun s t same h given = absurd turns
+step (assert i a) cs below w left (d ∷ ds) turns begun s t same h given = assert_step i a cs below w turns.0 left d ds turns.1.0 turns.1.1 begun s t same h given
+step c cs below w left (d ∷ ds) turns begun s t same h given = plain_step c cs refl below w turns.0 left d ds turns.1.0.0 turns.1.0.1 turns.1.1 begun s t same h given
 
-  pub walked : (cs : List (Command Term)) → Goes cs
-  walked [] w begun s t same h given = record { like = tt; literals = refl; printable = refl; later = λ n never. never; names = λ n among. absurd cc }
-  walked (assert i a ∷ cs) w begun s t same h given = assert_step i a cs (walked cs) w begun s t same h given (in_place p a w) refl
-  walked (passed text ∷ cs) w begun s t same h given = plain_step (passed text) cs refl (walked cs) w begun s t same h given
-  walked (declare_sort n ∷ cs) w begun s t same h given = plain_step (declare_sort n) cs refl (walked cs) w begun s t same h given
-  walked (declare f ∷ cs) w begun s t same h given = plain_step (declare f) cs refl (walked cs) w begun s t same h given
-  walked (check ∷ cs) w begun s t same h given = plain_step check cs refl (walked cs) w begun s t same h given
-  walked (check_assuming ls ∷ cs) w begun s t same h given = plain_step (check_assuming ls) cs refl (walked cs) w begun s t same h given
-  walked (push n ∷ cs) w begun s t same h given = plain_step (push n) cs refl (walked cs) w begun s t same h given
-  walked (pop n ∷ cs) w begun s t same h given = plain_step (pop n) cs refl (walked cs) w begun s t same h given
-  walked (reset ∷ cs) w begun s t same h given = plain_step reset cs refl (walked cs) w begun s t same h given
-  walked (reset_assertions ∷ cs) w begun s t same h given = plain_step reset_assertions cs refl (walked cs) w begun s t same h given
-  walked (globals b ∷ cs) w begun s t same h given = plain_step (globals b) cs refl (walked cs) w begun s t same h given
-  walked (exit ∷ cs) w begun s t same h given = plain_step exit cs refl (walked cs) w begun s t same h given
+pub walked : (cs : List (Command Term)) → Goes cs
+walked [] w left [] turns begun s t same h given = record { like = tt; literals = refl; printable = refl; later = λ n never. subst (λ x. NeverGives x n) (sym turns) never; names = λ n among. absurd cc }
+walked [] w left (d ∷ ds) turns begun s t same h given = absurd turns
+walked (c ∷ cs) w left ds turns begun s t same h given = step c cs (walked cs) w left ds turns begun s t same h given

@@ -5,6 +5,7 @@ use Rattle.std.specs.List.{list_all}
 use Rattle.smt_terms.specs.Fresh.{Supply}
 use Rattle.smt_terms.specs.Keeps.{Keeps}
 use Rattle.smt_terms.specs.Models.{Model, IsModelOver}
+use Rattle.smt_terms.specs.Sorts.{Name}
 use Rattle.smt_terms.specs.Term.{Term}
 use Rattle.script_read.specs.Commands.{Command, kinds, live, literals, signature}
 use Rattle.script_read.specs.Laws.{GivesNoNameOf}
@@ -13,7 +14,9 @@ use Rattle.script_read.specs.Satisfied.{sat}
 use Rattle.smt_print.specs.Laws.{Each}
 use Rattle.passes.specs.declared.names.Pass.{Pass}
 use Rattle.passes.specs.declared.names.Pass.TheVariants.{Simplify, Nnf, Aig, Prenex, Reads, Shannon, SelfSub, Rules}
+use Rattle.passes.specs.Led.{EachMayBecome}
 use Rattle.passes.specs.Passed.{apply_pass, passed}
+use Rattle.passes.specs.Ruling.{RewritesCommands}
 use Rattle.passes.specs.Carry.{back, forth}
 
 -- the passes of these laws: all that put one assertion in the place of each; stored rules count as changing nothing here
@@ -68,6 +71,14 @@ PassKeepsCommands = (p : Pass) (cs : List (Command Term)) (s : Supply) → IsTru
 
 abbrev pub PassesKeepCommands : Type 0
 PassesKeepCommands = (ps : List Pass) (cs : List (Command Term)) (s : Supply) → IsTrue (list_all keeps_values ps) → IsReady cs s → KeepsCommands cs (passed ps cs s)
+
+-- behind the rules of a book: the commands are such as may be made of the first
+abbrev pub RulesKeepCommands : Type 0
+RulesKeepCommands = (ns : List Name) (cs ds : List (Command Term)) (s : Supply) → IsReady cs s → RewritesCommands ns cs ds → KeepsCommands cs (ds, s) × EachMayBecome ns cs ds
+
+-- equivalent commands have the same models
+abbrev pub EquivalentsHaveOneModel : Type 0
+EquivalentsHaveOneModel = (cs ds : List (Command Term)) (s : Supply) → IsReady cs s → AreEquivalent cs ds → CarriesModels cs ds (λ k m. m) (λ k m. m)
 
 -- models stay as they are: there are no new symbols
 abbrev pub PassesLeaveModels : Type 0

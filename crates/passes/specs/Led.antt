@@ -2,13 +2,12 @@
 -- eight that this repository names, they make the one term that the eight give; another book may make any term that keeps
 -- the assertion's value and brings nothing new.
 use Rattle.std.specs.Prelude.{◌≡◌, Bool, true, false, List, [], ◌∷◌, IsTrue}
-use Rattle.std.specs.List.{list_all}
 use Rattle.smt_terms.specs.Sorts.{Name, Symbol}
 use Rattle.smt_terms.specs.Term.{Term}
-use Rattle.smt_terms.specs.Free.{free, is_among, name_among}
+use Rattle.smt_terms.specs.Free.{free, is_among}
 use Rattle.smt_terms.specs.Fresh.{Supply}
 use Rattle.smt_terms.specs.Keeps.{Keeps}
-use Rattle.rule_book.specs.EightRules.{eight_names}
+use Rattle.rule_book.specs.EightRules.{all_eight}
 use Rattle.rule_book.specs.Ruled.{ruled}
 use Rattle.script_read.specs.Commands.{Command, assert}
 use Rattle.script_read.specs.Printable.{sort_is_live, all_within}
@@ -22,9 +21,6 @@ pub record IsRewriting (t u : Term) : Type 0 where
   pub keeps : Keeps t u
   pub symbols : (f : Symbol) → IsTrue (is_among (free u) f) → IsTrue (is_among (free t) f)
   pub names : (sorts : List Name) (is_name : Name → Bool) → IsTrue (all_within (sort_is_live sorts) is_name t) → IsTrue (all_within (sort_is_live sorts) is_name u)
-
-abbrev pub all_eight : List Name → Bool
-all_eight rules = list_all (λ n. name_among eight_names n) rules
 
 abbrev pub MadeBy : Bool → List Name → Term → Term → Type 0
 MadeBy true rules t u = u ≡ ruled rules t
@@ -40,8 +36,11 @@ EachMayBecome rules [] [] = Unit {0}
 EachMayBecome rules (c ∷ cs) (d ∷ ds) = MayBecome rules c d × EachMayBecome rules cs ds
 EachMayBecome rules _ _ = ⊥
 
--- the passes may make the last commands of the first, with the rules of these names
+-- the passes may make the last commands of the first, with the rules of these names, and leave these names to draw
+abbrev pub LeadsTo : List Pass → List (Command Term) → Supply → List Name → List (Command Term) → Supply → Type 0
+LeadsTo [] cs s rules ds r = (ds ≡ cs) × (r ≡ s)
+LeadsTo (Rules ∷ ps) cs s rules ds r = (es : List (Command Term)) × (EachMayBecome rules cs es × LeadsTo ps es s rules ds r)
+LeadsTo (p ∷ ps) cs s rules ds r = LeadsTo ps (apply_pass p cs s).0 (apply_pass p cs s).1 rules ds r
+
 abbrev pub Leads : List Pass → List (Command Term) → Supply → List Name → List (Command Term) → Type 0
-Leads [] cs s rules ds = ds ≡ cs
-Leads (Rules ∷ ps) cs s rules ds = (es : List (Command Term)) × EachMayBecome rules cs es × Leads ps es s rules ds
-Leads (p ∷ ps) cs s rules ds = Leads ps (apply_pass p cs s).0 (apply_pass p cs s).1 rules ds
+Leads ps cs s rules ds = (r : Supply) × LeadsTo ps cs s rules ds r

@@ -64,6 +64,7 @@ can_run Prenex = true
 can_run Reads = true
 can_run Shannon = true
 can_run SelfSub = true
+can_run Rules = true
 can_run _ = false
 
 -- ---- lists

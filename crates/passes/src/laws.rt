@@ -4,6 +4,8 @@
 ghost use Rattle.passes.specs.Laws.{
   PassKeepsCommands,
   PassesKeepCommands,
+  RulesKeepCommands,
+  EquivalentsHaveOneModel,
   PassesLeaveModels,
   PassesCarryModels,
 };
@@ -13,6 +15,7 @@ use normal_forms::laws::{
     aig_keeps_values, nnf_keeps_values, prenex_keeps_values, selfsub_keeps_values,
     shannon_keeps_values,
 };
+use rule_book::laws::{eight_rewrite_so, rewriting_keeps_values};
 use simplify::laws::simplify_keeps_values;
 
 /// Behind each of these passes, and behind a list of them, printable commands are printable again, with the same checks; at
@@ -30,6 +33,19 @@ pub fn passes_keep_commands()
     shannon_keeps_values();
     selfsub_keeps_values();
 }
+
+/// What stored rules may make of printable commands is printable again, and equivalent, whatever rules they are.
+pub fn rules_keep_commands()
+    ensures { RulesKeepCommands }
+{
+    rewriting_keeps_values();
+    eight_rewrite_so();
+}
+
+/// At each check, equivalent commands have the same models.
+pub fn equivalents_have_one_model()
+    ensures { EquivalentsHaveOneModel }
+{}
 
 /// Models carried over a list of these passes, in either direction, stay as they are.
 pub fn passes_leave_models()

@@ -9,7 +9,10 @@ mod names;
 mod rewriters;
 mod running;
 
-pub use laws::{passes_carry_models, passes_keep_commands, passes_leave_models};
+pub use laws::{
+    equivalents_have_one_model, passes_carry_models, passes_keep_commands, passes_leave_models,
+    rules_keep_commands,
+};
 pub use list::{Passes, parse_list};
 pub use names::{ListFault, Pass};
 pub use running::{PassFault, run_passes};

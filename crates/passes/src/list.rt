@@ -137,6 +137,7 @@ fn can_be_run(pass: Pass) -> bool
             | Pass::Reads
             | Pass::Shannon
             | Pass::SelfSub
+            | Pass::Rules
     )
 }
 

@@ -1,24 +1,26 @@
 //! Lists of passes applied to scripts: behind a pass, an assertion stands in the place of each assertion, with its number, and
 //! other commands stay.
 
-ghost use Rattle.std.specs.Prelude.{◌≡◌, ◌<◌, true, length, slice_get, option_map, OnOk, IfOk};
+ghost use Rattle.std.specs.Prelude.{◌≡◌, ◌<◌, ◌∷◌, [], true, length, slice_get, option_map, OnOk, IfOk};
 ghost use Rattle.std.specs.List.{list_all};
 ghost use Rattle.script_read.specs.CommandLists.{commands_of, AreCommandsOf};
 ghost use Rattle.term_subst.specs.Substituting.{IsLater, NeverGivesGained};
 ghost use Rattle.term_walk.specs.Walking.{GrowsTo};
 ghost use Rattle.passes.specs.Lists.{can_run};
-ghost use Rattle.passes.specs.Passed.{apply_pass, passed};
-ghost use Rattle.passes.specs.Laws.{keeps_values, IsReady};
+ghost use Rattle.passes.specs.Led.{LeadsTo};
+ghost use Rattle.passes.specs.Laws.{keeps_values, IsReady, AreEquivalent, KeepsCommands};
+ghost use Rattle.passes.specs.Ruling.{RewritesCommands};
 ghost use Rattle.passes.specs.Behind.{simplified_form, nnf_form, aig_form, reads_form, in_form, AreRewritable};
 ghost use Rattle.passes.specs.Assertion.{assertion_of};
 
-use crate::laws::passes_keep_commands;
+use crate::laws::{passes_keep_commands, rules_keep_commands};
 use crate::list::Passes;
 use crate::names::Pass;
 use crate::rewriters::{
     Expansion, Inversion, Negation, Prefix, Reading, Rewriter, SelfSubstitution, Simplification,
 };
 use normal_forms::room::make_room;
+use rule_book::{Named, RuleBook, apply};
 use script_read::{Command, Commands, Script};
 use smt_terms::NodeId;
 use std::alloc::{AllocError, Global};
@@ -44,31 +46,31 @@ impl From<AllocError> for PassFault {
 }
 
 /// The script behind the passes, from the first to the last: behind each, what the pass makes of an assertion stands in its
-/// place, with its number, and all other commands stay. The script has to be printable, and so is the answer. Each of the
-/// passes keeps values. After a refusal the script is given up; the table only gains, and names that were drawn aren't drawn
-/// again.
+/// place, with its number, and all other commands stay. `rules` asks those of the book. The script has to be printable, and so
+/// is the answer; at each check as many assertions are live in both, each with the value of the one in its place in every model.
+/// After a refusal the script is given up; the table only gains, and names that were drawn aren't drawn again.
 pub fn run_passes(
     alloc: Global,
     table: &mut Table,
     script: Script,
     passes: &Passes,
+    book: &RuleBook,
     fresh: &mut Fresh,
 ) -> Result<Script, PassFault>
     requires numbers { AreCommandsOf table.old script.commands }
     requires ready { IsReady (commands_of table.old script.commands) fresh.old }
     ensures numbers { IfOk result (λ s. AreCommandsOf table.new s.commands) }
-    ensures commands { IfOk result (λ s. commands_of table.new s.commands ≡ (passed passes.now (commands_of table.old script.commands) fresh.old).0) }
-    ensures left { OnOk result (fresh.new ≡ (passed passes.now (commands_of table.old script.commands) fresh.old).1) }
+    ensures leads { IfOk result (λ s. LeadsTo passes.now (commands_of table.old script.commands) fresh.old (⟦<RuleBook as Named>⟧.names book.now) (commands_of table.new s.commands) fresh.new) }
     ensures ready { IfOk result (λ s. IsReady (commands_of table.new s.commands) fresh.new) }
+    ensures equivalent { IfOk result (λ s. AreEquivalent (commands_of table.old script.commands) (commands_of table.new s.commands)) }
     ensures values { OnOk result (list_all keeps_values passes.now ≡ true) }
     ensures later { IsLater fresh.old fresh.new }
     ensures drawn { NeverGivesGained fresh.new table.old.symbols table.new.symbols }
     ensures grows { GrowsTo table.old table.new }
 {
-    passes_keep_commands();
     let mut script = script;
     for i in 0..passes.len() {
-        run_pass(alloc, table, &mut script, passes.pass(i), fresh)?;
+        run_pass(alloc, table, &mut script, passes.pass(i), book, fresh)?;
     }
     Ok(script)
 }
@@ -79,18 +81,21 @@ fn run_pass(
     table: &mut Table,
     script: &mut Script,
     pass: Pass,
+    book: &RuleBook,
     fresh: &mut Fresh,
 ) -> Result<(), AllocError>
     requires pass { can_run pass ≡ true }
     requires numbers { AreCommandsOf table.old script.old.commands }
     requires ready { IsReady (commands_of table.old script.old.commands) fresh.old }
     ensures numbers { OnOk result (AreCommandsOf table.new script.new.commands) }
-    ensures commands { OnOk result (commands_of table.new script.new.commands ≡ (apply_pass pass (commands_of table.old script.old.commands) fresh.old).0) }
-    ensures left { OnOk result (fresh.new ≡ (apply_pass pass (commands_of table.old script.old.commands) fresh.old).1) }
+    ensures leads { OnOk result (LeadsTo (pass ∷ []) (commands_of table.old script.old.commands) fresh.old (⟦<RuleBook as Named>⟧.names book.now) (commands_of table.new script.new.commands) fresh.new) }
+    ensures keeps { OnOk result (KeepsCommands (commands_of table.old script.old.commands) (commands_of table.new script.new.commands, fresh.new)) }
     ensures later { IsLater fresh.old fresh.new }
     ensures drawn { NeverGivesGained fresh.new table.old.symbols table.new.symbols }
     ensures grows { GrowsTo table.old table.new }
 {
+    passes_keep_commands();
+    rules_keep_commands();
     match pass {
         Pass::Simplify => {
             simplify_each::<Brand>(alloc, table, script, fresh, Blank::new(1))?;
@@ -118,6 +123,10 @@ fn run_pass(
         }
         Pass::SelfSub => {
             rewrite_each(table, script, &mut SelfSubstitution { alloc }, fresh)?;
+            Ok(())
+        }
+        Pass::Rules => {
+            ask_rules::<Brand>(alloc, table, script, book, Blank::new(1))?;
             Ok(())
         }
         _ => unreachable!(),
@@ -238,6 +247,36 @@ fn tell_reads<L: Ledger>(
         steps: Steps::<L>::new(blank),
     };
     rewrite_each(table, script, &mut reading, fresh)?;
+    Ok(())
+}
+
+/// `rules`, with its steps counted in a ledger of their own.
+fn ask_rules<L: Ledger>(
+    alloc: Global,
+    table: &mut Table,
+    script: &mut Script,
+    book: &RuleBook,
+    blank: Blank,
+) -> Result<(), AllocError>
+    requires name { blank.name ≡ L.name }
+    requires parts { blank.parts ≡ L.parts }
+    requires some { 0 < L.parts }
+    requires numbers { AreCommandsOf table.old script.old.commands }
+    ensures numbers { OnOk result (AreCommandsOf table.new script.new.commands) }
+    ensures rewrites { OnOk result (RewritesCommands (⟦<RuleBook as Named>⟧.names book.now) (commands_of table.old script.old.commands) (commands_of table.new script.new.commands)) }
+    ensures symbols { table.new.symbols ≡ table.old.symbols }
+    ensures grows { GrowsTo table.old table.new }
+{
+    let mut kept = Kept::new(alloc);
+    let mut steps = Steps::<L>::new(blank);
+    for i in 0..script.commands.len() {
+        if let Some((id, number)) = assertion_at(&script.commands, i) {
+            let ruled = apply(alloc, table, book, id, &mut kept, &mut steps)?;
+            script
+                .commands
+                .replace(i, Command::Assert { id: ruled, number });
+        }
+    }
     Ok(())
 }
 

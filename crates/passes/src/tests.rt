@@ -27,7 +27,7 @@ fn lists(rt: HostRuntime) {
         ("", 100),
         ("nnf,", 100),
         ("nnf, aig", 100),
-        ("nnf,rules", 100),
+        ("nnf,rules,nnf", 3),
         ("rules,cnf", 100),
     ] {
         assert!(rt; count_of(text) == count, "{text}");

@@ -71,6 +71,6 @@ accepted_ends b short r is = ends_by b short ∙ ap end_of is
 
 -- ---- no memory
 
-pub memory_ends : (b text : List ℕ) (r : Result (List ℕ) Status) → IsErrAnd r (λ s. s ≡ OutOfMemory) → Writes b text r
-memory_ends b text (Err s) is = subst (λ (status : Status). EndsEarly b status) (sym is) tt
-memory_ends b text (Ok w) is = absurd is
+pub memory_ends : (b : List ℕ) (IsText : List ℕ → Type 0) (r : Result (List ℕ) Status) → IsErrAnd r (λ s. s ≡ OutOfMemory) → Writes b IsText r
+memory_ends b IsText (Err s) is = subst (λ (status : Status). EndsEarly b status) (sym is) tt
+memory_ends b IsText (Ok w) is = absurd is

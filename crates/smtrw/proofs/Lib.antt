@@ -1,4 +1,7 @@
 mod Commanded
 mod Counts
+mod EightRun
 mod Endings
 mod Promised
+mod Texts
+mod Unbegun

@@ -1,3 +1,4 @@
 pub mod Counted
 pub mod Prepared
 pub mod Run
+pub mod WholeRun

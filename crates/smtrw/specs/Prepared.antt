@@ -1,13 +1,13 @@
 -- What comes of a script before anything is sent.
-use Rattle.std.specs.Prelude.{◌≡◌, ℕ, List, take, Option, Some, None, Result, Ok, Err, IsTrue}
-use Rattle.std.specs.List.{list_all}
+use Rattle.std.specs.Prelude.{◌≡◌, ℕ, List, take, Option, Some, None, Result, Ok, Err}
 use Rattle.smt_io.specs.Told.{with_bytes}
-use Rattle.passes.specs.Laws.{keeps_values}
+use Rattle.smt_terms.specs.Sorts.{Name}
 use Rattle.smtrw_answers.specs.declared.status.Status.{Status}
 use Rattle.smtrw_answers.specs.declared.status.Status.TheVariants.{Done, Refused, ReadFailed, WriteFailed, OutOfMemory}
 use Rattle.smtrw_answers.specs.Words.{Asked, rewrite}
-use Rattle.smtrw_answers.specs.Outputs.{output_of}
+use Rattle.smtrw_answers.specs.Outputs.{IsOutputOf}
 use Rattle.smtrw_answers.specs.Endings.{script_end}
+use Rattle.smtrw_answers.specs.Headline.{IsRewriting}
 
 -- a text that was read ends the run before anything is sent
 abbrev pub EndsEarly : List ℕ → Status → Type 0
@@ -15,15 +15,19 @@ EndsEarly b (Refused r) = script_end b ≡ Some (Refused r)
 EndsEarly b OutOfMemory = Unit {0}
 EndsEarly b _ = ⊥
 
--- of the text b this is written, or it ends the run before
-abbrev pub Writes : List ℕ → List ℕ → Result (List ℕ) Status → Type 0
-Writes b text (Ok w) = (script_end b ≡ None) × (w ≡ text)
-Writes b text (Err status) = EndsEarly b status
+-- of the text b such a text is written, or it ends the run before
+abbrev pub Writes : List ℕ → (List ℕ → Type 0) → Result (List ℕ) Status → Type 0
+Writes b IsText (Ok w) = (script_end b ≡ None) × IsText w
+Writes b IsText (Err status) = EndsEarly b status
 
--- each pass that is asked for keeps values
-abbrev pub KeepsValues : Asked → Type 0
-KeepsValues (rewrite passes layout file) = IsTrue (list_all keeps_values passes)
-KeepsValues _ = Unit {0}
+-- what is written of the text b by `rewrite` is a rewriting of it
+abbrev pub Promises : List ℕ → Asked → List ℕ → Type 0
+Promises b (rewrite passes layout file) w = IsRewriting b passes w
+Promises b _ w = Unit {0}
+
+abbrev pub PromisesOf : Option (List ℕ) → Asked → List ℕ → Type 0
+PromisesOf None asked w = Unit {0}
+PromisesOf (Some b) asked w = Promises b asked w
 
 -- a status at which nothing was sent
 abbrev pub IsEarly : Status → Type 0
@@ -38,10 +42,10 @@ RefusesAs b (Refused r) = script_end b ≡ Some (Refused r)
 RefusesAs b _ = Unit {0}
 
 -- of a script, if it is told, this is sent, or the run ends before
-abbrev pub IsPrepared : Option (List ℕ) → Asked → Result (List ℕ) Status → Type 0
-IsPrepared None asked text = Unit {0}
-IsPrepared (Some b) asked (Ok w) = (script_end b ≡ None) × (w ≡ output_of asked b)
-IsPrepared (Some b) asked (Err status) = RefusesAs b status
+abbrev pub IsPrepared : List Name → Option (List ℕ) → Asked → Result (List ℕ) Status → Type 0
+IsPrepared rules None asked text = Unit {0}
+IsPrepared rules (Some b) asked (Ok w) = (script_end b ≡ None) × IsOutputOf rules asked b w
+IsPrepared rules (Some b) asked (Err status) = RefusesAs b status
 
 -- at `Done` the whole text was sent and flushed, at `WriteFailed` a prefix of it sent
 abbrev pub Delivers : Option (List ℕ) → Option (List ℕ) → Option (List ℕ) → List ℕ → Status → Type 0

@@ -1,12 +1,13 @@
 -- What a run of the program may answer, and what it leaves behind at each answer, by what its words ask for.
 use Rattle.std.specs.Prelude.{◌≡◌, ℕ, ◌⊎◌, List, take, Option, Some, None, Result, Ok, Err}
 use Rattle.smt_io.specs.Counts.{Rose}
+use Rattle.smt_terms.specs.Sorts.{Name}
 use Rattle.smt_io.specs.Told.{with_bytes}
 use Rattle.smtrw_answers.specs.declared.status.Usage.{Usage as UsageFault}
 use Rattle.smtrw_answers.specs.declared.status.Status.{Status}
 use Rattle.smtrw_answers.specs.declared.status.Status.TheVariants.{Done, Refused, Usage, ReadFailed, WriteFailed, OutOfMemory, ModelRefused, Beyond128, PassRefused}
 use Rattle.smtrw_answers.specs.Words.{Asked, rewrite, file_of}
-use Rattle.smtrw_answers.specs.Outputs.{output_of}
+use Rattle.smtrw_answers.specs.Outputs.{IsOutputOf}
 use Rattle.smtrw_answers.specs.Endings.{script_end}
 use Rattle.smtrw_answers.specs.Headline.{IsRewriting}
 
@@ -54,16 +55,16 @@ ScriptFits (Some b) _ = Unit {0}
 
 -- ---- the output
 
--- the whole text of a told script
-abbrev pub IsOutput : Asked → Option (List ℕ) → List ℕ → Type 0
-IsOutput asked None w = Unit {0}
-IsOutput asked (Some b) w = w ≡ output_of asked b
+-- the whole text of a told script, with stored rules of these names
+abbrev pub IsOutput : List Name → Asked → Option (List ℕ) → List ℕ → Type 0
+IsOutput rules asked None w = Unit {0}
+IsOutput rules asked (Some b) w = IsOutputOf rules asked b w
 
 -- at `Done` the whole text was sent and flushed, at `WriteFailed` a prefix of it was sent, and else nothing
-abbrev pub OutFits : Option (List ℕ) → Option (List ℕ) → Option (List ℕ) → Option (List ℕ) → Status → Asked → Type 0
-OutFits script before now flushed Done asked = (w : List ℕ) × IsOutput asked script w × (now ≡ with_bytes before w) × (flushed ≡ now)
-OutFits script before now flushed WriteFailed asked = (w : List ℕ) × IsOutput asked script w × ((n : ℕ) × (now ≡ with_bytes before (take n w)))
-OutFits script before now flushed _ asked = now ≡ before
+abbrev pub OutFits : List Name → Option (List ℕ) → Option (List ℕ) → Option (List ℕ) → Option (List ℕ) → Status → Asked → Type 0
+OutFits rules script before now flushed Done asked = (w : List ℕ) × IsOutput rules asked script w × (now ≡ with_bytes before w) × (flushed ≡ now)
+OutFits rules script before now flushed WriteFailed asked = (w : List ℕ) × IsOutput rules asked script w × ((n : ℕ) × (now ≡ with_bytes before (take n w)))
+OutFits rules script before now flushed _ asked = now ≡ before
 
 -- at a fault of the words nothing was sent
 abbrev pub Quiet : Option (List ℕ) → Option (List ℕ) → Status → Type 0

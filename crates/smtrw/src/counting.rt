@@ -22,7 +22,7 @@ use term_walk::count_nodes;
 pub fn counted(alloc: Global, forest: &Forest) -> Result<Pieces, Status>
     requires read { IsRead forest.now }
     requires short { length forest.now.bytes ≤ longest_text }
-    ensures { Writes forest.now.bytes (stats_lines forest.now.bytes) result }
+    ensures { Writes forest.now.bytes (λ w. w ≡ stats_lines forest.now.bytes) result }
 {
     let mut table = Table::new(alloc);
     let (script, _) = read_script(alloc, &mut table, forest)?;

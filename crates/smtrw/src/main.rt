@@ -7,10 +7,11 @@
 mod counting;
 mod rewriting;
 mod run;
+mod standard;
 #[cfg(test)]
 mod tests;
 
-use crate::run::run;
+use crate::standard::run_with_eight;
 use smt_io::{HostInputs, HostSink};
 use smtrw_answers::Status;
 use std::env;
@@ -30,6 +31,6 @@ fn main(rt: HostRuntime) -> ExitCode {
     let mut out = HostSink::new(rt.stdout());
     let mut err = HostSink::new(rt.stderr());
     let mut inputs = HostInputs::new(alloc, rt);
-    let status = run(alloc, words.as_slice(), &mut inputs, &mut out, &mut err);
+    let status = run_with_eight(alloc, words.as_slice(), &mut inputs, &mut out, &mut err);
     ExitCode::from(status.number())
 }

@@ -1,40 +1,40 @@
 //! What the program does, from its words to its status.
 
-ghost use Rattle.std.specs.Prelude.{◌≡◌, ◌≤◌, ◌⊎◌, map, string_bytes, vec_len, IfErr, OnOk};
+ghost use Rattle.std.specs.Prelude.{◌≡◌, ◌≤◌, ◌⊎◌, map, string_bytes, vec_len, IfErr, IfOk};
 ghost use Rattle.smt_io.specs.Counts.{Rose};
 ghost use Rattle.smt_io.specs.Told.{longest_text, with_bytes};
 ghost use Rattle.smtrw_answers.specs.Answers.{err_line};
 ghost use Rattle.smtrw_answers.specs.Asked.{asked_seen};
-ghost use Rattle.smtrw_answers.specs.Outputs.{output_of};
+ghost use Rattle.smtrw_answers.specs.Outputs.{IsOutputOf};
 ghost use Rattle.smtrw_answers.specs.Said.{GotPrefix};
 ghost use Rattle.smtrw_answers.specs.Words.{asked, file_of};
-ghost use Rattle.smtrw.specs.Prepared.{Delivers, Ends, IsEarly, IsPrepared, KeepsValues, Writes};
+ghost use Rattle.smtrw.specs.Prepared.{Delivers, Ends, IsEarly, IsPrepared, Promises, PromisesOf, Writes};
 ghost use Rattle.smtrw.specs.Run.{IsComplete, OutFits, Promised, Quiet, ReadFits, ScriptFits, Stands, WhereAsked, WordsFit, WriteFits};
 
 use crate::counting::counted;
 use crate::rewriting::rewritten;
+use rule_book::{Named, RuleBook};
 use smt_io::{Inputs, Pieces, ReadFault, Sink, read_all, send_pieces};
 use smt_lex::{Until, scan};
-use smtrw_answers::{
-    Asked, Status, TOO_LONG, WordsFault, complain, parse_words, rewriting_keeps_its_promise,
-};
+use smtrw_answers::{Asked, Status, TOO_LONG, WordsFault, complain, parse_words};
 use std::alloc::Global;
 
 /// Does all that the program does: reads the script that the words name, writes to `out` what they ask for, and says on
-/// `err` what went wrong. The whole text is made before its first byte is sent.
+/// `err` what went wrong. Stored rules are asked by the pass `rules`. The whole text is made before its first byte is sent.
 pub fn run<I: Inputs, O: Sink, E: Sink>(
     alloc: Global,
     words: &[String],
     inputs: &mut I,
     out: &mut O,
     err: &mut E,
+    book: &RuleBook,
 ) -> Status
     ensures words { WordsFit (asked (map string_bytes words.now)) result }
     ensures stands { Stands result }
     ensures read { WhereAsked (asked (map string_bytes words.now)) (ReadFits (I.faults inputs.old) (I.faults inputs.new) result) }
     ensures write { WriteFits (O.faults out.old) (O.faults out.new) result }
     ensures script { WhereAsked (asked (map string_bytes words.now)) (λ a. ScriptFits (I.text inputs.old (file_of a).word) result) }
-    ensures out { WhereAsked (asked (map string_bytes words.now)) (λ a. OutFits (I.text inputs.old (file_of a).word) (O.sent out.old) (O.sent out.new) (O.flushed out.new) result a) }
+    ensures out { WhereAsked (asked (map string_bytes words.now)) (λ a. OutFits (⟦<RuleBook as Named>⟧.names book.now) (I.text inputs.old (file_of a).word) (O.sent out.old) (O.sent out.new) (O.flushed out.new) result a) }
     ensures quiet { Quiet (O.sent out.old) (O.sent out.new) result }
     ensures promise { WhereAsked (asked (map string_bytes words.now)) (λ a. Promised (I.text inputs.old (file_of a).word) (O.sent out.old) (O.sent out.new) result a) }
     ensures complete { WhereAsked (asked (map string_bytes words.now)) (λ a. IsComplete (I.text inputs.old (file_of a).word) (I.faults inputs.old) (I.faults inputs.new) (O.faults out.old) (O.faults out.new) result a) }
@@ -42,7 +42,7 @@ pub fn run<I: Inputs, O: Sink, E: Sink>(
     ensures prefix { GotPrefix (E.sent err.old) (E.sent err.new) (err_line result (map string_bytes words.now)) }
     ensures whole { Rose (E.faults err.old) (E.faults err.new) ⊎ (E.sent err.new ≡ with_bytes (E.sent err.old) (err_line result (map string_bytes words.now))) }
 {
-    let status = answer(alloc, words, inputs, out);
+    let status = answer(alloc, words, inputs, out, book);
     complain(err, &status, words);
     status
 }
@@ -53,19 +53,20 @@ fn answer<I: Inputs, O: Sink>(
     words: &[String],
     inputs: &mut I,
     out: &mut O,
+    book: &RuleBook,
 ) -> Status
     ensures words { WordsFit (asked (map string_bytes words.now)) result }
     ensures stands { Stands result }
     ensures read { WhereAsked (asked (map string_bytes words.now)) (ReadFits (I.faults inputs.old) (I.faults inputs.new) result) }
     ensures write { WriteFits (O.faults out.old) (O.faults out.new) result }
     ensures script { WhereAsked (asked (map string_bytes words.now)) (λ a. ScriptFits (I.text inputs.old (file_of a).word) result) }
-    ensures out { WhereAsked (asked (map string_bytes words.now)) (λ a. OutFits (I.text inputs.old (file_of a).word) (O.sent out.old) (O.sent out.new) (O.flushed out.new) result a) }
+    ensures out { WhereAsked (asked (map string_bytes words.now)) (λ a. OutFits (⟦<RuleBook as Named>⟧.names book.now) (I.text inputs.old (file_of a).word) (O.sent out.old) (O.sent out.new) (O.flushed out.new) result a) }
     ensures quiet { Quiet (O.sent out.old) (O.sent out.new) result }
     ensures promise { WhereAsked (asked (map string_bytes words.now)) (λ a. Promised (I.text inputs.old (file_of a).word) (O.sent out.old) (O.sent out.new) result a) }
     ensures complete { WhereAsked (asked (map string_bytes words.now)) (λ a. IsComplete (I.text inputs.old (file_of a).word) (I.faults inputs.old) (I.faults inputs.new) (O.faults out.old) (O.faults out.new) result a) }
 {
     match parse_words(alloc, words) {
-        Ok(asked) => carry_out(alloc, &asked, inputs, out),
+        Ok(asked) => carry_out(alloc, &asked, inputs, out, book),
         Err(WordsFault::Usage(usage)) => Status::Usage(usage),
         Err(WordsFault::Memory) => Status::OutOfMemory,
     }
@@ -77,32 +78,37 @@ fn carry_out<I: Inputs, O: Sink>(
     asked: &Asked,
     inputs: &mut I,
     out: &mut O,
+    book: &RuleBook,
 ) -> Status
     ensures ends { Ends result }
     ensures read { ReadFits (I.faults inputs.old) (I.faults inputs.new) result (asked_seen asked.now) }
     ensures write { WriteFits (O.faults out.old) (O.faults out.new) result }
     ensures script { ScriptFits (I.text inputs.old (file_of (asked_seen asked.now)).word) result }
-    ensures out { OutFits (I.text inputs.old (file_of (asked_seen asked.now)).word) (O.sent out.old) (O.sent out.new) (O.flushed out.new) result (asked_seen asked.now) }
+    ensures out { OutFits (⟦<RuleBook as Named>⟧.names book.now) (I.text inputs.old (file_of (asked_seen asked.now)).word) (O.sent out.old) (O.sent out.new) (O.flushed out.new) result (asked_seen asked.now) }
     ensures promise { Promised (I.text inputs.old (file_of (asked_seen asked.now)).word) (O.sent out.old) (O.sent out.new) result (asked_seen asked.now) }
     ensures complete { IsComplete (I.text inputs.old (file_of (asked_seen asked.now)).word) (I.faults inputs.old) (I.faults inputs.new) (O.faults out.old) (O.faults out.new) result (asked_seen asked.now) }
 {
-    rewriting_keeps_its_promise();
-    match prepare(alloc, asked, inputs) {
+    match prepare(alloc, asked, inputs, book) {
         Ok(text) => deliver(out, &text),
         Err(status) => status,
     }
 }
 
 /// The whole text that is to be sent, or the status that comes before one.
-fn prepare<I: Inputs>(alloc: Global, asked: &Asked, inputs: &mut I) -> Result<Pieces, Status>
+fn prepare<I: Inputs>(
+    alloc: Global,
+    asked: &Asked,
+    inputs: &mut I,
+    book: &RuleBook,
+) -> Result<Pieces, Status>
     ensures early { IfErr result IsEarly }
     ensures read { IfErr result (λ s. ReadFits (I.faults inputs.old) (I.faults inputs.new) s (asked_seen asked.now)) }
-    ensures text { IsPrepared (I.text inputs.old (file_of (asked_seen asked.now)).word) (asked_seen asked.now) result }
-    ensures passes { OnOk result (KeepsValues (asked_seen asked.now)) }
+    ensures text { IsPrepared (⟦<RuleBook as Named>⟧.names book.now) (I.text inputs.old (file_of (asked_seen asked.now)).word) (asked_seen asked.now) result }
+    ensures promise { IfOk result (λ w. PromisesOf (I.text inputs.old (file_of (asked_seen asked.now)).word) (asked_seen asked.now) w) }
 {
     let file = asked.file();
     match read_all(alloc, inputs, file.name) {
-        Ok(bytes) => written(alloc, asked, bytes),
+        Ok(bytes) => written(alloc, asked, bytes, book),
         Err(ReadFault::Failed) => Err(Status::ReadFailed { word: file.word }),
         Err(ReadFault::TooLong) => Err(Status::Refused(TOO_LONG)),
         Err(ReadFault::Memory) => Err(Status::OutOfMemory),
@@ -110,14 +116,14 @@ fn prepare<I: Inputs>(alloc: Global, asked: &Asked, inputs: &mut I) -> Result<Pi
 }
 
 /// What is written of a script. The bytes are no more than may be read.
-fn written(alloc: Global, asked: &Asked, bytes: Vec<u8>) -> Result<Pieces, Status>
+fn written(alloc: Global, asked: &Asked, bytes: Vec<u8>, book: &RuleBook) -> Result<Pieces, Status>
     requires { vec_len bytes ≤ longest_text }
-    ensures text { Writes bytes.items (output_of (asked_seen asked.now) bytes.items) result }
-    ensures passes { OnOk result (KeepsValues (asked_seen asked.now)) }
+    ensures text { Writes bytes.items (IsOutputOf (⟦<RuleBook as Named>⟧.names book.now) (asked_seen asked.now) bytes.items) result }
+    ensures promise { IfOk result (λ w. Promises bytes.items (asked_seen asked.now) w) }
 {
     let forest = scan(alloc, bytes, Until::Exit)?;
     match asked {
-        Asked::Rewrite { passes, layout, .. } => rewritten(alloc, forest, passes, *layout),
+        Asked::Rewrite { passes, layout, .. } => rewritten(alloc, forest, passes, *layout, book),
         Asked::Stats { .. } => counted(alloc, &forest),
     }
 }

@@ -2,7 +2,7 @@
 
 ghost use Rattle.std.specs.Prelude.{◌<◌};
 
-use crate::run::run;
+use crate::standard::run_with_eight;
 use smt_io::{Inputs, MemInputs, MemSink};
 use smtrw_answers::Status;
 use std::alloc::{AllocError, Global};
@@ -47,7 +47,7 @@ fn answer<I: Inputs>(
     for word in words.split(' ') {
         all.push(String::from_str(alloc, word)?)?;
     }
-    Ok(run(alloc, all.as_slice(), inputs, out, err))
+    Ok(run_with_eight(alloc, all.as_slice(), inputs, out, err))
 }
 
 /// Standard input with this text, read so many bytes at a time.
@@ -198,6 +198,20 @@ nodes 5
 (assert (< x 0))
 (assert p)
 (assert (< x (+ 170141183460469231731687303715884105727 1)))
+%@0%rewrite --passes rules -%(declare-fun p () Bool)
+(declare-fun q () Bool)
+(declare-fun v () (_ BitVec 8))
+(declare-fun w () (_ BitVec 8))
+(assert (= (bvurem v #x08) w))
+(assert (= (bvudiv v #x01) w))
+(assert (and p (or q p)))
+%(declare-fun p () Bool)
+(declare-fun q () Bool)
+(declare-fun v () (_ BitVec 8))
+(declare-fun w () (_ BitVec 8))
+(assert (= (bvand v #x07) w))
+(assert (= (bvudiv v #x01) w))
+(assert p)
 %@0%rewrite --passes reads -%(declare-fun m () (Array Int Int))
 (declare-fun i () Int)
 (declare-fun y () Int)
@@ -352,6 +366,7 @@ nodes 3
 %@2%print -%%%smtrw: usage: word 1: UnknownCommand
 @2%rewrite --passes=nnf%%%smtrw: usage: word 3: Missing
 @2%rewrite --passes nnf,foo -%%%smtrw: usage: word 3: BadPass
+@2%rewrite --passes rules,cnf -%%%smtrw: usage: word 3: BadPass
 @2%rewrite --passes=nnf --passes=nnf -%%%smtrw: usage: word 3: Repeated
 @2%rewrite --layout wide -%%%smtrw: usage: word 3: BadValue
 @2%stats - -%%%smtrw: usage: word 3: Extra

@@ -1,3 +1,4 @@
+mod OneText
 mod Promise
 mod Rows
 pub mod ClapRows

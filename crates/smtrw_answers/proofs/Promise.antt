@@ -1,4 +1,5 @@
--- Rewriting keeps its promise: reading keeps meaning, passes keep values, and printing reads back.
+-- Rewriting keeps its promise: reading keeps meaning, what stands in place of the commands is equivalent to them, and printing
+-- reads back.
 use Rattle.std.proofs.Common.{◌≡◌, ◌∙◌, sym, ap, refl, ℕ, suc, Bool, true, ◌&&◌, List, [], ◌∷◌, ◌++◌, map, length, Result, Ok, Err, subst}
 use Rattle.std.specs.Prelude.{is_ok}
 use Rattle.std.specs.List.{list_all}
@@ -20,16 +21,15 @@ use Rattle.script_read.specs.Scenes.{Asserted, forms_script, means_true, holds}
 use Rattle.script_read.specs.Script.{script}
 use Rattle.smt_print.specs.declared.layout.Layout.{Layout}
 use Rattle.smt_print.specs.Laws.{Each, MeansTheSame, ReadsBack, PrintingReadsBack}
+use Rattle.smt_print.specs.Text.{lines}
 use Rattle.passes.specs.declared.names.Pass.{Pass}
-use Rattle.passes.specs.Carry.{back, forth}
-use Rattle.passes.specs.Laws.{keeps_values, IsReady, AreEquivalent, KeepsCommands, PassesKeepCommands, IsModelOf, CarriesModels, PassesCarryModels}
-use Rattle.passes.specs.Passed.{passed}
+use Rattle.passes.specs.Laws.{keeps_values, IsReady, AreEquivalent, EquivalentsHaveOneModel, PassesLeaveModels, IsModelOf, CarriesModels}
 use Rattle.passes.proofs.Literals.{sort_is_bool}
 use Rattle.passes.proofs.Truths.{same_truth}
 use Rattle.smtrw_answers.specs.Carrying.{translated, extended}
 use Rattle.smtrw_answers.specs.Headline.{signature_at, IsModelAt, MeanTheSame, IsEquivalentAt, IsRewriting}
 use Rattle.smtrw_answers.specs.Laws.{RewritingKeepsItsPromise}
-use Rattle.smtrw_answers.specs.Outputs.{read_or_none, commands, names_left, rewritten_commands, rewritten}
+use Rattle.smtrw_answers.specs.Outputs.{read_or_none, commands, names_left}
 
 -- ---- lists that are related one by one
 
@@ -45,7 +45,7 @@ all_first test (t ∷ ts) us all =
     let parts = both_true (test t) (list_all test (ts ++ us)) all in
     and_true (test t) (list_all test ts) parts.0 (all_first test ts us parts.1)
 
--- ---- assertions of the text, of its commands, of those behind the passes, and of the text that is printed of them
+-- ---- assertions of the text, of its commands, of those in their place, and of the text that is printed of these
 
 same_denoted : (m : Model) → IsModel m → (t u : Term) → has_sort bool t ≡ true → Keeps t u → denoted m no_variables t ≡ denoted m no_variables u
 same_denoted m model t u formula keeps = λ i. (same_truth m model t u (sort_is_bool (sort_of t) formula) keeps i, sym keeps.sort i)
@@ -85,22 +85,19 @@ pub record TextLaws : Type 0 where
   pub meaning : ReadingKeepsMeaning
   pub printable : ReadScriptsArePrintable
   pub names : NamesLeftAreNew
-  pub kept : PassesKeepCommands
-  pub models : PassesCarryModels
+  pub one_model : EquivalentsHaveOneModel
+  pub stay : PassesLeaveModels
   pub printed : PrintingReadsBack
 
 over_same : (m : Model) (g h : Signature) → g ≡ h → IsModelOver g.sorts g.symbols m → IsModelOver h.sorts h.symbols m
 over_same m g h same over = subst (λ (f : Signature). IsModelOver f.sorts f.symbols m) same over
 
-module _ (laws : TextLaws) (b : List ℕ) (ps : List Pass) (layout : Layout) (all : list_all keeps_values ps ≡ true) (reads : script b ≡ Ok (read_or_none (script b))) where
+module _ (laws : TextLaws) (b : List ℕ) (ps : List Pass) (layout : Layout) (ds : List (Command Term)) (left : Supply) (all : list_all keeps_values ps ≡ true) (ready : IsReady ds left) (same : AreEquivalent (commands b) ds) (reads : script b ≡ Ok (read_or_none (script b))) where
   abbrev cs : List (Command Term)
   cs = commands b
 
-  abbrev ds : List (Command Term)
-  ds = rewritten_commands b ps
-
   abbrev w : List ℕ
-  w = rewritten b ps layout
+  w = lines layout ds
 
   -- ---- the text and its commands
 
@@ -116,37 +113,37 @@ module _ (laws : TextLaws) (b : List ℕ) (ps : List Pass) (layout : Layout) (al
   model_read : (m : Model) (k : ℕ) → IsModelOf (commands b) k m → IsModelAt b k m × (holds m b k ≡ true)
   model_read m k is = (over_same m (signature cs k) (signature_at b k) (points.signatures k) is.over, (means m k).satisfied ∙ is.sat)
 
-  -- ---- the passes
+  -- ---- the commands in their place
 
-  ready : IsReady (commands b) (names_left b)
-  ready = record { printable = laws.printable b (read_or_none (script b)) reads; names = laws.names b (read_or_none (script b)) reads }
+  read : IsReady (commands b) (names_left b)
+  read = record { printable = laws.printable b (read_or_none (script b)) reads; names = laws.names b (read_or_none (script b)) reads }
 
-  behind : KeepsCommands (commands b) (passed ps (commands b) (names_left b))
-  behind = laws.kept ps (commands b) (names_left b) all ready
+  carried : CarriesModels (commands b) ds (λ k m. m) (λ k m. m)
+  carried = laws.one_model (commands b) ds (names_left b) read same
 
-  same : AreEquivalent (commands b) (rewritten_commands b ps)
-  same = behind.equivalent
+  translated_model : (m : Model) (k : ℕ) → IsModelOf ds k m → IsModelOf (commands b) k (translated b ps k m)
+  translated_model m k is = subst (IsModelOf cs k) (sym (laws.stay ps (commands b) (names_left b) all k m).0) (carried.back k m is)
 
-  carried : CarriesModels (commands b) (rewritten_commands b ps) (back ps (commands b) (names_left b)) (forth ps (commands b) (names_left b))
-  carried = laws.models ps (commands b) (names_left b) all ready
+  extended_model : (m : Model) (k : ℕ) → IsModelOf (commands b) k m → IsModelOf ds k (extended b ps k m)
+  extended_model m k is = subst (IsModelOf ds k) (sym (laws.stay ps (commands b) (names_left b) all k m).1) (carried.forth k m is)
 
-  -- ---- the commands behind them and the text that is printed
+  -- ---- these commands and the text that is printed
 
-  text : ReadsBack layout (rewritten_commands b ps)
-  text = laws.printed layout (rewritten_commands b ps) behind.ready.printable
+  text : ReadsBack layout ds
+  text = laws.printed layout ds ready.printable
 
-  holds_printed : (m : Model) (k : ℕ) → holds m (rewritten b ps layout) k ≡ sat m (rewritten_commands b ps) k
+  holds_printed : (m : Model) (k : ℕ) → holds m (lines layout ds) k ≡ sat m ds k
   holds_printed m k i = truths_meant m (live ds k) (live (forms_script w) k) (text.live k) i && truths_meant m (literals ds k) (literals (forms_script w) k) (text.literals k) i
 
-  printed_model : (m : Model) (k : ℕ) → IsModelAt (rewritten b ps layout) k m → holds m (rewritten b ps layout) k ≡ true → IsModelOf (rewritten_commands b ps) k m
+  printed_model : (m : Model) (k : ℕ) → IsModelAt (lines layout ds) k m → holds m (lines layout ds) k ≡ true → IsModelOf ds k m
   printed_model m k over held = record { over = over_same m (signature_at w k) (signature ds k) (text.signatures k) over; sat = sym (holds_printed m k) ∙ held }
 
-  model_printed : (m : Model) (k : ℕ) → IsModelOf (rewritten_commands b ps) k m → IsModelAt (rewritten b ps layout) k m × (holds m (rewritten b ps layout) k ≡ true)
+  model_printed : (m : Model) (k : ℕ) → IsModelOf ds k m → IsModelAt (lines layout ds) k m × (holds m (lines layout ds) k ≡ true)
   model_printed m k is = (over_same m (signature ds k) (signature_at w k) (sym (text.signatures k)) is.over, holds_printed m k ∙ is.sat)
 
   -- ---- all together
 
-  equivalent_at : (k : ℕ) → IsEquivalentAt b (rewritten b ps layout) k
+  equivalent_at : (k : ℕ) → IsEquivalentAt b (lines layout ds) k
   equivalent_at k = record {
     signatures = text.signatures k ∙ same.signatures k ∙ points.signatures k;
     count = sym (each_length MeansTheSame (live ds k) (live (forms_script w) k) (text.live k)) ∙ sym (each_length Keeps (live cs k) (live ds k) (same.live k)) ∙ points.live k;
@@ -155,14 +152,14 @@ module _ (laws : TextLaws) (b : List ℕ) (ps : List Pass) (layout : Layout) (al
         meanings_same m over.valid (live (forms_script b) k) (live cs k) (live ds k) (live (forms_script w) k) (means m k).asserted formulas (same.live k) (text.live k);
   }
 
-  promise : IsRewriting b ps (rewritten b ps layout)
+  promise : IsRewriting b ps (lines layout ds)
   promise = record {
     accepted = text.accepted;
-    same_points = text.kinds ∙ carried.kinds ∙ points.kinds;
+    same_points = text.kinds ∙ same.kinds ∙ points.kinds;
     equivalence = λ equal k is. equivalent_at k;
-    translation = λ k is m over held. model_read (translated b ps k m) k (carried.back k m (printed_model m k over held));
-    extension = λ k is m over held. model_printed (extended b ps k m) k (carried.forth k m (read_model m k over held));
+    translation = λ k is m over held. model_read (translated b ps k m) k (translated_model m k (printed_model m k over held));
+    extension = λ k is m over held. model_printed (extended b ps k m) k (extended_model m k (read_model m k over held));
   }
 
 pub keeps_promise : TextLaws → RewritingKeepsItsPromise
-keeps_promise laws b ps layout accepted all = promise laws b ps layout all (read_found (script b) ((laws.answers b).1 accepted))
+keeps_promise laws b ps layout cs s accepted all ready same = promise laws b ps layout cs s all ready same (read_found (script b) ((laws.answers b).1 accepted))

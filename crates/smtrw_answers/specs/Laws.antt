@@ -1,13 +1,33 @@
--- The statement of the law that rewriting keeps its promise.
-use Rattle.std.specs.Prelude.{◌≡◌, ℕ, List, None, IsTrue}
-use Rattle.std.specs.List.{list_all}
+-- The statements of the laws of what is written: that rewriting keeps its promise, and where one text alone may be written.
+use Rattle.std.specs.Prelude.{◌≡◌, ℕ, Bool, true, false, List, None, IsTrue}
+use Rattle.std.specs.List.{list_all, list_any}
+use Rattle.smt_terms.specs.Fresh.{Supply}
+use Rattle.smt_terms.specs.Sorts.{Name}
+use Rattle.smt_terms.specs.Term.{Term}
+use Rattle.rule_book.specs.EightRules.{all_eight}
+use Rattle.script_read.specs.Commands.{Command}
 use Rattle.script_read.specs.Script.{fault}
 use Rattle.smt_print.specs.declared.layout.Layout.{Layout}
 use Rattle.passes.specs.declared.names.Pass.{Pass}
-use Rattle.passes.specs.Laws.{keeps_values}
+use Rattle.smt_print.specs.Text.{lines}
+use Rattle.passes.specs.declared.names.Pass.TheVariants.{Rules}
+use Rattle.passes.specs.Laws.{keeps_values, IsReady, AreEquivalent}
 use Rattle.smtrw_answers.specs.Headline.{IsRewriting}
-use Rattle.smtrw_answers.specs.Outputs.{rewritten}
+use Rattle.smtrw_answers.specs.Outputs.{commands, rewritten, MayBeWritten}
 
--- of every accepted text, every list of these passes and either layout
+-- of every accepted text, every list of these passes, either layout, and any printable commands that are equivalent to the text's
 abbrev pub RewritingKeepsItsPromise : Type 0
-RewritingKeepsItsPromise = (b : List ℕ) (ps : List Pass) (layout : Layout) → fault b ≡ None → IsTrue (list_all keeps_values ps) → IsRewriting b ps (rewritten b ps layout)
+RewritingKeepsItsPromise = (b : List ℕ) (ps : List Pass) (layout : Layout) (cs : List (Command Term)) (s : Supply) →
+    fault b ≡ None → IsTrue (list_all keeps_values ps) → IsReady cs s → AreEquivalent (commands b) cs → IsRewriting b ps (lines layout cs)
+
+-- a list without stored rules writes one text, whatever rules there are
+abbrev pub is_rules : Pass → Bool
+is_rules Rules = true
+is_rules _ = false
+
+abbrev pub WithoutRulesOneText : Type 0
+WithoutRulesOneText = (b w : List ℕ) (ps : List Pass) (rules : List Name) (layout : Layout) → list_any is_rules ps ≡ false → MayBeWritten b ps rules layout w → w ≡ rewritten b ps layout
+
+-- and so does any list where all rules are among the eight
+abbrev pub EightWriteOneText : Type 0
+EightWriteOneText = (b v w : List ℕ) (ps : List Pass) (rules : List Name) (layout : Layout) → IsTrue (all_eight rules) → MayBeWritten b ps rules layout v → MayBeWritten b ps rules layout w → v ≡ w

@@ -74,12 +74,12 @@ stats_lines b =
     ++ count_line (codes "checks") (checks (commands b))
     ++ count_line (codes "nodes") (length (all_subterms (assertions (commands b))))
 
--- ---- what is written of a text by the commands that the program has
+-- ---- what may be written of a text by the commands that the program has, with stored rules of these names
 
-abbrev pub output_of : Asked → List ℕ → List ℕ
-output_of (rewrite passes layout file) b = rewritten b passes layout
-output_of (stats file) b = stats_lines b
-output_of _ b = []
+abbrev pub IsOutputOf : List Name → Asked → List ℕ → List ℕ → Type 0
+IsOutputOf rules (rewrite passes layout file) b w = MayBeWritten b passes rules layout w
+IsOutputOf rules (stats file) b w = w ≡ stats_lines b
+IsOutputOf rules _ b w = w ≡ []
 
 -- ---- the demonstration: a script of so many steps, drawn from a seed
 

@@ -1,9 +1,8 @@
-//! The law that rewriting keeps its promise, as the contract of a function that does nothing but name the laws on which it
-//! rests.
+//! The laws of what is written, each as the contract of a function that does nothing but name the laws on which it rests.
 
-ghost use Rattle.smtrw_answers.specs.Laws.{RewritingKeepsItsPromise};
+ghost use Rattle.smtrw_answers.specs.Laws.{RewritingKeepsItsPromise, WithoutRulesOneText, EightWriteOneText};
 
-use passes::{passes_carry_models, passes_keep_commands};
+use passes::{equivalents_have_one_model, passes_leave_models};
 use script_read::{
     names_left_are_new, reading_answers, reading_gives_a_printable_script, reading_keeps_meaning,
     terms_and_forms_agree,
@@ -21,7 +20,17 @@ pub fn rewriting_keeps_its_promise()
     reading_keeps_meaning();
     reading_gives_a_printable_script();
     names_left_are_new();
-    passes_keep_commands();
-    passes_carry_models();
+    equivalents_have_one_model();
+    passes_leave_models();
     printing_reads_back();
 }
+
+/// A list of passes without `rules` writes one text of a text, whatever stored rules there are.
+pub fn without_rules_one_text()
+    ensures { WithoutRulesOneText }
+{}
+
+/// Where all stored rules are among the eight, a list of passes writes one text of a text.
+pub fn eight_write_one_text()
+    ensures { EightWriteOneText }
+{}

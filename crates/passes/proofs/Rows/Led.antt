@@ -6,6 +6,7 @@ use Rattle.smt_terms.specs.Term.{op, Term, apply, none, ◌⨾◌, constant}
 use Rattle.smt_terms.specs.Connectives.{equal}
 use Rattle.smt_terms.specs.Constants.{literal_value}
 use Rattle.smt_terms.specs.Equal.{op_eq}
+use Rattle.smt_terms.specs.Fresh.{Supply}
 use Rattle.rule_book.specs.View.{is_theory}
 use Rattle.smt_terms.proofs.Written.{named, supply}
 use Rattle.rule_book.specs.EightRules.{literal_power}
@@ -29,12 +30,15 @@ multiplied = declare v ∷ declare w ∷ assert 1 (equal (apply (op BvMul) (cons
 abbrev moved : Commands
 moved = declare v ∷ declare w ∷ assert 1 (equal (apply (op BvShl) (constant v ⨾ byte 3 ⨾ none)) (constant w)) ∷ check ∷ []
 
+abbrev left : Supply
+left = supply ("v" ∷ "w" ∷ []) 0
+
 -- a multiplication by eight is a shift by three
-shifted : Leads (Rules ∷ []) multiplied (supply ("v" ∷ "w" ∷ []) 0) (codes "mul-pow2" ∷ codes "sub-neg" ∷ []) moved
+shifted : Leads (Rules ∷ []) multiplied left (codes "mul-pow2" ∷ codes "sub-neg" ∷ []) moved
 unfolding is_theory literal_value literal_power op_eq
-shifted = (moved, (refl, (refl, ((equal (apply (op BvShl) (constant v ⨾ byte 3 ⨾ none)) (constant w), refl, refl), (refl, tt)))), refl)
+shifted = (left, (moved, ((refl, (refl, ((equal (apply (op BvShl) (constant v ⨾ byte 3 ⨾ none)) (constant w), refl, refl), (refl, tt)))), (refl, refl))))
 
 -- without rules the terms stay
-unchanged : Leads (Rules ∷ []) multiplied (supply ("v" ∷ "w" ∷ []) 0) [] multiplied
+unchanged : Leads (Rules ∷ []) multiplied left [] multiplied
 unfolding is_theory literal_value literal_power op_eq
-unchanged = (multiplied, (refl, (refl, ((equal (apply (op BvMul) (constant v ⨾ byte 8 ⨾ none)) (constant w), refl, refl), (refl, tt)))), refl)
+unchanged = (left, (multiplied, ((refl, (refl, ((equal (apply (op BvMul) (constant v ⨾ byte 8 ⨾ none)) (constant w), refl, refl), (refl, tt)))), (refl, refl))))

@@ -66,10 +66,15 @@ rules_and_too_many = refl
 
 -- ---- so far
 
-standing : pass_list (codes "simplify,nnf,aig,prenex,reads,shannon,selfsub") ≡ Ok (Simplify ∷ Nnf ∷ Aig ∷ Prenex ∷ Reads ∷ Shannon ∷ SelfSub ∷ [])
+standing : pass_list (codes "simplify,nnf,aig,prenex,reads,shannon,selfsub,rules") ≡ Ok (Simplify ∷ Nnf ∷ Aig ∷ Prenex ∷ Reads ∷ Shannon ∷ SelfSub ∷ Rules ∷ [])
 unfolding pass_named
 standing = refl
 
-to_come : pass_list (codes "nnf,rules") ≡ Err BadPass
+to_come : pass_list (codes "nnf,cnf") ≡ Err BadPass
 unfolding pass_named
 to_come = refl
+
+-- a pass that can't be run counts before the order
+to_come_after_rules : pass_list (codes "rules,cnf") ≡ Err BadPass
+unfolding pass_named
+to_come_after_rules = refl

@@ -204,11 +204,11 @@ value_before_missing = refl
 
 -- ---- what the program has so far
 
-standing_passes : so_far ("rewrite" ∷ "--passes=simplify,nnf,aig,prenex,reads,shannon,selfsub" ∷ "-" ∷ []) ≡ Ok (rewrite (Simplify ∷ Nnf ∷ Aig ∷ Prenex ∷ Reads ∷ Shannon ∷ SelfSub ∷ []) Tree (word 3 "-"))
+standing_passes : so_far ("rewrite" ∷ "--passes=simplify,nnf,aig,prenex,reads,shannon,selfsub,rules" ∷ "-" ∷ []) ≡ Ok (rewrite (Simplify ∷ Nnf ∷ Aig ∷ Prenex ∷ Reads ∷ Shannon ∷ SelfSub ∷ Rules ∷ []) Tree (word 3 "-"))
 unfolding pass_named
 standing_passes = refl
 
-a_pass_to_come : so_far ("rewrite" ∷ "--passes" ∷ "nnf,rules" ∷ "-" ∷ []) ≡ fault 3 BadPass
+a_pass_to_come : so_far ("rewrite" ∷ "--passes" ∷ "nnf,ite" ∷ "-" ∷ []) ≡ fault 3 BadPass
 unfolding pass_named
 a_pass_to_come = refl
 

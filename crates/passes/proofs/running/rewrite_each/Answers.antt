@@ -51,7 +51,7 @@ loop-i-preserved g c =
           let e = w.in_ok-id.ensures in
           rw (w.table-is, w.script-is, w.rewriter-is, w.fresh-is, w.replace.ensures) (record {
             count = length-set l.script.commands l.i (Assert w.in_ok-id.id w.in-Some.number) ∙ l.invariant.count;
-            numbers = numbers_then g.R.Rewriter.form (commands_of c.args.table.now c.args.script.now.commands) c.args.fresh.now l.table l.script.commands l.i l.fresh few l.invariant.numbers l.invariant.under_way w.in-Some.id w.in-Some.number w.in-Some.ensures w.rewrite.new.table w.in_ok-id.id w.rewrite.new.fresh e.grows e.formula.node;
+            numbers = numbers_then l.table l.script.commands l.invariant.numbers w.rewrite.new.table e.grows l.i w.in-Some.number w.in_ok-id.id e.formula.node;
             under_way = replaced g.R.Rewriter.form (commands_of c.args.table.now c.args.script.now.commands) c.args.fresh.now l.table l.script.commands l.i l.fresh few l.invariant.numbers l.invariant.under_way w.in-Some.id w.in-Some.number w.in-Some.ensures w.rewrite.new.table w.in_ok-id.id w.rewrite.new.fresh e.grows e.term e.left;
             fits = e.fits;
             later = later_on c.args.fresh.now l.fresh w.rewrite.new.fresh l.invariant.later e.later;

@@ -1,13 +1,14 @@
+use Rattle.std.proofs.Common.{map}
 use Rattle.term_walk.specs.Walking.{GrowsTo}
 use Rattle.term_subst.specs.Substituting.{IsLater, NeverGivesGained}
 use Rattle.script_read.specs.CommandLists.{commands_of, AreCommandsOf}
-use Rattle.passes.proofs.PassAfterPass.{IsPassed}
+use Rattle.passes.proofs.PassAfterPass.{IsBehind}
 use Rattle.passes.proofs.running.run_passes.Given as goal
 
 abbrev pub invariant-loop-i : goal.invariant-loop-i
-invariant-loop-i l = record {
+invariant-loop-i g l = record {
   numbers : AreCommandsOf l.table l.script.commands;
-  passed : IsPassed l.passes (commands_of l.fn.table l.fn.script.commands) l.fn.fresh l.i (commands_of l.table l.script.commands) l.fresh;
+  behind : IsBehind l.passes (commands_of l.fn.table l.fn.script.commands) l.fn.fresh (map (λ r. r.name.now) l.book.rules.items) l.i (commands_of l.table l.script.commands) l.fresh;
   later : IsLater l.fn.fresh l.fresh;
   drawn : NeverGivesGained l.fresh l.fn.table.symbols l.table.symbols;
   grows : GrowsTo l.fn.table l.table;

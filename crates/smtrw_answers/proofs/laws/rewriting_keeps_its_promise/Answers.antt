@@ -8,7 +8,7 @@ returns c = keeps_promise (record {
   meaning = c.reading_keeps_meaning.ensures.points;
   printable = c.reading_gives_a_printable_script.ensures;
   names = c.names_left_are_new.ensures;
-  kept = c.passes_keep_commands.ensures.list;
-  models = c.passes_carry_models.ensures;
+  one_model = c.equivalents_have_one_model.ensures;
+  stay = c.passes_leave_models.ensures;
   printed = c.printing_reads_back.ensures;
 })

@@ -1,6 +1,6 @@
 use Rattle.std.proofs.Common.{◌∙◌, ap}
 use Rattle.smt_terms.specs.Rank.{sort_of}
-use Rattle.term_table.specs.Formulas.{no_tree, tree}
+use Rattle.term_table.specs.Formulas.{tree}
 use Rattle.term_subst.proofs.Gaining.{none-gained}
 use Rattle.passes.proofs.rewriters.SimplificationRewriter.rewrite.Goals as goal
 
