@@ -1,5 +1,5 @@
 -- Two rules that tests ask of an exclusive or: its operands change places, or it becomes a `distinct`.
-use Rattle.std.proofs.Common.{◌≡◌, ◌∙◌, Bool, true, false, not, ◌&&◌, ◌||◌, List, [], ◌∷◌, map, length, slice_get, Some, None, Ok, refl, ap, sym, arith}
+use Rattle.std.proofs.Common.{◌≡◌, ◌∙◌, Bool, true, false, not, ◌&&◌, ◌||◌, List, [], ◌∷◌, map, length, slice_get, Some, Ok, refl, ap, sym, arith}
 use Rattle.std.specs.Bool.{beq}
 use Rattle.smt_terms.specs.declared.op.Op.TheVariants.{Xor, Distinct}
 use Rattle.smt_terms.specs.Sorts.{Name, Sort, bool}
@@ -87,9 +87,6 @@ two_cells (x ∷ y ∷ []) a b so first second under beside = cc
 two_cells (x ∷ y ∷ z ∷ xs) a b so first second under beside = absurd (omega arith)
 
 -- under a name that none of the eight has
-pub no_answer : (n : Name) (v : TermView) → name_among eight_names n ≡ false → IsRuleAnswer n v None
-no_answer n v other = record { sound = tt; told = λ named. absurd (cc) }
-
 answered : (n : Name) (v : TermView) (p : Template) → name_among eight_names n ≡ false → MayReplace v p → IsRuleAnswer n v (Some p)
 answered n v p other sound = record { sound = sound; told = λ named. absurd (cc) }
 

@@ -1,5 +1,4 @@
 pub mod EightRules
-pub mod Facts
 pub mod Filling
 pub mod OneAnswer
 pub mod Operands
