@@ -1,4 +1,4 @@
--- What a formula is, as far as the normal forms go by it.
+-- What a formula is, as far as normal forms and clauses go by it.
 use Rattle.std.specs.Prelude.{◌≡◌, ℕ, ◌≤◌, Bool, true, false, List, []}
 use Rattle.smt_terms.specs.Connectives.{Kind, truth_value, negation, conjunction, disjunction, exclusive, implication, equivalence, difference, conditional, atom, kind_of}
 use Rattle.smt_terms.specs.Sorts.{Variable}

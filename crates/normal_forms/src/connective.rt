@@ -1,8 +1,8 @@
-//! What a formula is, as far as the normal forms go by it.
+//! What a formula is, as far as normal forms and clauses go by it.
 
-// A connective over truth values.
+/// A connective over truth values (SMT-LIB 2.6, theory Core).
 #[derive(Clone, Copy)]
-pub(crate) enum Connective {
+pub enum Connective {
     Not,
     And,
     Or,
@@ -13,9 +13,9 @@ pub(crate) enum Connective {
     Ite,
 }
 
-// A truth value, a connective, a quantifier, or an atom.
+/// A truth value, a connective, a quantifier, or an atom.
 #[derive(Clone, Copy)]
-pub(crate) enum Shape {
+pub enum Shape {
     Truth(bool),
     Connected(Connective),
     Quantified,

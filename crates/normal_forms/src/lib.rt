@@ -6,7 +6,7 @@
 pub mod and_inverter_form;
 pub mod binding;
 pub mod comparing;
-mod connective;
+pub mod connective;
 mod forms;
 pub mod laws;
 pub mod literals;

@@ -43,9 +43,9 @@ fn is_over_formulas(table: &Table, id: NodeId) -> bool
     }
 }
 
-// The shape of a formula.
+/// The shape of a formula.
 #[tactic(auto, unfolding(term_table::specs::Formulas::kind, smt_terms::specs::Connectives::operator_kind))]
-pub(crate) fn shape_of(table: &Table, id: NodeId) -> Shape
+pub fn shape_of(table: &Table, id: NodeId) -> Shape
     requires { IsFormula table.now id }
     ensures { HasShape (tree table.now id) result }
 {
