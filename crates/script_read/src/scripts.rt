@@ -6,6 +6,7 @@ ghost use Rattle.script_read.specs.CommandLists.{is_check};
 use smt_terms::{NodeId, SortId, SymId};
 use std::alloc::{AllocError, AllocFailed, Global};
 use std::marker::Model;
+use std::mem;
 use term_table::{Bytes, Nodes};
 
 /// A command of a script (SMT-LIB 2.6, sections 3.9 and 4.2). Definitions, names of terms and names of sorts are gone: each
@@ -78,6 +79,15 @@ impl Commands {
         ensures { self.new ≡ set self.old i command }
     {
         self.items[i] = command;
+    }
+
+    /// Takes the command at `i` away; `exit` stands there then. It takes no memory.
+    pub fn take(&mut self, i: usize) -> Command
+        requires { i < length self.old }
+        ensures taken { slice_get self.old i ≡ Some result }
+        ensures left { self.new ≡ set self.old i Command.Exit }
+    {
+        mem::replace(&mut self.items[i], Command::Exit)
     }
 
     /// The number of commands.
