@@ -1,0 +1,6 @@
+pub mod DrawnNodes
+pub mod Drawing
+pub mod Every
+pub mod Grouping
+pub mod Parts
+pub mod Seen
