@@ -1,1 +1,3 @@
 pub mod Ite
+pub mod Laws
+pub mod Removing

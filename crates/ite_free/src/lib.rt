@@ -2,3 +2,8 @@
 //! it is.
 
 #![tactic(auto)]
+
+pub mod laws;
+pub mod removal;
+
+pub use removal::remove_ite;
