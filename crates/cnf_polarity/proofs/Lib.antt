@@ -1,1 +1,37 @@
+mod CnfValueComplete
+mod CnfValueNames
+mod CnfValueSound
+mod ComplementTerms
+mod ConnectiveNames
+mod ConnectiveOrder
+mod ConnectiveParts
+mod DefinedNames
+mod DefiningTerms
+mod DrawnNames
+mod GivenPolarities
+mod KeptMarks
+mod KeptLiterals
+mod KeptNamed
+mod KeptNames
+mod KeptNegations
+mod KeptOrders
+mod MadeClauses
+mod MadeFormulas
+mod MadeLiterals
+mod NamedClauses
+mod NamedParts
+mod NodeConnectives
+mod NodeGroups
+mod NotedPolarities
+mod OccurrenceSteps
+mod Occurrences
+mod OperandLiterals
+mod PassedMarks
+mod Polarity
+mod PutFormulas
+mod PutWhere
 mod Rows
+mod TermLists
+mod TruthOfClauses
+pub mod CnfMade
+pub mod CnfValues
