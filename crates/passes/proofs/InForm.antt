@@ -14,6 +14,7 @@ use Rattle.passes.specs.declared.names.Pass.{Pass}
 use Rattle.passes.specs.declared.names.Pass.TheVariants.{Simplify, Nnf, Aig, Prenex, Reads, Shannon, SelfSub, Rules}
 use Rattle.passes.specs.Passed.{Way, with_names, alone, in_place, Replacement, literal_kept, onward, replacements_from, group_commands, written, apply_pass}
 use Rattle.passes.specs.Behind.{Form, simplified_form, nnf_form, aig_form, reads_form, shannon_form, in_front, in_form}
+use Rattle.passes.specs.Laws.{keeps_values}
 
 abbrev pub asks_rules : Pass → Bool
 asks_rules Rules = true
@@ -22,29 +23,30 @@ asks_rules _ = false
 -- the pass puts the form of each assertion in its place
 pub record IsForm (p : Pass) (form : Form) : Type 0 where
   pub itself : asks_rules p ≡ false
+  pub keeps : keeps_values p ≡ true
   pub places : (t : Term) (w : Way) → in_place p t w ≡ (alone (form t w.names).0, with_names w (form t w.names).1)
   pub declares : (f : Symbol) → written p (declare f) ≡ declare f ∷ []
 
 pub is_simplified_form : IsForm Simplify simplified_form
-is_simplified_form = record { itself = refl; places = λ t w. refl; declares = λ f. refl }
+is_simplified_form = record { itself = refl; keeps = refl; places = λ t w. refl; declares = λ f. refl }
 
 pub is_nnf_form : IsForm Nnf nnf_form
-is_nnf_form = record { itself = refl; places = λ t w. refl; declares = λ f. refl }
+is_nnf_form = record { itself = refl; keeps = refl; places = λ t w. refl; declares = λ f. refl }
 
 pub is_aig_form : IsForm Aig aig_form
-is_aig_form = record { itself = refl; places = λ t w. refl; declares = λ f. refl }
+is_aig_form = record { itself = refl; keeps = refl; places = λ t w. refl; declares = λ f. refl }
 
 pub is_prenex_form : IsForm Prenex prenex
-is_prenex_form = record { itself = refl; places = λ t w. refl; declares = λ f. refl }
+is_prenex_form = record { itself = refl; keeps = refl; places = λ t w. refl; declares = λ f. refl }
 
 pub is_reads_form : IsForm Reads reads_form
-is_reads_form = record { itself = refl; places = λ t w. refl; declares = λ f. refl }
+is_reads_form = record { itself = refl; keeps = refl; places = λ t w. refl; declares = λ f. refl }
 
 pub is_shannon_form : IsForm Shannon shannon_form
-is_shannon_form = record { itself = refl; places = λ t w. refl; declares = λ f. refl }
+is_shannon_form = record { itself = refl; keeps = refl; places = λ t w. refl; declares = λ f. refl }
 
 pub is_selfsub_form : IsForm SelfSub selfsub
-is_selfsub_form = record { itself = refl; places = λ t w. refl; declares = λ f. refl }
+is_selfsub_form = record { itself = refl; keeps = refl; places = λ t w. refl; declares = λ f. refl }
 
 -- ---- all commands
 

@@ -1,26 +1,55 @@
 mod Assertions
-pub mod InForm
+mod DrawnSymbols
+mod DroppedGraphs
+mod FittingPoints
+mod GivenValues
+mod GroupCommands
+mod GroupLevels
+mod GroupRuns
+mod GroupWalks
+mod GroupingLists
+mod GroupingNodes
+mod GroupsAtPoints
+mod GroupsReadyNames
 mod Kept
-pub mod Literals
-pub mod PassAfterPass
+mod KeptValues
 mod ModelsCarried
 mod ModelsStay
-pub mod OnePass
+mod NamedTerms
 mod Outlines
 mod PassTurns
 mod ReadsInside
-pub mod Rewritable
+mod ReadyGroups
+mod ReadyLevels
+mod ReadyNames
+mod ReadySorts
+mod ReadyStates
+mod ReadySymbols
+mod ReadyTerms
 mod RewritesInside
-pub mod RewrittenCommands
-pub mod RuledCommands
-mod RulesKeep
-pub mod RunnableLists
 mod Rows
+mod RulesKeep
 mod SimplifiesInside
 mod Standing
-pub mod Truths
 mod Walked
 mod WithinForms
 mod WithinPrenex
 mod WithinQuantifiers
+pub mod CarriedLists
+pub mod GroupModels
+pub mod GroupPasses
+pub mod GroupPointsHold
+pub mod GroupingSteps
+pub mod GroupingTurns
+pub mod GroupingWalk
+pub mod GroupsReady
+pub mod InForm
 pub mod ListedNames
+pub mod Literals
+pub mod OnePass
+pub mod PassAfterPass
+pub mod Rewritable
+pub mod RewrittenCommands
+pub mod RuledCommands
+pub mod RunnableLists
+pub mod Truths

@@ -1,16 +1,15 @@
 -- A list of names, taken one after the other.
-use Rattle.std.proofs.Common.{◌≡◌, ℕ, suc, ◌+◌, ◌<◌, ◌≤◌, ◌&&◌, Bool, true, false, cond, eqb, nat_lt, List, [], ◌∷◌, ◌++◌, map, drop, length, get_or, Option, Some, None, Ok, Err, refl, sym, ap, ◌∙◌, arith, add-one, append-nil, append_assoc, true≢false}
+use Rattle.std.proofs.Common.{◌≡◌, ℕ, suc, ◌+◌, ◌<◌, ◌≤◌, ◌&&◌, Bool, true, false, cond, eqb, nat_lt, List, [], ◌∷◌, ◌++◌, map, drop, length, get_or, Option, Some, None, Err, refl, sym, ap, ◌∙◌, arith, add-one, append-nil, append_assoc, true≢false}
 use Rattle.std.specs.Str.{bytes_eq}
-use Rattle.std.specs.List.{list_all, list_any, slice_split, onto_first as first_onto}
+use Rattle.std.specs.List.{list_all, list_any, prefix_len, slice_split, onto_first as first_onto}
 use Rattle.std.proofs.Math.Seq.{drop-cons}
 use Rattle.std.proofs.lemmas.Bool.Decides.{nat_tests}
 use Rattle.std.proofs.lemmas.List.{drop_all, get_or-map, length-append, length-map}
 use Rattle.smt_terms.specs.Sorts.{Name}
-use Rattle.smt_terms.proofs.Tests.{both_true, or_false}
 use Rattle.passes.specs.Lists.{all_known, between_commas, can_run, groups_after_rules, in_order, listed, makes_groups, onto_first, pass_among, pass_named, passes_named, with_pass}
 use Rattle.passes.specs.declared.names.Pass.{Pass}
-use Rattle.passes.specs.declared.names.Pass.TheVariants.{Rules, Ite, Cnf, Ackermann}
-use Rattle.passes.specs.declared.names.ListFault.TheVariants.{BadPass, AfterRules}
+use Rattle.passes.specs.declared.names.Pass.TheVariants.{Rules}
+use Rattle.passes.specs.declared.names.ListFault.TheVariants.{BadPass}
 
 -- ---- what stands between commas, in the words of `split`
 
@@ -65,24 +64,6 @@ one_not_run (q ∷ ps) qs p not_run = go (can_run q) (one_not_run ps qs p not_ru
     go true rest = rest
     go false rest = refl
 
--- passes that can be run make no groups, so none that does stands behind stored rules
-makes_none : (p : Pass) → can_run p ≡ true → makes_groups p ≡ false
-makes_none Ite run = absurd (true≢false (sym run))
-makes_none Cnf run = absurd (true≢false (sym run))
-makes_none Ackermann run = absurd (true≢false (sym run))
-makes_none _ run = refl
-
-none_make : (ps : List Pass) → list_all can_run ps ≡ true → list_any makes_groups ps ≡ false
-none_make [] run = refl
-none_make (p ∷ ps) run =
-    let parts = both_true (can_run p) (list_all can_run ps) run in
-    or_false (makes_groups p) (list_any makes_groups ps) (makes_none p parts.0) (none_make ps parts.1)
-
-none_after_rules : (ps : List Pass) → list_all can_run ps ≡ true → groups_after_rules ps ≡ false
-none_after_rules [] run = refl
-none_after_rules (Rules ∷ ps) run = none_make ps run
-none_after_rules (p ∷ ps) run = none_after_rules ps (both_true (can_run p) (list_all can_run ps) run).1
-
 -- whatever their number
 refused : (ns : List Name) → all_known can_run (passes_named ns) ≡ Err BadPass → listed can_run ns ≡ Err BadPass
 refused ns e = go (nat_lt 32 (length ns))
@@ -121,15 +102,29 @@ module _ (ns : List Name) (k : ℕ) (ps : List Pass) (name : Name) (lt : k < len
       let more : nat_lt 32 (length ns) ≡ true = grind (arith, nat_tests) in
       sym (ap (λ b. cond b (Err BadPass) (all_known can_run (passes_named ns))) more)
 
-pub all_taken : (ns : List Name) (k : ℕ) (ps : List Pass) → k ≡ length ns → Taken ns k ps → Ok ps ≡ listed can_run ns
+pub all_taken : (ns : List Name) (k : ℕ) (ps : List Pass) → k ≡ length ns → Taken ns k ps → in_order ps ≡ listed can_run ns
 all_taken ns k ps end t =
     let few : nat_lt 32 (length ns) ≡ false = let most = t.few in grind (arith, nat_tests) in
     let none : drop k ns ≡ [] = drop_all k ns (omega arith) in
     let known : passes_named ns ≡ Some ps = t.rest ∙ ap (λ xs. joined ps (passes_named xs)) none ∙ ap Some (append-nil ps) in
     sym (ap (λ b. cond b (Err BadPass) (all_known can_run (passes_named ns))) few
     ∙ ap (all_known can_run) known
-    ∙ ap (λ b. cond b (in_order ps) (Err BadPass)) t.run
-    ∙ ap (λ b. cond b (Err AfterRules) (Ok ps)) (none_after_rules ps t.run))
+    ∙ ap (λ b. cond b (in_order ps) (Err BadPass)) t.run)
+
+-- ---- what stands behind stored rules
+
+-- every pass but that of the stored rules
+abbrev pub not_rules : Pass → Bool
+not_rules Rules = false
+not_rules _ = true
+
+-- among the passes from the first `rules` on, one that makes groups stands behind it: `rules` makes none
+pub groups_from_rules : (ps : List Pass) → list_any makes_groups (drop (prefix_len not_rules ps) ps) ≡ groups_after_rules ps
+groups_from_rules [] = refl
+groups_from_rules (Rules ∷ ps) = refl
+groups_from_rules (p ∷ ps) =
+    let next : 1 + prefix_len not_rules ps ≡ suc (prefix_len not_rules ps) = omega arith in
+    ap (λ n. list_any makes_groups (drop n (p ∷ ps))) next ∙ groups_from_rules ps
 
 -- ---- passes by their names, one place after the other
 
@@ -155,5 +150,5 @@ pub turn_at : (text : List ℕ) (k : ℕ) (name : Name) → (k < length (slice_s
 turn_at text k name h = rw between_commas-split h
 
 pub all_taken_at : (text : List ℕ) (k : ℕ) (ps : List Pass) → k ≡ length (slice_split (λ b. eqb b 44) text) → Taken (between_commas text) k ps
-    → Ok ps ≡ listed can_run (between_commas text)
+    → in_order ps ≡ listed can_run (between_commas text)
 all_taken_at text k ps end t = all_taken (between_commas text) k ps (end ∙ sym (ap length (between_commas-split text))) t

@@ -1,43 +1,108 @@
--- One pass leads to commands that may stand in the place of those before it.
-use Rattle.std.proofs.Common.{◌≡◌, ◌∙◌, sym, ap, subst, refl, true, false, true≢false, List, [], ◌∷◌}
+-- One pass leads to commands that can be printed, and carries models between them and those before it.
+use Rattle.std.proofs.Common.{◌≡◌, ◌∙◌, sym, ap, subst, refl, not, ◌&&◌, true, false, true≢false, List, [], ◌∷◌}
 use Rattle.smt_terms.specs.Fresh.{Supply}
 use Rattle.smt_terms.specs.Sorts.{Name}
 use Rattle.smt_terms.specs.Term.{Term}
 use Rattle.script_read.specs.Commands.{Command}
 use Rattle.passes.specs.declared.names.Pass.{Pass}
-use Rattle.passes.specs.declared.names.Pass.TheVariants.{Rules}
+use Rattle.passes.specs.declared.names.Pass.TheVariants.{Simplify, Nnf, Aig, Prenex, Reads, Shannon, SelfSub, Rules, Ite, Cnf, Ackermann}
 use Rattle.passes.specs.Behind.{Form, in_form}
-use Rattle.passes.specs.Laws.{IsReady, KeepsCommands, PassKeepsCommands, RulesKeepCommands}
+use Rattle.passes.specs.Carry.{back_over, forth_over}
+use Rattle.passes.specs.Groups.{making, in_groups}
+use Rattle.passes.specs.Laws.{keeps_values, puts_groups, IsReady, IsModelOf, CarriesModels, KeepsCommands, PassKeepsCommands, RulesKeepCommands, EquivalentsHaveOneModel, PassesLeaveModels, PutsGroups, GroupsCarryModels, IsCarried}
 use Rattle.passes.specs.Led.{EachMayBecome, LeadsTo}
-use Rattle.passes.specs.Lists.{can_run}
+use Rattle.passes.specs.Lists.{makes_groups}
 use Rattle.passes.specs.Passed.{apply_pass}
 use Rattle.passes.specs.Ruling.{RewritesCommands}
+use Rattle.passes.proofs.GroupPasses.{applied-group}
 use Rattle.passes.proofs.InForm.{IsForm, asks_rules, applied}
-use Rattle.passes.proofs.RunnableLists.{keeps}
 
--- the pass leads from these commands to those, which may stand in their place
+-- the pass leads from these commands to those, and carries models from the ones to the others
 pub record IsLed (p : Pass) (cs : List (Command Term)) (s : Supply) (rules : List Name) (ds : List (Command Term)) (r : Supply) : Type 0 where
   pub leads : LeadsTo (p ∷ []) cs s rules ds r
-  pub keeps : KeepsCommands cs (ds, r)
+  pub carried : IsCarried p cs ds s r
 
 leads_itself : (p : Pass) (cs : List (Command Term)) (s : Supply) (rules : List Name) (ds : List (Command Term)) (r : Supply) → asks_rules p ≡ false
     → ds ≡ (apply_pass p cs s).0 → r ≡ (apply_pass p cs s).1 → LeadsTo (p ∷ []) cs s rules ds r
 leads_itself Rules cs s rules ds r not_so commands left = absurd (true≢false not_so)
 leads_itself p cs s rules ds r not_so commands left = (commands, left)
 
-module _ (p : Pass) (cs : List (Command Term)) (s : Supply) (rules : List Name) (run : can_run p ≡ true) (ready : IsReady cs s) where
-  pub led_in_form : PassKeepsCommands → (q : Pass) (form : Form) → p ≡ q → IsForm q form → (ds : List (Command Term)) (r : Supply)
+carried_kept : EquivalentsHaveOneModel → PassesLeaveModels → (p : Pass) (cs ds : List (Command Term)) (s r : Supply) → keeps_values p ≡ true → IsReady cs s
+    → KeepsCommands cs (ds, r) → IsCarried p cs ds s r
+carried_kept one_model leave p cs ds s r is ready kept =
+    let all : (keeps_values p && true) ≡ true = ap (λ b. b && true) is in
+    let carries : CarriesModels cs ds (λ k m. m) (λ k m. m) = one_model cs ds s ready kept.equivalent in
+    record {
+      ready = kept.ready;
+      equivalent = λ none. kept.equivalent;
+      models = record {
+        kinds = carries.kinds;
+        back = λ k m of_second. subst (IsModelOf cs k) (sym (leave (p ∷ []) cs s all k m).0) (carries.back k m of_second);
+        forth = λ k m of_first. subst (IsModelOf ds k) (sym (leave (p ∷ []) cs s all k m).1) (carries.forth k m of_first);
+      };
+    }
+
+-- ---- groups
+
+record IsGroupPass (p : Pass) : Type 0 where
+  itself : asks_rules p ≡ false
+  makes : makes_groups p ≡ true
+
+is_group_pass : (p : Pass) → puts_groups p ≡ true → IsGroupPass p
+is_group_pass Ite is = record { itself = refl; makes = refl }
+is_group_pass Cnf is = record { itself = refl; makes = refl }
+is_group_pass Simplify is = absurd cc
+is_group_pass Nnf is = absurd cc
+is_group_pass Aig is = absurd cc
+is_group_pass Prenex is = absurd cc
+is_group_pass Reads is = absurd cc
+is_group_pass Shannon is = absurd cc
+is_group_pass SelfSub is = absurd cc
+is_group_pass Rules is = absurd cc
+is_group_pass Ackermann is = absurd cc
+
+carried_groups : (p : Pass) (cs ds : List (Command Term)) (s r : Supply) → makes_groups p ≡ true → ds ≡ (apply_pass p cs s).0 → r ≡ (apply_pass p cs s).1
+    → PutsGroups p cs s → IsCarried p cs ds s r
+carried_groups p cs ds s r makes commands left puts = record {
+  ready = subst (λ x. IsReady x r) (sym commands) (subst (IsReady (apply_pass p cs s).0) (sym left) puts.ready);
+  equivalent = λ none. absurd (true≢false (sym none ∙ ap not makes));
+  models = subst (λ x. CarriesModels cs x (back_over p cs s) (forth_over p cs s)) (sym commands) puts.models;
+}
+
+-- ---- each pass
+
+module _ (p : Pass) (cs : List (Command Term)) (s : Supply) (rules : List Name) (ready : IsReady cs s) where
+  pub led_in_form : PassKeepsCommands → EquivalentsHaveOneModel → PassesLeaveModels → (q : Pass) (form : Form) → p ≡ q → IsForm q form → (ds : List (Command Term)) (r : Supply)
       → ds ≡ (in_form form cs s).0 → r ≡ (in_form form cs s).1 → IsLed p cs s rules ds r
-  led_in_form law q form e is ds r commands left =
+  led_in_form law one_model leave q form e is ds r commands left =
       let same = ap (λ x. apply_pass x cs s) e ∙ applied q form is cs s in
       let made : ds ≡ (apply_pass p cs s).0 = commands ∙ sym (ap (λ x. x.0) same) in
       let kept : r ≡ (apply_pass p cs s).1 = left ∙ sym (ap (λ x. x.1) same) in
+      let values : keeps_values p ≡ true = ap keeps_values e ∙ is.keeps in
       record {
         leads = leads_itself p cs s rules ds r (ap asks_rules e ∙ is.itself) made kept;
-        keeps = subst (λ x. KeepsCommands cs (x, r)) (sym made) (subst (λ x. KeepsCommands cs ((apply_pass p cs s).0, x)) (sym kept) (law p cs s (keeps p run) ready));
+        carried =
+            carried_kept one_model leave p cs ds s r values ready
+            (subst (λ x. KeepsCommands cs (x, r)) (sym made) (subst (λ x. KeepsCommands cs ((apply_pass p cs s).0, x)) (sym kept) (law p cs s values ready)));
       }
 
-  pub led_by_rules : RulesKeepCommands → p ≡ Rules → (ds : List (Command Term)) → RewritesCommands rules cs ds → IsLed p cs s rules ds s
-  led_by_rules law e ds rewrites =
+  pub led_by_rules : RulesKeepCommands → EquivalentsHaveOneModel → PassesLeaveModels → p ≡ Rules → (ds : List (Command Term)) → RewritesCommands rules cs ds → IsLed p cs s rules ds s
+  led_by_rules law one_model leave e ds rewrites =
       let kept : KeepsCommands cs (ds, s) × EachMayBecome rules cs ds = law rules cs ds s ready rewrites in
-      record { leads = subst (λ x. LeadsTo (x ∷ []) cs s rules ds s) (sym e) (ds, (kept.1, (refl, refl))); keeps = kept.0 }
+      record {
+        leads = subst (λ x. LeadsTo (x ∷ []) cs s rules ds s) (sym e) (ds, (kept.1, (refl, refl)));
+        carried = carried_kept one_model leave p cs ds s s (ap keeps_values e) ready kept.0;
+      }
+
+  pub led_in_groups : GroupsCarryModels → (q : Pass) → p ≡ q → puts_groups q ≡ true → (ds : List (Command Term)) (r : Supply)
+      → ds ≡ (in_groups (making q) cs s).0 → r ≡ (in_groups (making q) cs s).1 → IsLed p cs s rules ds r
+  led_in_groups law q e is ds r commands left =
+      let same = ap (λ x. apply_pass x cs s) e ∙ applied-group q is cs s in
+      let made : ds ≡ (apply_pass p cs s).0 = commands ∙ sym (ap (λ x. x.0) same) in
+      let kept : r ≡ (apply_pass p cs s).1 = left ∙ sym (ap (λ x. x.1) same) in
+      let puts : puts_groups p ≡ true = ap puts_groups e ∙ is in
+      let group_pass : IsGroupPass p = is_group_pass p puts in
+      record {
+        leads = leads_itself p cs s rules ds r group_pass.itself made kept;
+        carried = carried_groups p cs ds s r group_pass.makes made kept (law p cs s puts ready);
+      }

@@ -17,7 +17,7 @@ use Rattle.passes.proofs.Assertions.{Kept}
 use Rattle.passes.proofs.Outlines.{DeclareTheSame}
 
 -- what a test says of symbols it says of each
-of_each : (test : Symbol → Bool) (fs : List Symbol) (g : Symbol) → list_all test fs ≡ true → is_among fs g ≡ true → test g ≡ true
+pub of_each : (test : Symbol → Bool) (fs : List Symbol) (g : Symbol) → list_all test fs ≡ true → is_among fs g ≡ true → test g ≡ true
 of_each test [] g all among = absurd cc
 of_each test (f ∷ fs) g all among =
     let parts = both_true (test f) (list_all test fs) all in
@@ -26,7 +26,7 @@ of_each test (f ∷ fs) g all among =
       | inr there ↦ of_each test fs g parts.1 there
     ]
 
-of_all : (test : Symbol → Bool) (gs : List Symbol) → ((g : Symbol) → is_among gs g ≡ true → test g ≡ true) → list_all test gs ≡ true
+pub of_all : (test : Symbol → Bool) (gs : List Symbol) → ((g : Symbol) → is_among gs g ≡ true → test g ≡ true) → list_all test gs ≡ true
 of_all test [] each = refl
 of_all test (g ∷ gs) each =
     and_true (test g) (list_all test gs) (each g (left_true (symbol_eq g g) (is_among gs g) ((Decides-symbol_eq g g).1 refl)))
@@ -48,7 +48,7 @@ stands begun s i t h =
     let d = both_true (symbols_are_live s t) (all_within (sort_is_live (sorts_of_state s)) is_usable t) c.1 in
     record { formula = a.0; sorted = b.0; clear = c.0; symbols = d.0; within = d.1 }
 
-may : (begun : Bool) (s : State Term) (i : ℕ) (t : Term) → Stands s t → may_stand begun s (assert i t) ≡ true
+pub may : (begun : Bool) (s : State Term) (i : ℕ) (t : Term) → Stands s t → may_stand begun s (assert i t) ≡ true
 may begun s i t h =
     and_true (has_sort bool t) (is_printable_term s t) h.formula
     (and_true (is_well_sorted t) (is_clear t && (symbols_are_live s t && all_within (sort_is_live (sorts_of_state s)) is_usable t)) h.sorted

@@ -1,7 +1,7 @@
 -- Statements of the laws of passes that put one assertion in the place of each: what becomes of commands that can be printed,
 -- and of their models. SMT-LIB 2.6, section 4.2, for commands and section 5.3 for values.
-use Rattle.std.specs.Prelude.{◌≡◌, ℕ, Bool, true, false, List, IsTrue}
-use Rattle.std.specs.List.{list_all}
+use Rattle.std.specs.Prelude.{◌≡◌, ℕ, Bool, true, false, not, List, IsTrue}
+use Rattle.std.specs.List.{list_all, list_any}
 use Rattle.smt_terms.specs.Fresh.{Supply}
 use Rattle.smt_terms.specs.Keeps.{Keeps}
 use Rattle.smt_terms.specs.Models.{Model, IsModelOver}
@@ -13,11 +13,12 @@ use Rattle.script_read.specs.Printable.{printable}
 use Rattle.script_read.specs.Satisfied.{sat}
 use Rattle.smt_print.specs.Laws.{Each}
 use Rattle.passes.specs.declared.names.Pass.{Pass}
-use Rattle.passes.specs.declared.names.Pass.TheVariants.{Simplify, Nnf, Aig, Prenex, Reads, Shannon, SelfSub, Rules}
+use Rattle.passes.specs.declared.names.Pass.TheVariants.{Simplify, Nnf, Aig, Prenex, Reads, Shannon, SelfSub, Rules, Ite, Cnf}
 use Rattle.passes.specs.Led.{EachMayBecome}
+use Rattle.passes.specs.Lists.{makes_groups}
 use Rattle.passes.specs.Passed.{apply_pass, passed}
 use Rattle.passes.specs.Ruling.{RewritesCommands}
-use Rattle.passes.specs.Carry.{back, forth}
+use Rattle.passes.specs.Carry.{back, back_over, forth, forth_over}
 
 -- the passes of these laws: all that put one assertion in the place of each; stored rules count as changing nothing here
 abbrev pub keeps_values : Pass → Bool
@@ -86,3 +87,33 @@ PassesLeaveModels = (ps : List Pass) (cs : List (Command Term)) (s : Supply) →
 
 abbrev pub PassesCarryModels : Type 0
 PassesCarryModels = (ps : List Pass) (cs : List (Command Term)) (s : Supply) → IsTrue (list_all keeps_values ps) → IsReady cs s → CarriesModels cs (passed ps cs s).0 (back ps cs s) (forth ps cs s)
+
+-- ---- passes that put a group in the place of each assertion
+
+-- the passes of this law
+abbrev pub puts_groups : Pass → Bool
+puts_groups Ite = true
+puts_groups Cnf = true
+puts_groups _ = false
+
+-- of commands and a supply of names, behind such a pass
+pub record PutsGroups (p : Pass) (cs : List (Command Term)) (s : Supply) : Type 0 where
+  pub ready : IsReady (apply_pass p cs s).0 (apply_pass p cs s).1
+  pub models : CarriesModels cs (apply_pass p cs s).0 (back_over p cs s) (forth_over p cs s)
+
+abbrev pub GroupsCarryModels : Type 0
+GroupsCarryModels = (p : Pass) (cs : List (Command Term)) (s : Supply) → IsTrue (puts_groups p) → IsReady cs s → PutsGroups p cs s
+
+-- ---- lists with any passes that can be run
+
+-- of commands and a supply of names, and those that a pass made of them
+pub record IsCarried (p : Pass) (cs ds : List (Command Term)) (s r : Supply) : Type 0 where
+  pub ready : IsReady ds r
+  pub equivalent : IsTrue (not (makes_groups p)) → AreEquivalent cs ds
+  pub models : CarriesModels cs ds (back_over p cs s) (forth_over p cs s)
+
+-- and those that a list of passes made of them
+pub record AreCarried (ps : List Pass) (cs ds : List (Command Term)) (s r : Supply) : Type 0 where
+  pub ready : IsReady ds r
+  pub equivalent : IsTrue (not (list_any makes_groups ps)) → AreEquivalent cs ds
+  pub models : CarriesModels cs ds (back ps cs s) (forth ps cs s)

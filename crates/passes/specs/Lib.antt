@@ -1,6 +1,8 @@
 pub mod Assertion
 pub mod Behind
 pub mod Carry
+pub mod GroupPoints
+pub mod Groups
 pub mod Laws
 pub mod Led
 pub mod Lists

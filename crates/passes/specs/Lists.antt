@@ -65,6 +65,8 @@ can_run Reads = true
 can_run Shannon = true
 can_run SelfSub = true
 can_run Rules = true
+can_run Ite = true
+can_run Cnf = true
 can_run _ = false
 
 -- ---- lists

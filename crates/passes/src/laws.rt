@@ -1,5 +1,5 @@
-//! The laws of passes that put one assertion in the place of each, as the contracts of functions that do nothing. Where such
-//! a law rests on those of single forms, its function names them.
+//! The laws of passes, as the contracts of functions that do nothing. Where such a law rests on those of single forms or
+//! groups, its function names them.
 
 ghost use Rattle.passes.specs.Laws.{
   PassKeepsCommands,
@@ -8,15 +8,19 @@ ghost use Rattle.passes.specs.Laws.{
   EquivalentsHaveOneModel,
   PassesLeaveModels,
   PassesCarryModels,
+  GroupsCarryModels,
 };
 
 use array_forms::laws::reads_keep_values;
+use cnf_polarity::laws::cnf_makes_groups;
+use ite_free::laws::ite_makes_groups;
 use normal_forms::laws::{
     aig_keeps_values, nnf_keeps_values, prenex_keeps_values, selfsub_keeps_values,
     shannon_keeps_values,
 };
 use rule_book::laws::{eight_rewrite_so, rewriting_keeps_values};
 use simplify::laws::simplify_keeps_values;
+use term_groups::laws::constants_are_new;
 
 /// Behind each of these passes, and behind a list of them, printable commands are printable again, with the same checks; at
 /// each of them the same sorts, symbols and literals are live, and as many assertions, each of which has the sort of the one
@@ -59,4 +63,15 @@ pub fn passes_carry_models()
 {
     passes_keep_commands();
     passes_leave_models();
+}
+
+/// Behind a pass that puts groups in the place of assertions, printable commands are printable again, with the same checks; a
+/// model of them, carried back, is a model of those before the pass at the same point, and a model of those before it, carried
+/// forth, is one of those behind it. The names that are left to draw are new among those of the commands.
+pub fn groups_carry_models()
+    ensures { GroupsCarryModels }
+{
+    ite_makes_groups();
+    cnf_makes_groups();
+    constants_are_new();
 }

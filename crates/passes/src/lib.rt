@@ -3,6 +3,7 @@
 
 #![tactic(auto)]
 
+mod grouping;
 mod laws;
 mod list;
 mod names;
@@ -10,8 +11,8 @@ mod rewriters;
 mod running;
 
 pub use laws::{
-    equivalents_have_one_model, passes_carry_models, passes_keep_commands, passes_leave_models,
-    rules_keep_commands,
+    equivalents_have_one_model, groups_carry_models, passes_carry_models, passes_keep_commands,
+    passes_leave_models, rules_keep_commands,
 };
 pub use list::{Passes, parse_list};
 pub use names::{ListFault, Pass};

@@ -3,7 +3,7 @@
 ghost use Rattle.std.specs.Prelude.{◌≡◌, ◌<◌, ◌≤◌, [], ◌∷◌, ◌++◌, length, map, slice_get, MatchResult, true, false};
 ghost use Rattle.std.specs.List.{list_all};
 ghost use Rattle.passes.specs.declared.names.Pass.{Pass as APass};
-ghost use Rattle.passes.specs.Lists.{can_run, pass_among, pass_list, pass_named};
+ghost use Rattle.passes.specs.Lists.{can_run, groups_after_rules, in_order, makes_groups, pass_among, pass_list, pass_named};
 
 use crate::names::{ListFault, Pass};
 use arrayvec::ArrayVec;
@@ -34,16 +34,16 @@ pub struct Passes {
 }
 
 impl Model for Passes {
-    ghost use Rattle.std.specs.Prelude.{◌≡◌, List, true};
+    ghost use Rattle.std.specs.Prelude.{◌≡◌, List, true, false};
     ghost use Rattle.std.specs.List.{list_all};
     ghost use Rattle.passes.specs.declared.names.Pass.{Pass as APass};
-    ghost use Rattle.passes.specs.Lists.{can_run};
+    ghost use Rattle.passes.specs.Lists.{can_run, groups_after_rules};
 
     ghost Value = { List APass };
 
     ghost view = { λ s. s.passes.items };
 
-    ghost invariant = { λ s. list_all can_run s.passes.items ≡ true };
+    ghost invariant = { λ s. (list_all can_run s.passes.items ≡ true) × (groups_after_rules s.passes.items ≡ false) };
 }
 
 impl Passes {
@@ -56,11 +56,12 @@ impl Passes {
         }
     }
 
-    /// How many passes there are. Each of them can be run.
+    /// How many passes there are. Each of them can be run, and none that makes groups stands behind `rules`.
     pub fn len(&self) -> usize
         ensures number { result ≡ length self.now }
         ensures bound { result ≤ 32 }
         ensures run { list_all can_run self.now ≡ true }
+        ensures order { groups_after_rules self.now ≡ false }
     {
         self.passes.len()
     }
@@ -72,18 +73,6 @@ impl Passes {
     {
         self.passes.as_slice()[i]
     }
-
-    fn push(&mut self, pass: Pass) -> Result<(), ListFault>
-        requires { can_run pass ≡ true }
-        ensures { MatchResult result
-            (λ _. (length self.old < 32) × (self.new ≡ self.old ++ pass ∷ []))
-            (λ e. (length self.old ≡ 32) × (e ≡ ListFault.BadPass)) }
-    {
-        match self.passes.try_push(pass) {
-            Ok(()) => Ok(()),
-            Err(_) => Err(ListFault::BadPass),
-        }
-    }
 }
 
 /// Fills the places of a list that aren't used.
@@ -91,6 +80,39 @@ impl Default for Pass {
     fn default() -> Pass {
         Pass::Nnf
     }
+}
+
+/// Puts a pass last, where there is a place for it.
+fn push(passes: &mut ArrayVec<Pass, MOST>, pass: Pass) -> Result<(), ListFault>
+    ensures { MatchResult result
+        (λ _. (length passes.old.items < 32) × (passes.new.items ≡ passes.old.items ++ pass ∷ []))
+        (λ e. (length passes.old.items ≡ 32) × (e ≡ ListFault.BadPass)) }
+{
+    match passes.try_push(pass) {
+        Ok(()) => Ok(()),
+        Err(_) => Err(ListFault::BadPass),
+    }
+}
+
+/// The list of these passes, unless one that makes groups stands behind `rules`.
+fn in_order(passes: ArrayVec<Pass, MOST>) -> Result<Passes, ListFault>
+    requires { list_all can_run passes.items ≡ true }
+    ensures { result ≡ in_order passes.items }
+{
+    if groups_after_rules(passes.as_slice()) {
+        return Err(ListFault::AfterRules);
+    }
+    Ok(Passes { passes })
+}
+
+/// Whether a pass that makes groups stands behind `rules`.
+fn groups_after_rules(passes: &[Pass]) -> bool
+    ensures { result ≡ groups_after_rules passes.now }
+{
+    passes
+        .iter()
+        .skip_while(|pass| **pass != Pass::Rules)
+        .any(|pass| makes_groups(*pass))
 }
 
 fn named_among(names: &[(&str, Pass)], name: &str) -> Option<Pass>
@@ -138,17 +160,27 @@ fn can_be_run(pass: Pass) -> bool
             | Pass::Shannon
             | Pass::SelfSub
             | Pass::Rules
+            | Pass::Ite
+            | Pass::Cnf
     )
 }
 
+/// Whether the pass puts groups in the place of assertions, with new symbols.
+fn makes_groups(pass: Pass) -> bool
+    ensures { result ≡ makes_groups pass }
+{
+    matches!(pass, Pass::Ite | Pass::Cnf | Pass::Ackermann)
+}
+
 /// Reads a list of passes: their names, with a comma between each two. `BadPass` comes for a name that isn't that of a
-/// pass which can be run so far, and for more than 32 names. It takes no memory.
+/// pass which can be run so far, and for more than 32 names; else `AfterRules` for a pass that makes groups behind `rules`. It
+/// takes no memory.
 pub fn parse_list(text: &str) -> Result<Passes, ListFault>
     ensures { result ≡ pass_list text.now }
 {
-    let mut passes = Passes::new();
+    let mut passes = ArrayVec::new();
     for name in text.split(',') {
-        passes.push(listed(name)?)?;
+        push(&mut passes, listed(name)?)?;
     }
-    Ok(passes)
+    in_order(passes)
 }

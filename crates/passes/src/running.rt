@@ -1,19 +1,22 @@
-//! Lists of passes applied to scripts: behind a pass, an assertion stands in the place of each assertion, with its number, and
-//! other commands stay.
+//! Lists of passes applied to scripts: behind a pass, an assertion or a group stands in the place of each assertion, with its
+//! number, and other commands stay.
 
 ghost use Rattle.std.specs.Prelude.{◌≡◌, ◌<◌, ◌∷◌, [], true, length, slice_get, option_map, OnOk, IfOk};
-ghost use Rattle.std.specs.List.{list_all};
 ghost use Rattle.script_read.specs.CommandLists.{commands_of, AreCommandsOf};
 ghost use Rattle.term_subst.specs.Substituting.{IsLater, NeverGivesGained};
 ghost use Rattle.term_walk.specs.Walking.{GrowsTo};
 ghost use Rattle.passes.specs.Lists.{can_run};
 ghost use Rattle.passes.specs.Led.{LeadsTo};
-ghost use Rattle.passes.specs.Laws.{keeps_values, IsReady, AreEquivalent, KeepsCommands};
+ghost use Rattle.passes.specs.Laws.{IsReady, IsCarried, AreCarried};
 ghost use Rattle.passes.specs.Ruling.{RewritesCommands};
 ghost use Rattle.passes.specs.Behind.{simplified_form, nnf_form, aig_form, reads_form, in_form, AreRewritable};
 ghost use Rattle.passes.specs.Assertion.{assertion_of};
 
-use crate::laws::{passes_keep_commands, rules_keep_commands};
+use crate::grouping::{Clauses, IteRemoval, group_each};
+use crate::laws::{
+    equivalents_have_one_model, groups_carry_models, passes_keep_commands, passes_leave_models,
+    rules_keep_commands,
+};
 use crate::list::Passes;
 use crate::names::Pass;
 use crate::rewriters::{
@@ -47,8 +50,9 @@ impl From<AllocError> for PassFault {
 
 /// The script behind the passes, from the first to the last: behind each, what the pass makes of an assertion stands in its
 /// place, with its number, and all other commands stay. `rules` asks those of the book. The script has to be printable, and so
-/// is the answer; at each check as many assertions are live in both, each with the value of the one in its place in every model.
-/// After a refusal the script is given up; the table only gains, and names that were drawn aren't drawn again.
+/// is the answer; at each check every model of the answer, carried back over the passes, is one of the script, and every model
+/// of the script, carried forth, is one of the answer. Where no pass makes groups, as many assertions are live in both, each
+/// with the value of the one in its place in every model. After a refusal the script is given up; the table only gains, and names that were drawn aren't drawn again.
 pub fn run_passes(
     alloc: Global,
     table: &mut Table,
@@ -61,9 +65,7 @@ pub fn run_passes(
     requires ready { IsReady (commands_of table.old script.commands) fresh.old }
     ensures numbers { IfOk result (λ s. AreCommandsOf table.new s.commands) }
     ensures leads { IfOk result (λ s. LeadsTo passes.now (commands_of table.old script.commands) fresh.old (⟦<RuleBook as Named>⟧.names book.now) (commands_of table.new s.commands) fresh.new) }
-    ensures ready { IfOk result (λ s. IsReady (commands_of table.new s.commands) fresh.new) }
-    ensures equivalent { IfOk result (λ s. AreEquivalent (commands_of table.old script.commands) (commands_of table.new s.commands)) }
-    ensures values { OnOk result (list_all keeps_values passes.now ≡ true) }
+    ensures carried { IfOk result (λ s. AreCarried passes.now (commands_of table.old script.commands) (commands_of table.new s.commands) fresh.old fresh.new) }
     ensures later { IsLater fresh.old fresh.new }
     ensures drawn { NeverGivesGained fresh.new table.old.symbols table.new.symbols }
     ensures grows { GrowsTo table.old table.new }
@@ -75,7 +77,7 @@ pub fn run_passes(
     Ok(script)
 }
 
-/// Puts one assertion in the place of each, as the pass says.
+/// Puts one assertion or a group in the place of each, as the pass says.
 fn run_pass(
     alloc: Global,
     table: &mut Table,
@@ -89,13 +91,16 @@ fn run_pass(
     requires ready { IsReady (commands_of table.old script.old.commands) fresh.old }
     ensures numbers { OnOk result (AreCommandsOf table.new script.new.commands) }
     ensures leads { OnOk result (LeadsTo (pass ∷ []) (commands_of table.old script.old.commands) fresh.old (⟦<RuleBook as Named>⟧.names book.now) (commands_of table.new script.new.commands) fresh.new) }
-    ensures keeps { OnOk result (KeepsCommands (commands_of table.old script.old.commands) (commands_of table.new script.new.commands, fresh.new)) }
+    ensures carried { OnOk result (IsCarried pass (commands_of table.old script.old.commands) (commands_of table.new script.new.commands) fresh.old fresh.new) }
     ensures later { IsLater fresh.old fresh.new }
     ensures drawn { NeverGivesGained fresh.new table.old.symbols table.new.symbols }
     ensures grows { GrowsTo table.old table.new }
 {
     passes_keep_commands();
+    passes_leave_models();
     rules_keep_commands();
+    equivalents_have_one_model();
+    groups_carry_models();
     match pass {
         Pass::Simplify => {
             simplify_each::<Brand>(alloc, table, script, fresh, Blank::new(1))?;
@@ -129,7 +134,15 @@ fn run_pass(
             ask_rules::<Brand>(alloc, table, script, book, Blank::new(1))?;
             Ok(())
         }
-        _ => unreachable!(),
+        Pass::Ite => {
+            group_each(alloc, table, script, &mut IteRemoval { alloc }, fresh)?;
+            Ok(())
+        }
+        Pass::Cnf => {
+            group_each(alloc, table, script, &mut Clauses { alloc }, fresh)?;
+            Ok(())
+        }
+        Pass::Ackermann => unreachable!(),
     }
 }
 

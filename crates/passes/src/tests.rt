@@ -8,27 +8,25 @@ const NAMES: &str =
 const TOO_MANY: &str =
     "nnf,nnf,nnf,nnf,nnf,nnf,nnf,nnf,nnf,nnf,nnf,nnf,nnf,nnf,nnf,nnf,nnf,nnf,nnf,nnf,nnf,nnf,nnf,nnf,nnf,nnf,nnf,nnf,nnf,nnf,nnf,nnf,nnf";
 
-/// How many passes a list has; 100 where it isn't one.
-fn count_of(text: &str) -> usize {
-    match parse_list(text) {
-        Ok(passes) => passes.len(),
-        Err(ListFault::BadPass) => 100,
-        Err(ListFault::AfterRules) => 200,
-    }
+/// How many passes a list has.
+fn count_of(text: &str) -> Result<usize, ListFault> {
+    Ok(parse_list(text)?.len())
 }
 
 #[test]
 fn lists(rt: HostRuntime) {
     for (text, count) in [
-        ("nnf", 1),
-        ("simplify,nnf,aig,prenex,reads,shannon,selfsub", 7),
-        (NAMES, 32),
-        (TOO_MANY, 100),
-        ("", 100),
-        ("nnf,", 100),
-        ("nnf, aig", 100),
-        ("nnf,rules,nnf", 3),
-        ("rules,cnf", 100),
+        ("nnf", Ok(1)),
+        ("simplify,nnf,aig,prenex,reads,shannon,selfsub", Ok(7)),
+        (NAMES, Ok(32)),
+        (TOO_MANY, Err(ListFault::BadPass)),
+        ("", Err(ListFault::BadPass)),
+        ("nnf,", Err(ListFault::BadPass)),
+        ("nnf, aig", Err(ListFault::BadPass)),
+        ("nnf,rules,nnf", Ok(3)),
+        ("ite,cnf,rules", Ok(3)),
+        ("rules,nnf,cnf", Err(ListFault::AfterRules)),
+        ("rules,ackermann", Err(ListFault::BadPass)),
     ] {
         assert!(rt; count_of(text) == count, "{text}");
     }

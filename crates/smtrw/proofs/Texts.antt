@@ -1,6 +1,5 @@
 -- What may be written of an accepted text, by the commands that were read of it and those that passes made of these.
-use Rattle.std.proofs.Common.{◌≡◌, sym, ap, subst, ℕ, true, List, Result, Ok}
-use Rattle.std.specs.List.{list_all}
+use Rattle.std.proofs.Common.{◌≡◌, sym, ap, subst, ℕ, List, Result, Ok}
 use Rattle.smt_terms.specs.Fresh.{Supply}
 use Rattle.smt_terms.specs.Sorts.{Name}
 use Rattle.smt_terms.specs.Term.{Term}
@@ -10,7 +9,7 @@ use Rattle.script_read.specs.Script.{fault_of, script}
 use Rattle.smt_print.specs.declared.layout.Layout.{Layout}
 use Rattle.smt_print.specs.Text.{lines}
 use Rattle.passes.specs.declared.names.Pass.{Pass}
-use Rattle.passes.specs.Laws.{keeps_values, IsReady, AreEquivalent}
+use Rattle.passes.specs.Laws.{AreCarried}
 use Rattle.passes.specs.Led.{LeadsTo}
 use Rattle.smtrw_answers.specs.Headline.{IsRewriting}
 use Rattle.smtrw_answers.specs.Laws.{RewritingKeepsItsPromise}
@@ -21,7 +20,8 @@ may_be_written b read is ps rules layout ds left led w written =
     let Led : Result (List (Command Term) × Supply) Unaccepted → Type 0 = λ r. LeadsTo ps (read_or_none r).0 (read_or_none r).1 rules ds left in
     (ds, (left, subst Led (sym is) led), written)
 
-pub promised : RewritingKeepsItsPromise → (b : List ℕ) (read : List (Command Term) × Supply) → script b ≡ Ok read → (ps : List Pass) (layout : Layout) (ds : List (Command Term)) (left : Supply) → list_all keeps_values ps ≡ true → IsReady ds left → AreEquivalent read.0 ds → (w : List ℕ) → w ≡ lines layout ds → IsRewriting b ps w
-promised law b read is ps layout ds left values ready same w written =
-    let Same : Result (List (Command Term) × Supply) Unaccepted → Type 0 = λ r. AreEquivalent (read_or_none r).0 ds in
-    subst (IsRewriting b ps) (sym written) (law b ps layout ds left (ap fault_of is) values ready (subst Same (sym is) same))
+pub promised : RewritingKeepsItsPromise → (b : List ℕ) (read : List (Command Term) × Supply) → script b ≡ Ok read → (ps : List Pass) (layout : Layout) (ds : List (Command Term)) (left : Supply) → AreCarried ps read.0 ds read.1 left → (w : List ℕ) → w ≡ lines layout ds → IsRewriting b ps w
+promised law b read is ps layout ds left carried w written =
+    let Carried : Result (List (Command Term) × Supply) Unaccepted → Type 0 = λ r. AreCarried ps (read_or_none r).0 ds (read_or_none r).1 left in
+    let there : AreCarried ps (read_or_none (script b)).0 ds (read_or_none (script b)).1 left = subst Carried (sym is) carried in
+    subst (IsRewriting b ps) (sym written) (law b ps layout ds left (ap fault_of is) there.ready there.equivalent there.models)

@@ -1,5 +1,5 @@
--- Rewriting keeps its promise: reading keeps meaning, what stands in place of the commands is equivalent to them, and printing
--- reads back.
+-- Rewriting keeps its promise: reading keeps meaning, the passes carry models and, where none of them makes groups, keep
+-- values, and printing reads back.
 use Rattle.std.proofs.Common.{◌≡◌, ◌∙◌, sym, ap, refl, ℕ, suc, Bool, true, ◌&&◌, List, [], ◌∷◌, ◌++◌, map, length, Result, Ok, Err, subst}
 use Rattle.std.specs.Prelude.{is_ok}
 use Rattle.std.specs.List.{list_all}
@@ -12,7 +12,7 @@ use Rattle.smt_terms.specs.Term.{Term}
 use Rattle.smt_terms.specs.Val.{no_variables}
 use Rattle.smt_terms.proofs.Tests.{both_true, and_true}
 use Rattle.script_read.specs.Commands.{Command, Signature, live, literals, signature}
-use Rattle.script_read.specs.Laws.{PointsAgree, SamePoints, ReadingAnswers, denoted, form_denoted, SameMeaning, ReadingKeepsMeaning, ReadScriptsArePrintable, NamesLeftAreNew}
+use Rattle.script_read.specs.Laws.{PointsAgree, SamePoints, ReadingAnswers, denoted, form_denoted, SameMeaning, ReadingKeepsMeaning}
 use Rattle.script_read.specs.Mean.{Denoted, is_true_of}
 use Rattle.script_terms.specs.Read.{has_sort}
 use Rattle.script_terms.specs.Refusals.{Unaccepted}
@@ -23,13 +23,13 @@ use Rattle.smt_print.specs.declared.layout.Layout.{Layout}
 use Rattle.smt_print.specs.Laws.{Each, MeansTheSame, ReadsBack, PrintingReadsBack}
 use Rattle.smt_print.specs.Text.{lines}
 use Rattle.passes.specs.declared.names.Pass.{Pass}
-use Rattle.passes.specs.Laws.{keeps_values, IsReady, AreEquivalent, EquivalentsHaveOneModel, PassesLeaveModels, IsModelOf, CarriesModels}
+use Rattle.passes.specs.Laws.{IsReady, AreEquivalent, IsModelOf, CarriesModels}
 use Rattle.passes.proofs.Literals.{sort_is_bool}
 use Rattle.passes.proofs.Truths.{same_truth}
 use Rattle.smtrw_answers.specs.Carrying.{translated, extended}
-use Rattle.smtrw_answers.specs.Headline.{signature_at, IsModelAt, MeanTheSame, IsEquivalentAt, IsRewriting}
+use Rattle.smtrw_answers.specs.Headline.{signature_at, IsModelAt, are_equivalences, MeanTheSame, IsEquivalentAt, IsRewriting}
 use Rattle.smtrw_answers.specs.Laws.{RewritingKeepsItsPromise}
-use Rattle.smtrw_answers.specs.Outputs.{read_or_none, commands, names_left}
+use Rattle.smtrw_answers.specs.Outputs.{read_or_none, commands}
 
 -- ---- lists that are related one by one
 
@@ -83,16 +83,12 @@ pub record TextLaws : Type 0 where
   pub answers : ReadingAnswers
   pub points : PointsAgree
   pub meaning : ReadingKeepsMeaning
-  pub printable : ReadScriptsArePrintable
-  pub names : NamesLeftAreNew
-  pub one_model : EquivalentsHaveOneModel
-  pub stay : PassesLeaveModels
   pub printed : PrintingReadsBack
 
 over_same : (m : Model) (g h : Signature) → g ≡ h → IsModelOver g.sorts g.symbols m → IsModelOver h.sorts h.symbols m
 over_same m g h same over = subst (λ (f : Signature). IsModelOver f.sorts f.symbols m) same over
 
-module _ (laws : TextLaws) (b : List ℕ) (ps : List Pass) (layout : Layout) (ds : List (Command Term)) (left : Supply) (all : list_all keeps_values ps ≡ true) (ready : IsReady ds left) (same : AreEquivalent (commands b) ds) (reads : script b ≡ Ok (read_or_none (script b))) where
+module _ (laws : TextLaws) (b : List ℕ) (ps : List Pass) (layout : Layout) (ds : List (Command Term)) (left : Supply) (ready : IsReady ds left) (same : are_equivalences ps ≡ true → AreEquivalent (commands b) ds) (carried : CarriesModels (commands b) ds (translated b ps) (extended b ps)) (reads : script b ≡ Ok (read_or_none (script b))) where
   abbrev cs : List (Command Term)
   cs = commands b
 
@@ -113,20 +109,6 @@ module _ (laws : TextLaws) (b : List ℕ) (ps : List Pass) (layout : Layout) (ds
   model_read : (m : Model) (k : ℕ) → IsModelOf (commands b) k m → IsModelAt b k m × (holds m b k ≡ true)
   model_read m k is = (over_same m (signature cs k) (signature_at b k) (points.signatures k) is.over, (means m k).satisfied ∙ is.sat)
 
-  -- ---- the commands in their place
-
-  read : IsReady (commands b) (names_left b)
-  read = record { printable = laws.printable b (read_or_none (script b)) reads; names = laws.names b (read_or_none (script b)) reads }
-
-  carried : CarriesModels (commands b) ds (λ k m. m) (λ k m. m)
-  carried = laws.one_model (commands b) ds (names_left b) read same
-
-  translated_model : (m : Model) (k : ℕ) → IsModelOf ds k m → IsModelOf (commands b) k (translated b ps k m)
-  translated_model m k is = subst (IsModelOf cs k) (sym (laws.stay ps (commands b) (names_left b) all k m).0) (carried.back k m is)
-
-  extended_model : (m : Model) (k : ℕ) → IsModelOf (commands b) k m → IsModelOf ds k (extended b ps k m)
-  extended_model m k is = subst (IsModelOf ds k) (sym (laws.stay ps (commands b) (names_left b) all k m).1) (carried.forth k m is)
-
   -- ---- these commands and the text that is printed
 
   text : ReadsBack layout ds
@@ -143,23 +125,23 @@ module _ (laws : TextLaws) (b : List ℕ) (ps : List Pass) (layout : Layout) (ds
 
   -- ---- all together
 
-  equivalent_at : (k : ℕ) → IsEquivalentAt b (lines layout ds) k
-  equivalent_at k = record {
-    signatures = text.signatures k ∙ same.signatures k ∙ points.signatures k;
-    count = sym (each_length MeansTheSame (live ds k) (live (forms_script w) k) (text.live k)) ∙ sym (each_length Keeps (live cs k) (live ds k) (same.live k)) ∙ points.live k;
+  equivalent_at : AreEquivalent (commands b) ds → (k : ℕ) → IsEquivalentAt b (lines layout ds) k
+  equivalent_at equal k = record {
+    signatures = text.signatures k ∙ equal.signatures k ∙ points.signatures k;
+    count = sym (each_length MeansTheSame (live ds k) (live (forms_script w) k) (text.live k)) ∙ sym (each_length Keeps (live cs k) (live ds k) (equal.live k)) ∙ points.live k;
     meanings = λ m over.
         let formulas : list_all (has_sort bool) (live cs k) ≡ true = all_first (has_sort bool) (live cs k) (literals cs k) (means m k).truth_values in
-        meanings_same m over.valid (live (forms_script b) k) (live cs k) (live ds k) (live (forms_script w) k) (means m k).asserted formulas (same.live k) (text.live k);
+        meanings_same m over.valid (live (forms_script b) k) (live cs k) (live ds k) (live (forms_script w) k) (means m k).asserted formulas (equal.live k) (text.live k);
   }
 
   promise : IsRewriting b ps (lines layout ds)
   promise = record {
     accepted = text.accepted;
-    same_points = text.kinds ∙ same.kinds ∙ points.kinds;
-    equivalence = λ equal k is. equivalent_at k;
-    translation = λ k is m over held. model_read (translated b ps k m) k (translated_model m k (printed_model m k over held));
-    extension = λ k is m over held. model_printed (extended b ps k m) k (extended_model m k (read_model m k over held));
+    same_points = text.kinds ∙ carried.kinds ∙ points.kinds;
+    equivalence = λ equivalences k is. equivalent_at (same equivalences) k;
+    translation = λ k is m over held. model_read (translated b ps k m) k (carried.back k m (printed_model m k over held));
+    extension = λ k is m over held. model_printed (extended b ps k m) k (carried.forth k m (read_model m k over held));
   }
 
 pub keeps_promise : TextLaws → RewritingKeepsItsPromise
-keeps_promise laws b ps layout cs s accepted all ready same = promise laws b ps layout cs s all ready same (read_found (script b) ((laws.answers b).1 accepted))
+keeps_promise laws b ps layout cs s accepted ready same carried = promise laws b ps layout cs s ready same carried (read_found (script b) ((laws.answers b).1 accepted))

@@ -1,6 +1,6 @@
 -- The statements of the laws of what is written: that rewriting keeps its promise, and where one text alone may be written.
 use Rattle.std.specs.Prelude.{◌≡◌, ℕ, Bool, true, false, List, None, IsTrue}
-use Rattle.std.specs.List.{list_all, list_any}
+use Rattle.std.specs.List.{list_any}
 use Rattle.smt_terms.specs.Fresh.{Supply}
 use Rattle.smt_terms.specs.Sorts.{Name}
 use Rattle.smt_terms.specs.Term.{Term}
@@ -11,14 +11,17 @@ use Rattle.smt_print.specs.declared.layout.Layout.{Layout}
 use Rattle.passes.specs.declared.names.Pass.{Pass}
 use Rattle.smt_print.specs.Text.{lines}
 use Rattle.passes.specs.declared.names.Pass.TheVariants.{Rules}
-use Rattle.passes.specs.Laws.{keeps_values, IsReady, AreEquivalent}
-use Rattle.smtrw_answers.specs.Headline.{IsRewriting}
+use Rattle.passes.specs.Laws.{IsReady, AreEquivalent, CarriesModels}
+use Rattle.smtrw_answers.specs.Carrying.{translated, extended}
+use Rattle.smtrw_answers.specs.Headline.{IsRewriting, are_equivalences}
 use Rattle.smtrw_answers.specs.Outputs.{commands, rewritten, MayBeWritten}
 
--- of every accepted text, every list of these passes, either layout, and any printable commands that are equivalent to the text's
+-- of every accepted text, every list of passes, either layout, and any printable commands that such a list may have led to:
+-- they have the models of the text's, carried over the passes, and under equivalence passes they are equivalent to these
 abbrev pub RewritingKeepsItsPromise : Type 0
 RewritingKeepsItsPromise = (b : List ℕ) (ps : List Pass) (layout : Layout) (cs : List (Command Term)) (s : Supply) →
-    fault b ≡ None → IsTrue (list_all keeps_values ps) → IsReady cs s → AreEquivalent (commands b) cs → IsRewriting b ps (lines layout cs)
+    fault b ≡ None → IsReady cs s → (IsTrue (are_equivalences ps) → AreEquivalent (commands b) cs) →
+    CarriesModels (commands b) cs (translated b ps) (extended b ps) → IsRewriting b ps (lines layout cs)
 
 -- a list without stored rules writes one text, whatever rules there are
 abbrev pub is_rules : Pass → Bool

@@ -2,11 +2,7 @@
 
 ghost use Rattle.smtrw_answers.specs.Laws.{RewritingKeepsItsPromise, WithoutRulesOneText, EightWriteOneText};
 
-use passes::{equivalents_have_one_model, passes_leave_models};
-use script_read::{
-    names_left_are_new, reading_answers, reading_gives_a_printable_script, reading_keeps_meaning,
-    terms_and_forms_agree,
-};
+use script_read::{reading_answers, reading_keeps_meaning, terms_and_forms_agree};
 use smt_print::printing_reads_back;
 
 /// What rewriting writes of an accepted text, in either layout, is an accepted text with the same points; at each of them each
@@ -18,10 +14,6 @@ pub fn rewriting_keeps_its_promise()
     reading_answers();
     terms_and_forms_agree();
     reading_keeps_meaning();
-    reading_gives_a_printable_script();
-    names_left_are_new();
-    equivalents_have_one_model();
-    passes_leave_models();
     printing_reads_back();
 }
 

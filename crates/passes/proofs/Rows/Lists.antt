@@ -66,15 +66,19 @@ rules_and_too_many = refl
 
 -- ---- so far
 
-standing : pass_list (codes "simplify,nnf,aig,prenex,reads,shannon,selfsub,rules") ≡ Ok (Simplify ∷ Nnf ∷ Aig ∷ Prenex ∷ Reads ∷ Shannon ∷ SelfSub ∷ Rules ∷ [])
+standing : pass_list (codes "simplify,nnf,aig,prenex,reads,shannon,selfsub,ite,cnf,rules") ≡ Ok (Simplify ∷ Nnf ∷ Aig ∷ Prenex ∷ Reads ∷ Shannon ∷ SelfSub ∷ Ite ∷ Cnf ∷ Rules ∷ [])
 unfolding pass_named
 standing = refl
 
-to_come : pass_list (codes "nnf,cnf") ≡ Err BadPass
+groups_after_rules : pass_list (codes "rules,nnf,cnf") ≡ Err AfterRules
+unfolding pass_named
+groups_after_rules = refl
+
+to_come : pass_list (codes "nnf,ackermann") ≡ Err BadPass
 unfolding pass_named
 to_come = refl
 
 -- a pass that can't be run counts before the order
-to_come_after_rules : pass_list (codes "rules,cnf") ≡ Err BadPass
+to_come_after_rules : pass_list (codes "rules,ackermann") ≡ Err BadPass
 unfolding pass_named
 to_come_after_rules = refl

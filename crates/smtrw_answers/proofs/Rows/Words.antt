@@ -204,17 +204,21 @@ value_before_missing = refl
 
 -- ---- what the program has so far
 
-standing_passes : so_far ("rewrite" ∷ "--passes=simplify,nnf,aig,prenex,reads,shannon,selfsub,rules" ∷ "-" ∷ []) ≡ Ok (rewrite (Simplify ∷ Nnf ∷ Aig ∷ Prenex ∷ Reads ∷ Shannon ∷ SelfSub ∷ Rules ∷ []) Tree (word 3 "-"))
+standing_passes : so_far ("rewrite" ∷ "--passes=simplify,nnf,aig,prenex,reads,shannon,selfsub,ite,cnf,rules" ∷ "-" ∷ []) ≡ Ok (rewrite (Simplify ∷ Nnf ∷ Aig ∷ Prenex ∷ Reads ∷ Shannon ∷ SelfSub ∷ Ite ∷ Cnf ∷ Rules ∷ []) Tree (word 3 "-"))
 unfolding pass_named
 standing_passes = refl
 
-a_pass_to_come : so_far ("rewrite" ∷ "--passes" ∷ "nnf,ite" ∷ "-" ∷ []) ≡ fault 3 BadPass
+a_pass_to_come : so_far ("rewrite" ∷ "--passes" ∷ "nnf,ackermann" ∷ "-" ∷ []) ≡ fault 3 BadPass
 unfolding pass_named
 a_pass_to_come = refl
 
-passes_to_come_in_wrong_order : so_far ("rewrite" ∷ "--passes" ∷ "rules,cnf" ∷ "-" ∷ []) ≡ fault 3 BadPass
+passes_to_come_in_wrong_order : so_far ("rewrite" ∷ "--passes" ∷ "rules,ackermann" ∷ "-" ∷ []) ≡ fault 3 BadPass
 unfolding pass_named
 passes_to_come_in_wrong_order = refl
+
+groups_in_wrong_order : so_far ("rewrite" ∷ "--passes" ∷ "rules,cnf" ∷ "-" ∷ []) ≡ fault 3 AfterRules
+unfolding pass_named
+groups_in_wrong_order = refl
 
 a_command_to_come : so_far ("translate" ∷ "-" ∷ "-" ∷ []) ≡ fault 1 UnknownCommand
 a_command_to_come = refl

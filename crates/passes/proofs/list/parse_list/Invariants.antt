@@ -4,4 +4,4 @@ use Rattle.passes.proofs.ListedNames.{Taken}
 use Rattle.passes.proofs.list.parse_list.Given as goal
 
 abbrev pub invariant-loop-name : goal.invariant-loop-name
-invariant-loop-name l = Taken (between_commas l.text) (length l.yielded) l.passes
+invariant-loop-name l = Taken (between_commas l.text) (length l.yielded) l.passes.items

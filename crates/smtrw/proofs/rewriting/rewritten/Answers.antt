@@ -47,4 +47,4 @@ returns-clause-promise g c =
     c.in_ok-script_into.ensures.ok
     ∙ ap (λ (t : Formulas). c.over-text.result ++ lines c.args.layout (commands_of t c.in_ok-script-2.script.commands)) (c.deref.ensures ∙ c.new-table-2.ensures)
     ∙ ap (λ (old : List ℕ). old ++ lines c.args.layout ds) c.over-text.ensures in
-    promised c.rewriting_keeps_its_promise.ensures b read is c.args.passes.now c.args.layout ds c.run_passes.new.fresh c.in_ok-script-2.ensures.values c.in_ok-script-2.ensures.ready c.in_ok-script-2.ensures.equivalent c.script_into.new.out text
+    promised c.rewriting_keeps_its_promise.ensures b read is c.args.passes.now c.args.layout ds c.run_passes.new.fresh c.in_ok-script-2.ensures.carried c.script_into.new.out text

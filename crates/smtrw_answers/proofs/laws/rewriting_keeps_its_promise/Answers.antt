@@ -6,9 +6,5 @@ returns c = keeps_promise (record {
   answers = c.reading_answers.ensures;
   points = c.terms_and_forms_agree.ensures.points;
   meaning = c.reading_keeps_meaning.ensures.points;
-  printable = c.reading_gives_a_printable_script.ensures;
-  names = c.names_left_are_new.ensures;
-  one_model = c.equivalents_have_one_model.ensures;
-  stay = c.passes_leave_models.ensures;
   printed = c.printing_reads_back.ensures;
 })
