@@ -1,6 +1,7 @@
 -- Commands over a table that only gained.
-use Rattle.std.proofs.Common.{◌≡◌, List, ap, refl}
+use Rattle.std.proofs.Common.{◌≡◌, ◌∙◌, List, ap, refl}
 use Rattle.std.proofs.lemmas.List.Elements.{All-weaker}
+use Rattle.smt_values.specs.SortIds.{is_free}
 use Rattle.term_table.specs.Formulas.{Formulas}
 use Rattle.term_walk.specs.Walking.{GrowsTo}
 use Rattle.script_read.specs.declared.scripts.Command.{Command}
@@ -12,7 +13,7 @@ use Rattle.script_terms.proofs.Grown.{same_map, node_stays, tree_stays, nodes_st
 module _ (t u : Formulas) (grows : GrowsTo t u) where
   pub command_within : (c : Command) → IsCommandOf t c → IsCommandOf u c
   command_within (Passed text) is = tt
-  command_within (DeclareSort s) is = sort_within t.sorts u.sorts grows.sorts s is
+  command_within (DeclareSort s) is = (sort_within t.sorts u.sorts grows.sorts s is.0, ap is_free (sort_stays t.sorts u.sorts grows.sorts s is.0) ∙ is.1)
   command_within (Declare f) is = symbol_within t u grows f is
   command_within (Assert id number) is = node_stays t u grows id is
   command_within Check is = tt
@@ -26,7 +27,7 @@ module _ (t u : Formulas) (grows : GrowsTo t u) where
 
   pub command_stays : (c : Command) → IsCommandOf t c → command_of u c ≡ command_of t c
   command_stays (Passed text) is = refl
-  command_stays (DeclareSort s) is = ap (λ to. declare_sort (free_name to)) (sort_stays t.sorts u.sorts grows.sorts s is)
+  command_stays (DeclareSort s) is = ap (λ to. declare_sort (free_name to)) (sort_stays t.sorts u.sorts grows.sorts s is.0)
   command_stays (Declare f) is = ap declare (symbol_stays t u grows f is)
   command_stays (Assert id number) is = ap (assert number) (tree_stays t u grows id is)
   command_stays Check is = refl

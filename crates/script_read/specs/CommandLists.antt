@@ -4,7 +4,7 @@ use Rattle.smt_lex.specs.Names.{Name}
 use Rattle.smt_terms.specs.Sorts.{Sort, free_sort}
 use Rattle.smt_terms.specs.Fresh.{Supply}
 use Rattle.smt_terms.specs.Term.{Term}
-use Rattle.smt_values.specs.SortIds.{sort_at, IsSortId}
+use Rattle.smt_values.specs.SortIds.{sort_at, is_free, IsSortId}
 use Rattle.term_table.specs.Formulas.{Formulas, tree, trees_at, symbol_at, IsNode, AreNodes, IsSymbol}
 use Rattle.script_read.specs.declared.scripts.Command.{Command}
 use Rattle.script_read.specs.declared.scripts.Script.{Script}
@@ -39,7 +39,7 @@ commands_of t cs = map (command_of t) cs
 
 -- its numbers are those of the table
 abbrev pub IsCommandOf : Formulas → Command → Type 0
-IsCommandOf t (DeclareSort s) = IsSortId t.sorts s
+IsCommandOf t (DeclareSort s) = IsSortId t.sorts s × (is_free (sort_at t.sorts s) ≡ true)
 IsCommandOf t (Declare f) = IsSymbol t f
 IsCommandOf t (Assert id number) = IsNode t id
 IsCommandOf t (CheckAssuming ids) = AreNodes t ids

@@ -3,7 +3,7 @@ use Rattle.smt_terms.specs.Sorts.{free_sort}
 use Rattle.term_walk.specs.Walking.{GrowsTo}
 use Rattle.script_terms.specs.Known.{with_sort}
 use Rattle.script_terms.proofs.Grown.{grown_self, grown_sorts}
-use Rattle.smt_values.specs.SortIds.{IsPlain}
+use Rattle.smt_values.specs.SortIds.{is_free, IsPlain}
 use Rattle.script_read.specs.ShapeClauses.{named_at, counted_at}
 use Rattle.script_terms.specs.Replies.{refused_seen}
 use Rattle.script_read.specs.Steps.{one}
@@ -41,3 +41,6 @@ returns-clause-step c = λ s stands.
     c.in_ok-sort.ensures.within
     (c.in_ok-sort.ensures.sort ∙ ap free_sort c.name.ensures)
     (c.in_ok-bind_sort.ensures ∙ ap (λ n. with_sort n c.in_ok-sort.sort c.args.session.now.sofar.scope) c.name-2.ensures)
+
+pub returns-clause-command : goal.returns-clause-command
+returns-clause-command c = (c.in_ok-sort.ensures.within, ap is_free c.in_ok-sort.ensures.sort)
