@@ -1,1 +1,9 @@
-mod Rows
+mod FoundBack
+mod LiveLevels
+mod LiveBehind
+mod SignatureFound
+mod RowsAlike
+mod NumberedGraphs
+mod RowsOfGraphs
+mod ModelsGrown
+mod RowsOfNumbers

@@ -1,7 +1,8 @@
-pub mod Refusals
-pub mod Reading
-pub mod ValueForms
-pub mod Tables
-pub mod Entries
-pub mod ModelText
-pub mod ModelLines
+pub mod LiveNumbers
+pub mod GoingBack
+pub mod ModelCodes
+pub mod GraphRows
+pub mod NumberRows
+pub mod ModelView
+pub mod Division
+pub mod Laws

@@ -3,9 +3,9 @@
 use Rattle.std.specs.Prelude.{ℕ, List, Result, Ok, Err}
 use Rattle.smt_terms.specs.Models.{Model}
 use Rattle.script_read.specs.Commands.{Signature, signature}
-use Rattle.models.specs.Refusals.{Unmodelled}
-use Rattle.models.specs.ModelText.{model_of}
-use Rattle.models.specs.ModelLines.{model_lines}
+use Rattle.model_texts.specs.Refusals.{Unmodelled}
+use Rattle.model_texts.specs.ModelText.{model_of}
+use Rattle.model_texts.specs.ModelLines.{model_lines}
 use Rattle.passes.specs.declared.names.Pass.{Pass}
 use Rattle.passes.specs.Carry.{back, forth}
 use Rattle.smtrw_answers.specs.Outputs.{commands, names_left, rewritten_commands}

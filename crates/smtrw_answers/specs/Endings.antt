@@ -8,8 +8,8 @@ use Rattle.script_terms.specs.declared.faults.Refusal.{Refusal}
 use Rattle.script_terms.specs.Refusals.{code_of, Unaccepted, unread, refused}
 use Rattle.script_read.specs.Commands.{checks}
 use Rattle.script_read.specs.Script.{fault_place, fault}
-use Rattle.models.specs.Refusals.{Unmodelled, code_of as model_code_of, unread as unread_model, refused as refused_model}
-use Rattle.models.specs.ModelText.{model_of}
+use Rattle.model_texts.specs.Refusals.{Unmodelled, code_of as model_code_of, unread as unread_model, refused as refused_model}
+use Rattle.model_texts.specs.ModelText.{model_of}
 use Rattle.passes.specs.declared.names.Pass.{Pass}
 use Rattle.passes.specs.Passed.{refused_assertion}
 use Rattle.passes.specs.Carry.{Stage, back_stages, forth_stages, too_wide, beyond}

@@ -1,0 +1,19 @@
+pub mod Placed
+pub mod Knowing
+pub mod ConstantsRead
+pub mod ValuesRead
+pub mod Parameters
+pub mod BodiesRead
+pub mod FirstRows
+pub mod FunctionsRead
+pub mod EntriesRead
+pub mod Written
+pub mod LinesRead
+pub mod TablesRead
+pub mod ReadBack
+pub mod PrintableSignatures
+mod Rows
+pub mod PrintedNames
+pub mod PrintedValues
+pub mod PrintedTables
+pub mod PrintedEntries

@@ -1,0 +1,5 @@
+-- Worked rows, by topics.
+mod Given
+mod ReadAndPrinted
+mod Refused
+mod Writable

@@ -1,4 +1,0 @@
--- Worked rows, by topics.
-mod Given
-mod ReadAndPrinted
-mod Refused
