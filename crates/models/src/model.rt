@@ -1,6 +1,6 @@
 //! Models, by the numbers of a table's sorts and symbols.
 
-ghost use Rattle.std.specs.Prelude.{◌≡◌, ◌<◌, [], length, option_map, None, Some, All, IfOk, IfSome, IfNone, IsSome, List, OnOk, OnErr};
+ghost use Rattle.std.specs.Prelude.{◌≡◌, ◌<◌, [], length, option_map, is_some, None, Some, All, IfOk, IfSome, IfNone, IsSome, List, OnOk, OnErr};
 ghost use Rattle.smt_terms.specs.Models.{IsModel, IsModelOver, symbol_value};
 ghost use Rattle.smt_terms.specs.Sorts.{Name, Symbol};
 ghost use Rattle.smt_terms.specs.Values.{default_value};
@@ -122,6 +122,7 @@ impl Model {
         requires symbol { IsSymbol table.now s }
         requires args { AreValues (symbol_at table.now s).args (sizes_by table.now.sorts self.now.sizes) args.now }
         requires valid { IsModel (model_at table.now self.now) }
+        ensures there { is_some result ≡ is_some (graph_in self.now.graphs s) }
         ensures value { IfSome result (λ v. meaning v.now ≡ symbol_value (model_at table.now self.now) (symbol_at table.now s) (meanings args.now)) }
         ensures none { IfNone result (symbol_value (model_at table.now self.now) (symbol_at table.now s) (meanings args.now) ≡ default_value (symbol_at table.now s).result) }
         ensures held { IfSome result (λ v. IsHeld v.now) }
