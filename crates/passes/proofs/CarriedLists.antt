@@ -13,6 +13,7 @@ use Rattle.passes.specs.Laws.{keeps_values, IsReady, AreEquivalent, IsModelOf, P
 use Rattle.passes.specs.Lists.{makes_groups, groups_after_rules, can_run}
 use Rattle.passes.specs.Passed.{apply_pass, passed}
 use Rattle.passes.proofs.InForm.{asks_rules}
+use Rattle.passes.proofs.ModelsCarried.{IsOver}
 
 -- ---- a list with one pass more
 
@@ -37,13 +38,13 @@ any_more test (q ∷ ps) p h =
 
 -- ---- which passes stand before one that makes groups
 
-no_rules_before : (ps : List Pass) (p : Pass) → groups_after_rules (ps ++ p ∷ []) ≡ false → makes_groups p ≡ true → list_any asks_rules ps ≡ false
+pub no_rules_before : (ps : List Pass) (p : Pass) → groups_after_rules (ps ++ p ∷ []) ≡ false → makes_groups p ≡ true → list_any asks_rules ps ≡ false
 no_rules_before [] p in_order makes = refl
 no_rules_before (Rules ∷ ps) p in_order makes = contrary (makes_groups p) makes (any_more makes_groups ps p in_order).1
 no_rules_before (q ∷ ps) p in_order makes = no_rules_before ps p in_order makes
 
 -- another one leaves models as they are
-other_keeps : (p : Pass) → can_run p ≡ true → makes_groups p ≡ false → keeps_values p ≡ true
+pub other_keeps : (p : Pass) → can_run p ≡ true → makes_groups p ≡ false → keeps_values p ≡ true
 other_keeps Simplify run other = refl
 other_keeps Nnf run other = refl
 other_keeps Aig run other = refl
@@ -93,6 +94,7 @@ carried-none cs s ready same = record {
   ready = ready;
   equivalent = λ none. same;
   models = record { kinds = refl; back = λ k m is. is; forth = λ k m is. is };
+  signatures = record { back = λ k m over. over; forth = λ k m over. over };
 }
 
 pub carried-more : PassesLeaveModels → ((cs ds es : List (Command Term)) → AreEquivalent cs ds → AreEquivalent ds es → AreEquivalent cs es)
@@ -115,5 +117,13 @@ carried-more leave then ps p cs ds es s r q run in_order reached before last =
         forth = λ k m is.
             subst (IsModelOf es k) (sym (forth_more ps p cs s k m ∙ over.forth k (forth ps cs s k m)))
             (last.models.forth k (forth ps cs s k m) (before.models.forth k m is));
+      };
+      signatures = record {
+        back = λ k m is.
+            subst (IsOver cs k) (sym (back_more ps p cs s k m ∙ ap (back ps cs s k) (over.back k m)))
+            (before.signatures.back k (back_over p ds r k m) (last.signatures.back k m is));
+        forth = λ k m is.
+            subst (IsOver es k) (sym (forth_more ps p cs s k m ∙ over.forth k (forth ps cs s k m)))
+            (last.signatures.forth k (forth ps cs s k m) (before.signatures.forth k m is));
       };
     }

@@ -1,17 +1,20 @@
 -- The new symbols of grouped commands: none has a name that the supply doesn't give, each has one term, and the term's sort.
-use Rattle.std.proofs.Common.{◌≡◌, ◌∙◌, sym, ap, refl, true, false, ◌||◌, ◌⊎◌, inl, inr, List, [], ◌∷◌, ◌++◌, Some, subst, All}
+use Rattle.std.proofs.Common.{◌≡◌, ◌∙◌, sym, ap, refl, ℕ, ◌+◌, ◌≤◌, Bool, true, false, not, cond, ◌||◌, ◌⊎◌, inl, inr, List, [], ◌∷◌, ◌++◌, count_by, Some, subst, All, arith}
 use Rattle.std.specs.Prelude.{flat_map, ⊤}
 use Rattle.std.proofs.lemmas.List.Elements.{All-nil, All-weaker}
+use Rattle.std.proofs.lemmas.List.Sums.{sum_by-append, sum_by-cons}
+use Rattle.smt_terms.specs.Equal.{symbol_eq}
 use Rattle.smt_terms.specs.Free.{is_among, name_among, names_of}
 use Rattle.smt_terms.specs.Fresh.{Supply, NeverGives}
 use Rattle.smt_terms.specs.Groups.{Named, draw_each}
-use Rattle.smt_terms.specs.Rank.{sort_of}
+use Rattle.smt_terms.specs.Rank.{sort_of, has_name, are_distinct}
 use Rattle.smt_terms.specs.Sorts.{Sort, Symbol}
 use Rattle.smt_terms.specs.SubstLaws.{Later}
 use Rattle.smt_terms.specs.Term.{Term}
 use Rattle.smt_terms.proofs.Among.{is_among-append}
+use Rattle.smt_terms.proofs.Equal.{Decides-symbol_eq}
 use Rattle.smt_terms.proofs.Runs.{among-name}
-use Rattle.smt_terms.proofs.Tests.{or_false, contrary, true_or_false}
+use Rattle.smt_terms.proofs.Tests.{both_true, both_false, or_false, not_true, contrary, true_or_false}
 use Rattle.term_groups.specs.Drawing.{ConstantsAreNew}
 use Rattle.term_groups.specs.Grouping.{IsGroupOf, symbols_of, terms_of}
 use Rattle.script_read.specs.Commands.{Command, assert, check_assuming}
@@ -19,7 +22,7 @@ use Rattle.passes.specs.Carry.{term_for}
 use Rattle.passes.specs.GroupPoints.{AreGrouped, drawn_in}
 use Rattle.passes.specs.Passed.{Replacement}
 use Rattle.passes.proofs.FittingPoints.{EachFits}
-use Rattle.passes.proofs.NamedTerms.{all_parted, HaveOwn, own_of_both, own_of_distinct}
+use Rattle.passes.proofs.NamedTerms.{all_parted, HaveOwn, named, own_of_both, own_of_distinct}
 
 -- the new symbols with their terms
 abbrev pub pairs_by : Command Replacement → Named
@@ -41,6 +44,52 @@ drawn_are (c ∷ rs) = drawn_are rs
 among_both : (xs ys : Named) (f : Symbol) → is_among (symbols_of (xs ++ ys)) f ≡ (is_among (symbols_of xs) f || is_among (symbols_of ys) f)
 among_both xs ys f = ap (λ fs. is_among fs f) (both_symbols xs ys) ∙ is_among-append (symbols_of xs) (symbols_of ys) f
 
+-- ---- how often a symbol stands among others
+
+abbrev times : Symbol → List Symbol → ℕ
+times f fs = count_by (symbol_eq f) fs
+
+times_more : (f g : Symbol) (fs : List Symbol) (b : Bool) → symbol_eq f g ≡ b → times f (g ∷ fs) ≡ cond b 1 0 + times f fs
+times_more f g fs b is = sum_by-cons (λ h. cond (symbol_eq f h) 1 0) g fs ∙ ap (λ c. cond c 1 0 + times f fs) is
+
+other_way : (f g : Symbol) → symbol_eq g f ≡ false → symbol_eq f g ≡ false
+other_way f g apart = go (true_or_false (symbol_eq f g))
+  where
+    go : (symbol_eq f g ≡ true) ⊎ (symbol_eq f g ≡ false) → symbol_eq f g ≡ false
+    go (inl same) = contrary (symbol_eq g f) ((Decides-symbol_eq g f).1 (sym ((Decides-symbol_eq f g).0 same))) apart
+    go (inr other) = other
+
+never_there : (f : Symbol) (fs : List Symbol) → is_among fs f ≡ false → times f fs ≡ 0
+never_there f [] apart = refl
+never_there f (g ∷ fs) apart =
+    let parts = both_false (symbol_eq g f) (is_among fs f) apart in
+    let all = times_more f g fs false (other_way f g parts.0) in
+    let rest = never_there f fs parts.1 in
+    omega (arith, all, rest)
+
+-- a symbol whose name none of them has
+unnamed_symbol : (fs : List Symbol) (f : Symbol) → has_name f.name (names_of fs) ≡ false → is_among fs f ≡ false
+unnamed_symbol fs f other = go (true_or_false (is_among fs f))
+  where
+    go : (is_among fs f ≡ true) ⊎ (is_among fs f ≡ false) → is_among fs f ≡ false
+    go (inl among) = contrary (has_name f.name (names_of fs)) (named (names_of fs) f.name (among-name fs f among)) other
+    go (inr apart) = apart
+
+-- of symbols of different names, once at most
+once_of_distinct : (fs : List Symbol) → are_distinct (names_of fs) ≡ true → (f : Symbol) → times f fs ≤ 1
+once_of_distinct [] h f = let none : times f [] ≡ 0 = refl in omega (arith, none)
+once_of_distinct (g ∷ fs) h f =
+    let parts = both_true (not (has_name g.name (names_of fs))) (are_distinct (names_of fs)) h in
+    go (true_or_false (symbol_eq f g)) (not_true (has_name g.name (names_of fs)) parts.0) (once_of_distinct fs parts.1 f)
+  where
+    go : (symbol_eq f g ≡ true) ⊎ (symbol_eq f g ≡ false) → has_name g.name (names_of fs) ≡ false → times f fs ≤ 1 → times f (g ∷ fs) ≤ 1
+    go (inl same) other rest =
+        let is : f ≡ g = (Decides-symbol_eq f g).0 same in
+        let all = times_more f g fs true same in
+        let none : times f fs ≡ 0 = never_there f fs (subst (λ h. is_among fs h ≡ false) (sym is) (unnamed_symbol fs g other)) in
+        omega (arith, all, none)
+    go (inr apart) other rest = let all = times_more f g fs false apart in omega (arith, all, rest)
+
 -- ---- one group
 
 abbrev pub HasSortOf : Symbol → Term → Type 0
@@ -53,6 +102,7 @@ record AreDrawn (ns : Named) (s q : Supply) : Type 0 where
   gone : (f : Symbol) → is_among (symbols_of ns) f ≡ true → NeverGives q f.name
   later : Later s q
   sorts : All (λ n. HasSortOf n.0 n.1) ns
+  once : (f : Symbol) → times f (symbols_of ns) ≤ 1
 
 unnamed : (fs : List Symbol) (f : Symbol) → name_among (names_of fs) f.name ≡ false → is_among fs f ≡ false
 unnamed fs f other = go (true_or_false (is_among fs f))
@@ -68,6 +118,7 @@ by_drawing law ts s = record {
   gone = λ f among. law.gone ts s f.name (among-name (symbols_of (draw_each ts s).symbols) f among);
   later = law.later ts s;
   sorts = All-weaker (λ (n : Symbol × Term). (n.0.args ≡ []) × HasSortOf n.0 n.1) (λ n. HasSortOf n.0 n.1) (λ n h. h.1) (draw_each ts s).symbols (law.constants ts s);
+  once = once_of_distinct (symbols_of (draw_each ts s).symbols) (law.apart ts s);
 }
 
 group_drawn : ConstantsAreNew → (r : Replacement) (s q : Supply) → IsGroupOf r.term s (record { group = r.group; names = q }) → AreDrawn r.group.symbols s q
@@ -95,6 +146,27 @@ have_own law (assert i a ∷ rs) s r grouped =
     go here f among (inl before) = contrary (is_among (symbols_of (pairs_in rs)) f) among (not_drawn law rs grouped.0 r grouped.1.1 f (here.gone f before))
     go here f among (inr apart) = apart
 have_own law (c ∷ rs) s r grouped = have_own law rs s r grouped
+
+-- each symbol is drawn once
+pub drawn_once : ConstantsAreNew → (rs : List (Command Replacement)) (s r : Supply) → AreGrouped rs s r → (f : Symbol) → count_by (symbol_eq f) (symbols_of (pairs_in rs)) ≤ 1
+drawn_once law [] s r grouped f = let none : times f [] ≡ 0 = refl in omega (arith, none)
+drawn_once law (assert i a ∷ rs) s r grouped f = go (true_or_false (is_among (symbols_of a.group.symbols) f)) (drawn_once law rs grouped.0 r grouped.1.1 f)
+  where
+    here : AreDrawn a.group.symbols s grouped.0
+    here = group_drawn law a s grouped.0 grouped.1.0
+
+    both : times f (symbols_of (a.group.symbols ++ pairs_in rs)) ≡ times f (symbols_of a.group.symbols) + times f (symbols_of (pairs_in rs))
+    both = ap (times f) (both_symbols a.group.symbols (pairs_in rs)) ∙ sum_by-append (λ g. cond (symbol_eq f g) 1 0) (symbols_of a.group.symbols) (symbols_of (pairs_in rs))
+
+    go : (is_among (symbols_of a.group.symbols) f ≡ true) ⊎ (is_among (symbols_of a.group.symbols) f ≡ false) → times f (symbols_of (pairs_in rs)) ≤ 1 → times f (symbols_of (a.group.symbols ++ pairs_in rs)) ≤ 1
+    go (inl among) rest =
+        let first : times f (symbols_of a.group.symbols) ≤ 1 = here.once f in
+        let none = never_there f (symbols_of (pairs_in rs)) (not_drawn law rs grouped.0 r grouped.1.1 f (here.gone f among)) in
+        omega (arith, both, first, none)
+    go (inr apart) rest =
+        let none = never_there f (symbols_of a.group.symbols) apart in
+        omega (arith, both, none, rest)
+drawn_once law (c ∷ rs) s r grouped f = drawn_once law rs s r grouped f
 
 -- a group for its assertion, whose symbols have their own terms among these
 pub record IsGroupWithin (all : Named) (a : Replacement) : Type 0 where

@@ -40,7 +40,7 @@ given_some m f None g false true after drawn declared new has stays comes = has 
 given_some m f None g false false false drawn declared new has stays comes = has
 given_some m f None g false false true drawn declared new has stays comes = has ∙ new ∙ comes refl
 
-module _ (rs : List (Command Replacement)) (points : PointsOfGroups rs) (k : ℕ) (known : GroupsAt rs k) (m : Model) (is : IsModelOf (inputs rs) k m) where
+module _ (rs : List (Command Replacement)) (points : PointsOfGroups rs) (k : ℕ) (known : GroupsAt rs k) (m : Model) where
   abbrev behind : Model
   behind = with_values rs k m
 
@@ -80,69 +80,73 @@ module _ (rs : List (Command Replacement)) (points : PointsOfGroups rs) (k : ℕ
       graph_given m (no_term f apart (term_for (live_pairs rs k) f) refl i)
       ((is_new f ∙ never_new (is_among (signature (outputs rs) k).symbols f) (is_among (drawn_in rs) f) apart) i) f (m.graphs f)
 
-  -- ---- the model
+  -- ---- a model over what is declared
 
-  value_valid : (f : Symbol) (t : Term) → IsSortedFor f t → is_value f.result m.sizes (val m t no_variables) ≡ true
-  value_valid f t h =
-      let parts = both_true (is_some (sort_of t)) (is_regular t) h.1 in
-      let to = the_sort (sort_of t) parts.0 in
-      ap (λ s. is_value s m.sizes (val m t no_variables)) (h.0 to.0 to.1) ∙ val_valid t to.0 m no_variables is.over.valid (λ f. tt) to.1
+  module _ (is : IsModelOver (signature (inputs rs) k).sorts (signature (inputs rs) k).symbols m) where
+    value_valid : (f : Symbol) (t : Term) → IsSortedFor f t → is_value f.result m.sizes (val m t no_variables) ≡ true
+    value_valid f t h =
+        let parts = both_true (is_some (sort_of t)) (is_regular t) h.1 in
+        let to = the_sort (sort_of t) parts.0 in
+        ap (λ s. is_value s m.sizes (val m t no_variables)) (h.0 to.0 to.1) ∙ val_valid t to.0 m no_variables is.valid (λ f. tt) to.1
 
-  graph_valid : (f : Symbol) (o : Option Term) (b : Bool) → term_for (live_pairs rs k) f ≡ o → IfSome (graph_given m o b f (m.graphs f)) (λ g. IsTrue (is_graph f m.sizes g))
-  graph_valid f (Some t) b e = constant_valid f m.sizes (val m t no_variables) (value_valid f t (term_fits IsSortedFor (live_pairs rs k) f t sorted_live e))
-  graph_valid f None true e = constant_valid f m.sizes (default_value f.result) (is_value-default f.result m.sizes is.over.valid.sizes)
-  graph_valid f None false e = is.over.valid.graphs f
+    graph_valid : (f : Symbol) (o : Option Term) (b : Bool) → term_for (live_pairs rs k) f ≡ o → IfSome (graph_given m o b f (m.graphs f)) (λ g. IsTrue (is_graph f m.sizes g))
+    graph_valid f (Some t) b e = constant_valid f m.sizes (val m t no_variables) (value_valid f t (term_fits IsSortedFor (live_pairs rs k) f t sorted_live e))
+    graph_valid f None true e = constant_valid f m.sizes (default_value f.result) (is_value-default f.result m.sizes is.valid.sizes)
+    graph_valid f None false e = is.valid.graphs f
 
-  over : IsModelOver (signature (outputs rs) k).sorts (signature (outputs rs) k).symbols behind
-  over = record {
-    valid = record {
-      sizes = is.over.valid.sizes;
-      graphs = λ f. graph_valid f (term_for (live_pairs rs k) f) (is_among (filter (is_among (drawn_in rs)) (signature (outputs rs) k).symbols) f) refl;
-      div_by_zero = is.over.valid.div_by_zero;
-      mod_by_zero = is.over.valid.mod_by_zero;
-    };
-    graphs = λ f.
-        given_some m f (term_for (live_pairs rs k) f) (m.graphs f) (is_among (filter (is_among (drawn_in rs)) (signature (outputs rs) k).symbols) f)
-        (is_among (signature (inputs rs) k).symbols f) (is_among (signature (outputs rs) k).symbols f) (is_among (drawn_in rs) f)
-        (λ some. points.declared k f (sym (some_term (live_pairs rs k) f) ∙ some)) (is_new f) (is.over.graphs f ∙ any_is_among (signature (inputs rs) k).symbols f) (points.stays k f) (points.comes k f)
-        ∙ sym (any_is_among (signature (outputs rs) k).symbols f);
-    sizes = λ n other. is.over.sizes n (sym (ap (list_any _) (points.sorts k)) ∙ other);
-  }
+    pub over_behind : IsModelOver (signature (outputs rs) k).sorts (signature (outputs rs) k).symbols behind
+    over_behind = record {
+      valid = record {
+        sizes = is.valid.sizes;
+        graphs = λ f. graph_valid f (term_for (live_pairs rs k) f) (is_among (filter (is_among (drawn_in rs)) (signature (outputs rs) k).symbols) f) refl;
+        div_by_zero = is.valid.div_by_zero;
+        mod_by_zero = is.valid.mod_by_zero;
+      };
+      graphs = λ f.
+          given_some m f (term_for (live_pairs rs k) f) (m.graphs f) (is_among (filter (is_among (drawn_in rs)) (signature (outputs rs) k).symbols) f)
+          (is_among (signature (inputs rs) k).symbols f) (is_among (signature (outputs rs) k).symbols f) (is_among (drawn_in rs) f)
+          (λ some. points.declared k f (sym (some_term (live_pairs rs k) f) ∙ some)) (is_new f) (is.graphs f ∙ any_is_among (signature (inputs rs) k).symbols f) (points.stays k f) (points.comes k f)
+          ∙ sym (any_is_among (signature (outputs rs) k).symbols f);
+      sizes = λ n other. is.sizes n (sym (ap (list_any _) (points.sorts k)) ∙ other);
+    }
 
-  kept : (t : Term) → IsApart rs t → is_true_in behind t ≡ is_true_in m t
-  kept t apart = truth_kept m behind.graphs t apart.sort (λ f among. graph_kept f (apart.free f among))
+  -- ---- a model in which all that is live holds
 
-  is_given : (a : Replacement) → IsLiveGroup rs a → HaveOwn (live_pairs rs k) a.group.symbols → IsGiven m behind a.term a.group.symbols
-  is_given a group own = record {
-    sizes = refl;
-    div_by_zero = refl;
-    mod_by_zero = refl;
-    kept = λ f among. graph_kept f (group.term.free f among);
-    given = All-weaker (λ n. term_for (live_pairs rs k) n.0 ≡ Some n.1) (λ n. behind.graphs n.0 ≡ Some (record { rows = []; otherwise = val m n.1 no_variables })) (λ n e i. graph_given m (e i) (is_among (filter (is_among (drawn_in rs)) (signature (outputs rs) k).symbols) n.0) n.0 (m.graphs n.0)) a.group.symbols own;
-  }
+  module _ (is : IsModelOf (inputs rs) k m) where
+    kept : (t : Term) → IsApart rs t → is_true_in behind t ≡ is_true_in m t
+    kept t apart = truth_kept m behind.graphs t apart.sort (λ f among. graph_kept f (apart.free f among))
 
-  truths : IsTrue (list_all (is_true_in m) (live (inputs rs) k)) × IsTrue (list_all (is_true_in m) (literals (inputs rs) k))
-  truths = both_true (list_all (is_true_in m) (live (inputs rs) k)) (list_all (is_true_in m) (literals (inputs rs) k)) is.sat
+    is_given : (a : Replacement) → IsLiveGroup rs a → HaveOwn (live_pairs rs k) a.group.symbols → IsGiven m behind a.term a.group.symbols
+    is_given a group own = record {
+      sizes = refl;
+      div_by_zero = refl;
+      mod_by_zero = refl;
+      kept = λ f among. graph_kept f (group.term.free f among);
+      given = All-weaker (λ n. term_for (live_pairs rs k) n.0 ≡ Some n.1) (λ n. behind.graphs n.0 ≡ Some (record { rows = []; otherwise = val m n.1 no_variables })) (λ n e i. graph_given m (e i) (is_among (filter (is_among (drawn_in rs)) (signature (outputs rs) k).symbols) n.0) n.0 (m.graphs n.0)) a.group.symbols own;
+    }
 
-  terms_true : All (λ (a : Replacement). is_true_in m a.term ≡ true) (live rs k)
-  terms_true = all_unmapped (λ t. is_true_in m t ≡ true) (λ (a : Replacement). a.term) (live rs k) (subst (AreTrue m) (points.live_before k) (are_true m (live (inputs rs) k) truths.0))
+    truths : IsTrue (list_all (is_true_in m) (live (inputs rs) k)) × IsTrue (list_all (is_true_in m) (literals (inputs rs) k))
+    truths = both_true (list_all (is_true_in m) (live (inputs rs) k)) (list_all (is_true_in m) (literals (inputs rs) k)) is.sat
 
-  asserts_true : (a : Replacement) → IsLiveGroup rs a → HaveOwn (live_pairs rs k) a.group.symbols → is_true_in m a.term ≡ true → AreTrue behind a.group.asserts
-  asserts_true a group own h = are_true behind a.group.asserts (group.group.is.complete m behind is.over.valid (is_given a group own) h)
+    terms_true : All (λ (a : Replacement). is_true_in m a.term ≡ true) (live rs k)
+    terms_true = all_unmapped (λ t. is_true_in m t ≡ true) (λ (a : Replacement). a.term) (live rs k) (subst (AreTrue m) (points.live_before k) (are_true m (live (inputs rs) k) truths.0))
 
-  live_true : list_all (is_true_in behind) (live (outputs rs) k) ≡ true
-  live_true =
-      all_true behind (live (outputs rs) k)
-      (subst (AreTrue behind) (sym (points.live_behind k))
-      (all_joined (λ t. is_true_in behind t ≡ true) (λ (a : Replacement). a.group.asserts) (live rs k) (λ i d lt. asserts_true _ (known.live i d lt) (own_groups i d lt) (terms_true i d lt))))
+    asserts_true : (a : Replacement) → IsLiveGroup rs a → HaveOwn (live_pairs rs k) a.group.symbols → is_true_in m a.term ≡ true → AreTrue behind a.group.asserts
+    asserts_true a group own h = are_true behind a.group.asserts (group.group.is.complete m behind is.over.valid (is_given a group own) h)
 
-  literals_true : list_all (is_true_in behind) (literals (outputs rs) k) ≡ true
-  literals_true =
-      all_true behind (literals (outputs rs) k)
-      (subst (AreTrue behind) (sym (points.literals k)) (λ i d lt. kept _ (known.literals i d lt) ∙ are_true m (literals (inputs rs) k) truths.1 i d lt))
+    live_true : list_all (is_true_in behind) (live (outputs rs) k) ≡ true
+    live_true =
+        all_true behind (live (outputs rs) k)
+        (subst (AreTrue behind) (sym (points.live_behind k))
+        (all_joined (λ t. is_true_in behind t ≡ true) (λ (a : Replacement). a.group.asserts) (live rs k) (λ i d lt. asserts_true _ (known.live i d lt) (own_groups i d lt) (terms_true i d lt))))
 
-  pub model_behind : IsModelOf (outputs rs) k (with_values rs k m)
-  model_behind = record {
-    over = over;
-    sat = and_true (list_all (is_true_in behind) (live (outputs rs) k)) (list_all (is_true_in behind) (literals (outputs rs) k)) live_true literals_true;
-  }
+    literals_true : list_all (is_true_in behind) (literals (outputs rs) k) ≡ true
+    literals_true =
+        all_true behind (literals (outputs rs) k)
+        (subst (AreTrue behind) (sym (points.literals k)) (λ i d lt. kept _ (known.literals i d lt) ∙ are_true m (literals (inputs rs) k) truths.1 i d lt))
+
+    pub model_behind : IsModelOf (outputs rs) k (with_values rs k m)
+    model_behind = record {
+      over = over_behind is.over;
+      sat = and_true (list_all (is_true_in behind) (live (outputs rs) k)) (list_all (is_true_in behind) (literals (outputs rs) k)) live_true literals_true;
+    }

@@ -16,13 +16,14 @@ use Rattle.script_read.specs.Printable.{is_usable}
 use Rattle.passes.specs.declared.names.Pass.{Pass}
 use Rattle.passes.specs.declared.names.Pass.TheVariants.{Simplify, Nnf, Aig, Prenex, Reads, Shannon, SelfSub, Rules, Ite, Cnf, Ackermann}
 use Rattle.passes.specs.Carry.{with_graphs, graph_dropped, graph_given, graph_kept, term_for, new_symbols, back_over, forth_over}
-use Rattle.passes.specs.GroupPoints.{drawn_in, live_pairs, without_new, with_values, GroupsAreReady, GroupsKeepModels}
+use Rattle.passes.specs.GroupPoints.{drawn_in, live_pairs, without_new, with_values, GroupsAreReady, GroupsKeepModels, GroupsKeepSignatures}
 use Rattle.passes.specs.Groups.{Making, making, replacement, groups_from, spelled, in_groups}
-use Rattle.passes.specs.Laws.{IsReady, IsModelOf, CarriesModels, puts_groups, PutsGroups, GroupsCarryModels}
+use Rattle.passes.specs.Laws.{IsReady, IsModelOf, CarriesModels, CarriesSignatures, puts_groups, PutsGroups, GroupsCarryModels}
 use Rattle.passes.specs.Passed.{Way, with_names, in_place, Replacement, literal_kept, behind, onward, replacements_from, replacements, written, apply_pass}
-use Rattle.passes.proofs.GroupModels.{groups-keep-models}
+use Rattle.passes.proofs.GroupModels.{groups-keep-models, groups-keep-signatures}
 use Rattle.passes.proofs.GroupPointsHold.{groups-have-points, ready-commands-are-grouped}
 use Rattle.passes.proofs.GroupsReady.{groups-are-ready}
+use Rattle.passes.proofs.ModelsCarried.{IsOver}
 
 -- the pass puts the group of each assertion in its place, and nothing else changes
 pub record IsMaking (p : Pass) (make : Making) : Type 0 where
@@ -93,16 +94,21 @@ module _ (p : Pass) (make : Making) (is : IsMaking p make) where
       graph_given m (term_for (live_pairs (replaced cs s j).0 k) f) (is_among (filter (is_among (drawn_in (replaced cs s j).0)) (signature (applied_so cs s j).0 k).symbols) f) f
       (is.keeps m.graphs j f))
 
-  puts : GroupsAreReady → GroupsKeepModels → MakesGroups make → ConstantsAreNew → (cs : List (Command Term)) (s : Supply) → IsReady cs s → PutsGroups p cs s
-  puts are_ready keep_models makes constants cs s ready =
+  puts : GroupsAreReady → GroupsKeepModels → GroupsKeepSignatures → MakesGroups make → ConstantsAreNew → (cs : List (Command Term)) (s : Supply) → IsReady cs s → PutsGroups p cs s
+  puts are_ready keep_models keep_signatures makes constants cs s ready =
       let same : apply_pass p cs s ≡ in_groups make cs s = applied_so cs s in
       let carries : CarriesModels cs (in_groups make cs s).0 (λ k m. without_new (groups_from make cs s).0 m) (λ k m. with_values (groups_from make cs s).0 k m) = keep_models make makes constants cs s ready in
+      let over_both : CarriesSignatures cs (in_groups make cs s).0 (λ k m. without_new (groups_from make cs s).0 m) (λ k m. with_values (groups_from make cs s).0 k m) = keep_signatures make makes constants cs s ready in
       record {
         ready = subst (λ r. IsReady r.0 r.1) (sym same) (are_ready make makes constants cs s ready);
         models = record {
           kinds = subst (λ r. kinds r.0 ≡ kinds cs) (sym same) carries.kinds;
           back = λ k m of_second. subst (IsModelOf cs k) (sym (back_so cs s k m)) (carries.back k m (subst (λ r. IsModelOf r.0 k m) same of_second));
           forth = λ k m of_first. subst (λ n. IsModelOf (apply_pass p cs s).0 k n) (sym (forth_so cs s k m)) (subst (λ r. IsModelOf r.0 k (with_values (groups_from make cs s).0 k m)) (sym same) (carries.forth k m of_first));
+        };
+        signatures = record {
+          back = λ k m over. subst (IsOver cs k) (sym (back_so cs s k m)) (over_both.back k m (subst (λ r. IsOver r.0 k m) same over));
+          forth = λ k m over. subst (λ n. IsOver (apply_pass p cs s).0 k n) (sym (forth_so cs s k m)) (subst (λ r. IsOver r.0 k (with_values (groups_from make cs s).0 k m)) (sym same) (over_both.forth k m over));
         };
       }
 
@@ -119,6 +125,19 @@ applied-group SelfSub is cs s = absurd cc
 applied-group Rules is cs s = absurd cc
 applied-group Ackermann is cs s = absurd cc
 
+pub replaced-group : (p : Pass) → puts_groups p ≡ true → (cs : List (Command Term)) (s : Supply) → replacements p cs s ≡ groups_from (making p) cs s
+replaced-group Ite is cs s = replaced Ite ite ite_is_making cs s
+replaced-group Cnf is cs s = replaced Cnf cnf cnf_is_making cs s
+replaced-group Simplify is cs s = absurd cc
+replaced-group Nnf is cs s = absurd cc
+replaced-group Aig is cs s = absurd cc
+replaced-group Prenex is cs s = absurd cc
+replaced-group Reads is cs s = absurd cc
+replaced-group Shannon is cs s = absurd cc
+replaced-group SelfSub is cs s = absurd cc
+replaced-group Rules is cs s = absurd cc
+replaced-group Ackermann is cs s = absurd cc
+
 pub groups-carry-models : ((i : ℕ) → is_usable (numbered_name i) ≡ true) → ConstantsAreNew → MakesGroups ite → MakesGroups cnf → GroupsCarryModels
 groups-carry-models usable constants ites cnfs = carried
   where
@@ -128,9 +147,12 @@ groups-carry-models usable constants ites cnfs = carried
     keep_models : GroupsKeepModels
     keep_models = groups-keep-models groups-have-points ready-commands-are-grouped
 
+    keep_signatures : GroupsKeepSignatures
+    keep_signatures = groups-keep-signatures groups-have-points ready-commands-are-grouped
+
     carried : GroupsCarryModels
-    carried Ite cs s is ready = puts Ite ite ite_is_making are_ready keep_models ites constants cs s ready
-    carried Cnf cs s is ready = puts Cnf cnf cnf_is_making are_ready keep_models cnfs constants cs s ready
+    carried Ite cs s is ready = puts Ite ite ite_is_making are_ready keep_models keep_signatures ites constants cs s ready
+    carried Cnf cs s is ready = puts Cnf cnf cnf_is_making are_ready keep_models keep_signatures cnfs constants cs s ready
     carried Simplify cs s is ready = absurd cc
     carried Nnf cs s is ready = absurd cc
     carried Aig cs s is ready = absurd cc

@@ -13,7 +13,7 @@ abbrev pub continued : {A : Type 0} → List A × Supply → (Supply → List A 
 continued r rest = (r.0 ++ (rest r.1).0, (rest r.1).1)
 
 module _ (make : Making) where
-  made_on : (cs ds : List (Command Term)) (s : Supply) → groups_from make (cs ++ ds) s ≡ continued (groups_from make cs s) (groups_from make ds)
+  pub made_on : (cs ds : List (Command Term)) (s : Supply) → groups_from make (cs ++ ds) s ≡ continued (groups_from make cs s) (groups_from make ds)
   made_on [] ds s = refl
   made_on (passed text ∷ cs) ds s = ap (behind (passed text)) (made_on cs ds s)
   made_on (declare_sort n ∷ cs) ds s = ap (behind (declare_sort n)) (made_on cs ds s)

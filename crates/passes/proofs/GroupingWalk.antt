@@ -71,7 +71,7 @@ module _ (t : Formulas) (ks : List Command) (numbers : AreCommandsOf t ks) (u : 
   same : command_of u c ≡ command_of t c
   same = command_stays t u grows c numbered
 
-  there : slice_get (commands_of t ks) i ≡ Some (command_of u c)
+  pub there : slice_get (commands_of t ks) i ≡ Some (command_of u c)
   there = slice_get-map (command_of t) ks i ∙ (λ j. option_map (command_of t) (found j)) ∙ ap Some (sym same)
 
   pub command_there : IsCommandOf u c

@@ -2,6 +2,7 @@ mod Assertions
 mod DrawnSymbols
 mod DroppedGraphs
 mod FittingPoints
+mod FoundGroups
 mod GivenValues
 mod GroupCommands
 mod GroupLevels
@@ -13,6 +14,9 @@ mod GroupsAtPoints
 mod GroupsReadyNames
 mod Kept
 mod KeptValues
+mod LevelsBelow
+mod LiveBehindGroups
+mod MetGroups
 mod ModelsCarried
 mod ModelsStay
 mod NamedTerms
@@ -31,6 +35,7 @@ mod Rows
 mod RulesKeep
 mod SimplifiesInside
 mod Standing
+mod StepsTell
 mod Walked
 mod WithinForms
 mod WithinPrenex
@@ -53,3 +58,18 @@ pub mod RewrittenCommands
 pub mod RuledCommands
 pub mod RunnableLists
 pub mod Truths
+pub mod PlannedSteps
+pub mod PlannedLists
+pub mod CarriedPlans
+pub mod CarriedAnswers
+pub mod SignaturesLed
+pub mod PlannedSorts
+pub mod LeastAsked
+pub mod SearchedSteps
+pub mod ValuedTerms
+pub mod GivenModels
+pub mod ForgottenSymbols
+pub mod LiveStages
+pub mod CarriedForth
+pub mod StepsBefore
+pub mod ListPlaces

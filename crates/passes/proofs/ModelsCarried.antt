@@ -8,7 +8,7 @@ use Rattle.smt_terms.specs.Term.{Term}
 use Rattle.script_read.specs.Commands.{Command, Signature, start, live, signature}
 use Rattle.script_read.specs.Satisfied.{is_true_in, sat}
 use Rattle.smt_print.proofs.LikePoints.{alike}
-use Rattle.passes.specs.Laws.{IsReady, AreEquivalent, PassesKeepCommands, PassesLeaveModels, IsModelOf, CarriesModels, EquivalentsHaveOneModel, PassesCarryModels}
+use Rattle.passes.specs.Laws.{IsReady, AreEquivalent, PassesKeepCommands, PassesLeaveModels, IsModelOf, CarriesModels, CarriesSignatures, EquivalentsHaveOneModel, PassesCarryModels}
 use Rattle.passes.specs.Passed.{passed}
 use Rattle.passes.proofs.Literals.{IsFormula}
 use Rattle.passes.proofs.Truths.{AreFormulas, truths_kept}
@@ -20,6 +20,10 @@ live_formulas cs s ready = (alike Term Term (λ t u. IsFormula t) cs cs (all_lik
 sat_alike : (cs ds : List (Command Term)) (k : ℕ) → AreFormulas (live cs k) → AreEquivalent cs ds → (m : Model) → IsModel m → sat m cs k ≡ sat m ds k
 sat_alike cs ds k formulas same m model =
     λ i. truths_kept m model (live cs k) (live ds k) formulas (same.live k) i && list_all (is_true_in m) (sym (same.literals k) i)
+
+-- a model over what is declared at point k
+abbrev pub IsOver : List (Command Term) → ℕ → Model → Type 0
+IsOver cs k m = IsModelOver (signature cs k).sorts (signature cs k).symbols m
 
 over_same : (m : Model) (g h : Signature) → g ≡ h → IsModelOver g.sorts g.symbols m → IsModelOver h.sorts h.symbols m
 over_same m g h same over = subst (λ (f : Signature). IsModelOver f.sorts f.symbols m) same over
@@ -41,6 +45,12 @@ one_model cs ds s ready same = record {
   kinds = same.kinds;
   back = λ k m is. backward cs ds k (live_formulas cs s ready k) same m is;
   forth = λ k m is. forward cs ds k (live_formulas cs s ready k) same m is;
+}
+
+pub one_signature : (cs ds : List (Command Term)) → AreEquivalent cs ds → CarriesSignatures cs ds (λ k m. m) (λ k m. m)
+one_signature cs ds same = record {
+  back = λ k m over. over_same m (signature ds k) (signature cs k) (same.signatures k) over;
+  forth = λ k m over. over_same m (signature cs k) (signature ds k) (sym (same.signatures k)) over;
 }
 
 pub passes_carry : PassesKeepCommands → PassesLeaveModels → PassesCarryModels

@@ -14,7 +14,7 @@ use Rattle.smt_print.specs.Laws.{Each}
 use Rattle.smt_print.proofs.LikePoints.{LikeCommand, like_passed, like_sort, like_symbol, like_assert, like_check, like_assuming, like_push, like_pop, like_reset, like_emptying, like_globals, like_exit, LikeCommands, alike}
 use Rattle.passes.specs.declared.names.Pass.{Pass}
 use Rattle.passes.specs.declared.names.Pass.TheVariants.{Simplify, Nnf, Aig, Prenex, Reads, Shannon, SelfSub, Rules, Ite, Cnf, Ackermann}
-use Rattle.passes.specs.Carry.{live_symbols, drawn_by, new_symbols, with_graphs, graph_dropped, back_over, back, term_for, declared_new, graph_kept, graph_given, forth_over, forth}
+use Rattle.passes.specs.Carry.{live_symbols, drawn_by, new_symbols, with_graphs, graph_dropped, back_over, back, term_for, declared_new, graph_kept, graph_given, forth_over, forth, asked_for, asked_forth}
 use Rattle.passes.specs.Laws.{keeps_values, PassesLeaveModels}
 use Rattle.passes.specs.Passed.{Way, in_place, Replacement, literal_kept, turn, replacements_from, replacements, apply_pass}
 
@@ -81,6 +81,10 @@ none_live : (rs : List Replacement) → Each Plain rs rs → flat_map (λ (r : R
 none_live [] h = refl
 none_live (r ∷ rs) h = λ i. h.0 i ++ none_live rs h.1 i
 
+none_asked : (rs : List Replacement) → Each Plain rs rs → flat_map (λ (r : Replacement). asked_for r.number (map (λ n. n.1) r.group.symbols)) rs ≡ []
+none_asked [] h = refl
+none_asked (r ∷ rs) h = λ i. asked_for r.number (map (λ n. n.1) (h.0 i)) ++ none_asked rs h.1 i
+
 none_of : (fs : List Symbol) → filter (is_among []) fs ≡ []
 none_of [] = refl
 none_of (f ∷ fs) = none_of fs
@@ -97,6 +101,10 @@ module _ (p : Pass) (is : keeps_values p ≡ true) (cs : List (Command Term)) (s
   live_none : live_symbols p cs s k ≡ []
   live_none = none_live (live (replacements p cs s).0 k) ((alike Replacement Replacement Plain (replacements p cs s).0 (replacements p cs s).0 turns).live k)
 
+  -- and no term must be evaluated
+  pub nothing_asked : asked_forth p cs s k ≡ []
+  nothing_asked = none_asked (live (replacements p cs s).0 k) ((alike Replacement Replacement Plain (replacements p cs s).0 (replacements p cs s).0 turns).live k)
+
   declared_none : declared_new p cs s k ≡ []
   declared_none = ap (λ fs. filter (is_among fs) (signature (apply_pass p cs s).0 k).symbols) new_none ∙ none_of (signature (apply_pass p cs s).0 k).symbols
 
@@ -108,10 +116,10 @@ kept_plain : (p : Pass) → keeps_values p ≡ true → (graphs : Symbol → Opt
 kept_plain Ackermann is graphs = absurd cc
 kept_plain _ is graphs = refl
 
-back_stays : (p : Pass) → keeps_values p ≡ true → (cs : List (Command Term)) (s : Supply) (k : ℕ) (m : Model) → back_over p cs s k m ≡ m
+pub back_stays : (p : Pass) → keeps_values p ≡ true → (cs : List (Command Term)) (s : Supply) (k : ℕ) (m : Model) → back_over p cs s k m ≡ m
 back_stays p is cs s k m = back_plain p is cs s k m ∙ ap (λ fs. with_graphs m (graph_dropped fs m.graphs)) (new_none p is cs s k)
 
-forth_stays : (p : Pass) → keeps_values p ≡ true → (cs : List (Command Term)) (s : Supply) (k : ℕ) (m : Model) → forth_over p cs s k m ≡ m
+pub forth_stays : (p : Pass) → keeps_values p ≡ true → (cs : List (Command Term)) (s : Supply) (k : ℕ) (m : Model) → forth_over p cs s k m ≡ m
 forth_stays p is cs s k m i =
     with_graphs m (λ f. graph_given m (term_for (live_none p is cs s k i) f) (is_among (declared_none p is cs s k i) f) f (kept_plain p is m.graphs i f))
 

@@ -101,7 +101,7 @@ own_of_both xs ys left right apart =
     All-append (λ n. term_for (xs ++ ys) n.0 ≡ Some n.1) xs ys (λ k d lt. found_left xs ys _ _ (left k d lt))
     (λ k d lt. found_right xs ys _ (apart _ (each_among ys k d lt)) ∙ right k d lt)
 
-named : (ns : List Name) (n : Name) → name_among ns n ≡ true → has_name n ns ≡ true
+pub named : (ns : List Name) (n : Name) → name_among ns n ≡ true → has_name n ns ≡ true
 named [] n h = absurd cc
 named (m ∷ ns) n h = go (either_true (name_eq m n) (name_among ns n) h) (named ns n)
   where

@@ -1,5 +1,6 @@
 -- One pass leads to commands that can be printed, and carries models between them and those before it.
-use Rattle.std.proofs.Common.{◌≡◌, ◌∙◌, sym, ap, subst, refl, not, ◌&&◌, true, false, true≢false, List, [], ◌∷◌}
+use Rattle.std.proofs.Common.{◌≡◌, ◌∙◌, sym, ap, subst, refl, not, ◌&&◌, true, false, true≢false, List, [], ◌∷◌, Result, Ok, Err}
+use Rattle.std.specs.Prelude.{OnOk}
 use Rattle.smt_terms.specs.Fresh.{Supply}
 use Rattle.smt_terms.specs.Sorts.{Name}
 use Rattle.smt_terms.specs.Term.{Term}
@@ -9,13 +10,14 @@ use Rattle.passes.specs.declared.names.Pass.TheVariants.{Simplify, Nnf, Aig, Pre
 use Rattle.passes.specs.Behind.{Form, in_form}
 use Rattle.passes.specs.Carry.{back_over, forth_over}
 use Rattle.passes.specs.Groups.{making, in_groups}
-use Rattle.passes.specs.Laws.{keeps_values, puts_groups, IsReady, IsModelOf, CarriesModels, KeepsCommands, PassKeepsCommands, RulesKeepCommands, EquivalentsHaveOneModel, PassesLeaveModels, PutsGroups, GroupsCarryModels, IsCarried}
+use Rattle.passes.specs.Laws.{keeps_values, puts_groups, IsReady, IsModelOf, CarriesModels, CarriesSignatures, KeepsCommands, PassKeepsCommands, RulesKeepCommands, EquivalentsHaveOneModel, PassesLeaveModels, PutsGroups, GroupsCarryModels, IsCarried}
 use Rattle.passes.specs.Led.{EachMayBecome, LeadsTo}
 use Rattle.passes.specs.Lists.{makes_groups}
 use Rattle.passes.specs.Passed.{apply_pass}
 use Rattle.passes.specs.Ruling.{RewritesCommands}
 use Rattle.passes.proofs.GroupPasses.{applied-group}
 use Rattle.passes.proofs.InForm.{IsForm, asks_rules, applied}
+use Rattle.passes.proofs.ModelsCarried.{IsOver, one_signature}
 
 -- the pass leads from these commands to those, and carries models from the ones to the others
 pub record IsLed (p : Pass) (cs : List (Command Term)) (s : Supply) (rules : List Name) (ds : List (Command Term)) (r : Supply) : Type 0 where
@@ -32,6 +34,7 @@ carried_kept : EquivalentsHaveOneModel → PassesLeaveModels → (p : Pass) (cs 
 carried_kept one_model leave p cs ds s r is ready kept =
     let all : (keeps_values p && true) ≡ true = ap (λ b. b && true) is in
     let carries : CarriesModels cs ds (λ k m. m) (λ k m. m) = one_model cs ds s ready kept.equivalent in
+    let alike : CarriesSignatures cs ds (λ k m. m) (λ k m. m) = one_signature cs ds kept.equivalent in
     record {
       ready = kept.ready;
       equivalent = λ none. kept.equivalent;
@@ -40,15 +43,19 @@ carried_kept one_model leave p cs ds s r is ready kept =
         back = λ k m of_second. subst (IsModelOf cs k) (sym (leave (p ∷ []) cs s all k m).0) (carries.back k m of_second);
         forth = λ k m of_first. subst (IsModelOf ds k) (sym (leave (p ∷ []) cs s all k m).1) (carries.forth k m of_first);
       };
+      signatures = record {
+        back = λ k m over. subst (IsOver cs k) (sym (leave (p ∷ []) cs s all k m).0) (alike.back k m over);
+        forth = λ k m over. subst (IsOver ds k) (sym (leave (p ∷ []) cs s all k m).1) (alike.forth k m over);
+      };
     }
 
 -- ---- groups
 
-record IsGroupPass (p : Pass) : Type 0 where
-  itself : asks_rules p ≡ false
-  makes : makes_groups p ≡ true
+pub record IsGroupPass (p : Pass) : Type 0 where
+  pub itself : asks_rules p ≡ false
+  pub makes : makes_groups p ≡ true
 
-is_group_pass : (p : Pass) → puts_groups p ≡ true → IsGroupPass p
+pub is_group_pass : (p : Pass) → puts_groups p ≡ true → IsGroupPass p
 is_group_pass Ite is = record { itself = refl; makes = refl }
 is_group_pass Cnf is = record { itself = refl; makes = refl }
 is_group_pass Simplify is = absurd cc
@@ -67,9 +74,15 @@ carried_groups p cs ds s r makes commands left puts = record {
   ready = subst (λ x. IsReady x r) (sym commands) (subst (IsReady (apply_pass p cs s).0) (sym left) puts.ready);
   equivalent = λ none. absurd (true≢false (sym none ∙ ap not makes));
   models = subst (λ x. CarriesModels cs x (back_over p cs s) (forth_over p cs s)) (sym commands) puts.models;
+  signatures = subst (λ x. CarriesSignatures cs x (back_over p cs s) (forth_over p cs s)) (sym commands) puts.signatures;
 }
 
 -- ---- each pass
+
+-- of what may have failed
+pub both_ok : {T E A B P : Type 0} (r : Result T E) → (A → B → P) → OnOk r A → OnOk r B → OnOk r P
+both_ok (Ok x) then a b = then a b
+both_ok (Err e) then a b = tt
 
 module _ (p : Pass) (cs : List (Command Term)) (s : Supply) (rules : List Name) (ready : IsReady cs s) where
   pub led_in_form : PassKeepsCommands → EquivalentsHaveOneModel → PassesLeaveModels → (q : Pass) (form : Form) → p ≡ q → IsForm q form → (ds : List (Command Term)) (r : Supply)

@@ -44,7 +44,7 @@ none_of_first test (suc i) (p ∷ ps) none =
     let here = both_false (test p) (list_any test ps) none in
     or_false (test p) (list_any test (take i ps)) here.0 (none_of_first test i ps here.1)
 
-first_in_order : (i : ℕ) (ps : List Pass) → groups_after_rules ps ≡ false → groups_after_rules (take i ps) ≡ false
+pub first_in_order : (i : ℕ) (ps : List Pass) → groups_after_rules ps ≡ false → groups_after_rules (take i ps) ≡ false
 first_in_order zero ps order = refl
 first_in_order (suc i) [] order = refl
 first_in_order (suc i) (Rules ∷ ps) order = none_of_first makes_groups i ps order

@@ -4,3 +4,4 @@ mod Lists
 mod Scripts
 mod Carried
 mod Led
+mod LiveGroups

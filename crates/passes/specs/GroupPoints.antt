@@ -12,7 +12,7 @@ use Rattle.term_groups.specs.Grouping.{IsGroupOf, MakesGroups, symbols_of}
 use Rattle.script_read.specs.Commands.{Command, with_asserted, assert, kinds, live, literals, signature}
 use Rattle.passes.specs.Carry.{drawn_by, with_graphs, graph_dropped, graph_given, term_for}
 use Rattle.passes.specs.Groups.{Making, groups_from, spelled, in_groups}
-use Rattle.passes.specs.Laws.{IsReady, CarriesModels}
+use Rattle.passes.specs.Laws.{IsReady, CarriesModels, CarriesSignatures}
 use Rattle.passes.specs.Passed.{Replacement}
 
 -- the commands before the pass, and those behind it
@@ -80,3 +80,7 @@ GroupsAreReady = (make : Making) → MakesGroups make → ConstantsAreNew → (c
 abbrev pub GroupsKeepModels : Type 0
 GroupsKeepModels = (make : Making) → MakesGroups make → ConstantsAreNew → (cs : List (Command Term)) (s : Supply) → IsReady cs s
     → CarriesModels cs (in_groups make cs s).0 (λ k m. without_new (groups_from make cs s).0 m) (λ k m. with_values (groups_from make cs s).0 k m)
+
+abbrev pub GroupsKeepSignatures : Type 0
+GroupsKeepSignatures = (make : Making) → MakesGroups make → ConstantsAreNew → (cs : List (Command Term)) (s : Supply) → IsReady cs s
+    → CarriesSignatures cs (in_groups make cs s).0 (λ k m. without_new (groups_from make cs s).0 m) (λ k m. with_values (groups_from make cs s).0 k m)

@@ -1,24 +1,28 @@
 -- Statements of the laws of passes that put one assertion in the place of each: what becomes of commands that can be printed,
 -- and of their models. SMT-LIB 2.6, section 4.2, for commands and section 5.3 for values.
-use Rattle.std.specs.Prelude.{◌≡◌, ℕ, Bool, true, false, not, List, IsTrue}
+use Rattle.std.specs.Prelude.{◌≡◌, ◌≤◌, ℕ, Bool, true, false, not, List, count_by, All, IsTrue}
 use Rattle.std.specs.List.{list_all, list_any}
+use Rattle.smt_terms.specs.Equal.{symbol_eq}
 use Rattle.smt_terms.specs.Fresh.{Supply}
 use Rattle.smt_terms.specs.Keeps.{Keeps}
 use Rattle.smt_terms.specs.Models.{Model, IsModelOver}
-use Rattle.smt_terms.specs.Sorts.{Name}
+use Rattle.smt_terms.specs.Rank.{sort_of}
+use Rattle.smt_terms.specs.Sorts.{Name, Symbol}
 use Rattle.smt_terms.specs.Term.{Term}
-use Rattle.script_read.specs.Commands.{Command, kinds, live, literals, signature}
+use Rattle.term_table.specs.Formulas.{sort_or_bool}
+use Rattle.script_read.specs.Commands.{Command, kinds, live, literals, signature, is_check, checks}
 use Rattle.script_read.specs.Laws.{GivesNoNameOf}
 use Rattle.script_read.specs.Printable.{printable}
 use Rattle.script_read.specs.Satisfied.{sat}
 use Rattle.smt_print.specs.Laws.{Each}
 use Rattle.passes.specs.declared.names.Pass.{Pass}
 use Rattle.passes.specs.declared.names.Pass.TheVariants.{Simplify, Nnf, Aig, Prenex, Reads, Shannon, SelfSub, Rules, Ite, Cnf}
-use Rattle.passes.specs.Led.{EachMayBecome}
-use Rattle.passes.specs.Lists.{makes_groups}
-use Rattle.passes.specs.Passed.{apply_pass, passed}
+use Rattle.passes.specs.Led.{EachMayBecome, LeadsTo}
+use Rattle.passes.specs.Lists.{can_run, groups_after_rules, makes_groups}
+use Rattle.passes.specs.LiveGroups.{Drawn, all_told, all_drawn, symbols_in, without_drawn, with_met, met_at, asked_of}
+use Rattle.passes.specs.Passed.{apply_pass, passed, replacements}
 use Rattle.passes.specs.Ruling.{RewritesCommands}
-use Rattle.passes.specs.Carry.{back, back_over, forth, forth_over}
+use Rattle.passes.specs.Carry.{back, back_over, forth, forth_over, asked_forth}
 
 -- the passes of these laws: all that put one assertion in the place of each; stored rules count as changing nothing here
 abbrev pub keeps_values : Pass → Bool
@@ -60,6 +64,11 @@ pub record CarriesModels (cs ds : List (Command Term)) (to_first to_second : ℕ
   pub back : (k : ℕ) (m : Model) → IsModelOf ds k m → IsModelOf cs k (to_first k m)
   pub forth : (k : ℕ) (m : Model) → IsModelOf cs k m → IsModelOf ds k (to_second k m)
 
+-- the same of models in which nothing has to hold: they stay models over what is declared at the point
+pub record CarriesSignatures (cs ds : List (Command Term)) (to_first to_second : ℕ → Model → Model) : Type 0 where
+  pub back : (k : ℕ) (m : Model) → IsModelOver (signature ds k).sorts (signature ds k).symbols m → IsModelOver (signature cs k).sorts (signature cs k).symbols (to_first k m)
+  pub forth : (k : ℕ) (m : Model) → IsModelOver (signature cs k).sorts (signature cs k).symbols m → IsModelOver (signature ds k).sorts (signature ds k).symbols (to_second k m)
+
 -- ---- the laws
 
 -- of commands and a supply of names, and those behind a pass
@@ -100,6 +109,7 @@ puts_groups _ = false
 pub record PutsGroups (p : Pass) (cs : List (Command Term)) (s : Supply) : Type 0 where
   pub ready : IsReady (apply_pass p cs s).0 (apply_pass p cs s).1
   pub models : CarriesModels cs (apply_pass p cs s).0 (back_over p cs s) (forth_over p cs s)
+  pub signatures : CarriesSignatures cs (apply_pass p cs s).0 (back_over p cs s) (forth_over p cs s)
 
 abbrev pub GroupsCarryModels : Type 0
 GroupsCarryModels = (p : Pass) (cs : List (Command Term)) (s : Supply) → IsTrue (puts_groups p) → IsReady cs s → PutsGroups p cs s
@@ -111,9 +121,40 @@ pub record IsCarried (p : Pass) (cs ds : List (Command Term)) (s r : Supply) : T
   pub ready : IsReady ds r
   pub equivalent : IsTrue (not (makes_groups p)) → AreEquivalent cs ds
   pub models : CarriesModels cs ds (back_over p cs s) (forth_over p cs s)
+  pub signatures : CarriesSignatures cs ds (back_over p cs s) (forth_over p cs s)
 
 -- and those that a list of passes made of them
 pub record AreCarried (ps : List Pass) (cs ds : List (Command Term)) (s r : Supply) : Type 0 where
   pub ready : IsReady ds r
   pub equivalent : IsTrue (not (list_any makes_groups ps)) → AreEquivalent cs ds
   pub models : CarriesModels cs ds (back ps cs s) (forth ps cs s)
+  pub signatures : CarriesSignatures cs ds (back ps cs s) (forth ps cs s)
+
+-- ---- what is kept of such a pass
+
+-- what was drawn and where it is live tells what carried models are
+pub record TellsModels (p : Pass) (cs : List (Command Term)) (s : Supply) : Type 0 where
+  pub distinct : (f : Symbol) → count_by (symbol_eq f) (symbols_in (all_drawn (all_told (replacements p cs s).0))) ≤ 1
+  pub back : (k : ℕ) (m : Model) → back_over p cs s k m ≡ without_drawn (all_told (replacements p cs s).0) m
+  pub forth : (k : ℕ) (m : Model) → 1 ≤ k → k ≤ checks cs → forth_over p cs s k m ≡ with_met (met_at k (all_told (replacements p cs s).0)) m
+  pub asked : (k : ℕ) → 1 ≤ k → k ≤ checks cs → asked_forth p cs s k ≡ asked_of (met_at k (all_told (replacements p cs s).0))
+  pub checks : count_by is_check (all_told (replacements p cs s).0) ≡ checks cs
+
+abbrev pub StepsTellModels : Type 0
+StepsTellModels = (p : Pass) (cs : List (Command Term)) (s : Supply) → IsTrue (puts_groups p) → IsReady cs s → TellsModels p cs s
+
+-- each symbol that such a pass draws has the sort of the term that it stands for
+abbrev pub HaveSorts : Drawn → Type 0
+HaveSorts d = All (λ n. n.0.result ≡ sort_or_bool (sort_of n.1)) d.symbols
+
+abbrev pub DrawnHaveSorts : Type 0
+DrawnHaveSorts = (p : Pass) (cs : List (Command Term)) (s : Supply) → IsTrue (puts_groups p) → IsReady cs s → All HaveSorts (all_drawn (all_told (replacements p cs s).0))
+
+-- ---- what is declared behind a list
+
+-- commands that the passes may make declare at each point what the definition's do, though stored rules may have changed their
+-- assertions
+abbrev pub SignaturesLedTo : Type 0
+SignaturesLedTo =
+    (ps : List Pass) (cs : List (Command Term)) (s : Supply) (rules : List Name) (ds : List (Command Term)) (r : Supply) (k : ℕ) → IsReady cs s → IsTrue (list_all can_run ps) → groups_after_rules ps ≡ false
+    → LeadsTo ps cs s rules ds r → signature ds k ≡ signature (passed ps cs s).0 k

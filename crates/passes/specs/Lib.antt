@@ -8,3 +8,7 @@ pub mod Led
 pub mod Lists
 pub mod Passed
 pub mod Ruling
+pub mod LiveGroups
+pub mod Plans
+pub mod Carrying
+pub mod LiveSymbols

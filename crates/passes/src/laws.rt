@@ -9,6 +9,9 @@ ghost use Rattle.passes.specs.Laws.{
   PassesLeaveModels,
   PassesCarryModels,
   GroupsCarryModels,
+  StepsTellModels,
+  DrawnHaveSorts,
+  SignaturesLedTo,
 };
 
 use array_forms::laws::reads_keep_values;
@@ -67,7 +70,8 @@ pub fn passes_carry_models()
 
 /// Behind a pass that puts groups in the place of assertions, printable commands are printable again, with the same checks; a
 /// model of them, carried back, is a model of those before the pass at the same point, and a model of those before it, carried
-/// forth, is one of those behind it. The names that are left to draw are new among those of the commands.
+/// forth, is one of those behind it. Models in which nothing has to hold stay models over what is declared at the point. The
+/// names that are left to draw are new among those of the commands.
 pub fn groups_carry_models()
     ensures { GroupsCarryModels }
 {
@@ -75,3 +79,29 @@ pub fn groups_carry_models()
     cnf_makes_groups();
     constants_are_new();
 }
+
+/// The commands that tell what is live behind such a pass, with the symbols that each assertion brought, tell what models
+/// carried over the pass are, in either direction, and which terms must be evaluated for that. They have as many checks as the
+/// commands before the pass, and each symbol was drawn once.
+pub fn steps_tell_models()
+    ensures { StepsTellModels }
+{
+    ite_makes_groups();
+    cnf_makes_groups();
+    constants_are_new();
+}
+
+/// Each symbol that such a pass draws has the sort of the term that it stands for.
+pub(crate) fn drawn_symbols_have_sorts()
+    ensures { DrawnHaveSorts }
+{
+    ite_makes_groups();
+    cnf_makes_groups();
+    constants_are_new();
+}
+
+/// What passes may make of commands where stored rules are among them declares at each point the sorts and symbols that the
+/// definition's commands declare there: stored rules change no declaration, and no pass behind them makes groups.
+pub fn signatures_stay_led()
+    ensures { SignaturesLedTo }
+{}

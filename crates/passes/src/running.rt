@@ -1,32 +1,34 @@
 //! Lists of passes applied to scripts: behind a pass, an assertion or a group stands in the place of each assertion, with its
 //! number, and other commands stay.
 
-ghost use Rattle.std.specs.Prelude.{◌≡◌, ◌<◌, ◌∷◌, [], true, length, slice_get, option_map, OnOk, IfOk};
+ghost use Rattle.std.specs.Prelude.{◌≡◌, ◌<◌, ◌∷◌, [], true, length, slice_get, option_map, option_to_list, All, OnOk, IfOk};
 ghost use Rattle.script_read.specs.CommandLists.{commands_of, AreCommandsOf};
 ghost use Rattle.term_subst.specs.Substituting.{IsLater, NeverGivesGained};
 ghost use Rattle.term_walk.specs.Walking.{GrowsTo};
 ghost use Rattle.passes.specs.Lists.{can_run};
 ghost use Rattle.passes.specs.Led.{LeadsTo};
-ghost use Rattle.passes.specs.Laws.{IsReady, IsCarried, AreCarried};
+ghost use Rattle.passes.specs.Laws.{keeps_values, IsReady, IsCarried, AreCarried};
+ghost use Rattle.passes.specs.Plans.{HasStages, IsPlanOf, IsPlanOver, IsStageOver};
 ghost use Rattle.passes.specs.Ruling.{RewritesCommands};
 ghost use Rattle.passes.specs.Behind.{simplified_form, nnf_form, aig_form, reads_form, in_form, AreRewritable};
 ghost use Rattle.passes.specs.Assertion.{assertion_of};
 
 use crate::grouping::{Clauses, IteRemoval, group_each};
 use crate::laws::{
-    equivalents_have_one_model, groups_carry_models, passes_keep_commands, passes_leave_models,
-    rules_keep_commands,
+    drawn_symbols_have_sorts, equivalents_have_one_model, groups_carry_models,
+    passes_keep_commands, passes_leave_models, rules_keep_commands,
 };
 use crate::list::Passes;
 use crate::names::Pass;
+use crate::plan::{Plan, Stage};
 use crate::rewriters::{
     Expansion, Inversion, Negation, Prefix, Reading, Rewriter, SelfSubstitution, Simplification,
 };
 use normal_forms::room::make_room;
 use rule_book::{Named, RuleBook, apply};
-use script_read::{Command, Commands, Script};
+use script_read::{Command, Commands, Script, checks};
 use smt_terms::NodeId;
-use std::alloc::{AllocError, Global};
+use std::alloc::{AllocError, AllocFailed, Global};
 use std::marker::Brand;
 use std::sync::ledger::{Blank, Ledger};
 use term_subst::Fresh;
@@ -48,11 +50,18 @@ impl From<AllocError> for PassFault {
     }
 }
 
+impl<T: Drop> From<AllocFailed<T>> for PassFault {
+    fn from(_error: AllocFailed<T>) -> PassFault {
+        PassFault::Memory
+    }
+}
+
 /// The script behind the passes, from the first to the last: behind each, what the pass makes of an assertion stands in its
 /// place, with its number, and all other commands stay. `rules` asks those of the book. The script has to be printable, and so
 /// is the answer; at each check every model of the answer, carried back over the passes, is one of the script, and every model
 /// of the script, carried forth, is one of the answer. Where no pass makes groups, as many assertions are live in both, each
-/// with the value of the one in its place in every model. After a refusal the script is given up; the table only gains, and names that were drawn aren't drawn again.
+/// with the value of the one in its place in every model. The plan tells how models are carried. After a refusal the script is
+/// given up; the table only gains, and names that were drawn aren't drawn again.
 pub fn run_passes(
     alloc: Global,
     table: &mut Table,
@@ -60,24 +69,30 @@ pub fn run_passes(
     passes: &Passes,
     book: &RuleBook,
     fresh: &mut Fresh,
-) -> Result<Script, PassFault>
+) -> Result<(Script, Plan), PassFault>
     requires numbers { AreCommandsOf table.old script.commands }
     requires ready { IsReady (commands_of table.old script.commands) fresh.old }
-    ensures numbers { IfOk result (λ s. AreCommandsOf table.new s.commands) }
-    ensures leads { IfOk result (λ s. LeadsTo passes.now (commands_of table.old script.commands) fresh.old (⟦<RuleBook as Named>⟧.names book.now) (commands_of table.new s.commands) fresh.new) }
-    ensures carried { IfOk result (λ s. AreCarried passes.now (commands_of table.old script.commands) (commands_of table.new s.commands) fresh.old fresh.new) }
+    ensures numbers { IfOk result (λ r. AreCommandsOf table.new r.0.commands) }
+    ensures leads { IfOk result (λ r. LeadsTo passes.now (commands_of table.old script.commands) fresh.old (⟦<RuleBook as Named>⟧.names book.now) (commands_of table.new r.0.commands) fresh.new) }
+    ensures carried { IfOk result (λ r. AreCarried passes.now (commands_of table.old script.commands) (commands_of table.new r.0.commands) fresh.old fresh.new) }
+    ensures plan { IfOk result (λ r. IsPlanOf table.new r.1 passes.now (commands_of table.old script.commands) fresh.old) }
+    ensures over { IfOk result (λ r. IsPlanOver table.new r.1) }
     ensures later { IsLater fresh.old fresh.new }
     ensures drawn { NeverGivesGained fresh.new table.old.symbols table.new.symbols }
     ensures grows { GrowsTo table.old table.new }
 {
     let mut script = script;
+    let checks = checks(&script);
+    let mut stages = Vec::new(alloc);
     for i in 0..passes.len() {
-        run_pass(alloc, table, &mut script, passes.pass(i), book, fresh)?;
+        if let Some(stage) = run_pass(alloc, table, &mut script, passes.pass(i), book, fresh)? {
+            stages.push(stage)?;
+        }
     }
-    Ok(script)
+    Ok((script, Plan { stages, checks }))
 }
 
-/// Puts one assertion or a group in the place of each, as the pass says.
+/// Puts one assertion or a group in the place of each, as the pass says; and answers what a pass that makes groups drew.
 fn run_pass(
     alloc: Global,
     table: &mut Table,
@@ -85,8 +100,47 @@ fn run_pass(
     pass: Pass,
     book: &RuleBook,
     fresh: &mut Fresh,
-) -> Result<(), AllocError>
+) -> Result<Option<Stage>, AllocError>
     requires pass { can_run pass ≡ true }
+    requires numbers { AreCommandsOf table.old script.old.commands }
+    requires ready { IsReady (commands_of table.old script.old.commands) fresh.old }
+    ensures numbers { OnOk result (AreCommandsOf table.new script.new.commands) }
+    ensures leads { OnOk result (LeadsTo (pass ∷ []) (commands_of table.old script.old.commands) fresh.old (⟦<RuleBook as Named>⟧.names book.now) (commands_of table.new script.new.commands) fresh.new) }
+    ensures carried { OnOk result (IsCarried pass (commands_of table.old script.old.commands) (commands_of table.new script.new.commands) fresh.old fresh.new) }
+    ensures stage { IfOk result (λ o. HasStages table.new (option_to_list o) (pass ∷ []) (commands_of table.old script.old.commands) fresh.old) }
+    ensures over { IfOk result (λ o. All (IsStageOver table.new) (option_to_list o)) }
+    ensures later { IsLater fresh.old fresh.new }
+    ensures drawn { NeverGivesGained fresh.new table.old.symbols table.new.symbols }
+    ensures grows { GrowsTo table.old table.new }
+{
+    groups_carry_models();
+    drawn_symbols_have_sorts();
+    match pass {
+        Pass::Ite => {
+            let stage = group_each(alloc, table, script, &mut IteRemoval { alloc }, fresh)?;
+            Ok(Some(stage))
+        }
+        Pass::Cnf => {
+            let stage = group_each(alloc, table, script, &mut Clauses { alloc }, fresh)?;
+            Ok(Some(stage))
+        }
+        _ => {
+            run_rewriter(alloc, table, script, pass, book, fresh)?;
+            Ok(None)
+        }
+    }
+}
+
+/// Puts one assertion in the place of each, as the pass says.
+fn run_rewriter(
+    alloc: Global,
+    table: &mut Table,
+    script: &mut Script,
+    pass: Pass,
+    book: &RuleBook,
+    fresh: &mut Fresh,
+) -> Result<(), AllocError>
+    requires pass { keeps_values pass ≡ true }
     requires numbers { AreCommandsOf table.old script.old.commands }
     requires ready { IsReady (commands_of table.old script.old.commands) fresh.old }
     ensures numbers { OnOk result (AreCommandsOf table.new script.new.commands) }
@@ -100,49 +154,16 @@ fn run_pass(
     passes_leave_models();
     rules_keep_commands();
     equivalents_have_one_model();
-    groups_carry_models();
     match pass {
-        Pass::Simplify => {
-            simplify_each::<Brand>(alloc, table, script, fresh, Blank::new(1))?;
-            Ok(())
-        }
-        Pass::Nnf => {
-            negate::<Brand>(alloc, table, script, fresh, Blank::new(1))?;
-            Ok(())
-        }
-        Pass::Aig => {
-            invert::<Brand>(alloc, table, script, fresh, Blank::new(1))?;
-            Ok(())
-        }
-        Pass::Prenex => {
-            rewrite_each(table, script, &mut Prefix { alloc }, fresh)?;
-            Ok(())
-        }
-        Pass::Reads => {
-            tell_reads::<Brand>(alloc, table, script, fresh, Blank::new(1))?;
-            Ok(())
-        }
-        Pass::Shannon => {
-            rewrite_each(table, script, &mut Expansion { alloc }, fresh)?;
-            Ok(())
-        }
-        Pass::SelfSub => {
-            rewrite_each(table, script, &mut SelfSubstitution { alloc }, fresh)?;
-            Ok(())
-        }
-        Pass::Rules => {
-            ask_rules::<Brand>(alloc, table, script, book, Blank::new(1))?;
-            Ok(())
-        }
-        Pass::Ite => {
-            group_each(alloc, table, script, &mut IteRemoval { alloc }, fresh)?;
-            Ok(())
-        }
-        Pass::Cnf => {
-            group_each(alloc, table, script, &mut Clauses { alloc }, fresh)?;
-            Ok(())
-        }
-        Pass::Ackermann => unreachable!(),
+        Pass::Simplify => simplify_each::<Brand>(alloc, table, script, fresh, Blank::new(1)),
+        Pass::Nnf => negate::<Brand>(alloc, table, script, fresh, Blank::new(1)),
+        Pass::Aig => invert::<Brand>(alloc, table, script, fresh, Blank::new(1)),
+        Pass::Prenex => rewrite_each(table, script, &mut Prefix { alloc }, fresh),
+        Pass::Reads => tell_reads::<Brand>(alloc, table, script, fresh, Blank::new(1)),
+        Pass::Shannon => rewrite_each(table, script, &mut Expansion { alloc }, fresh),
+        Pass::SelfSub => rewrite_each(table, script, &mut SelfSubstitution { alloc }, fresh),
+        Pass::Rules => ask_rules::<Brand>(alloc, table, script, book, Blank::new(1)),
+        Pass::Ite | Pass::Cnf | Pass::Ackermann => unreachable!(),
     }
 }
 

@@ -38,7 +38,7 @@ pub fn rewritten(
     let (script, mut fresh) = read_script(alloc, &mut table, &forest)?;
     // The script stands by itself. Of what it was read from the memory of the text is written over again.
     let bytes = forest.into_bytes();
-    let script = run_passes(alloc, &mut table, script, passes, book, &mut fresh)?;
+    let (script, _) = run_passes(alloc, &mut table, script, passes, book, &mut fresh)?;
     // Left to the end of the program, which gives back all memory at once: to free each node first takes a walk through them.
     let table = ManuallyDrop::new(table);
     let mut text = Pieces::over(alloc, bytes);

@@ -1,4 +1,4 @@
-use Rattle.passes.proofs.running.run_pass.Given as goal
+use Rattle.passes.proofs.running.run_rewriter.Given as goal
 
 abbrev pub ghosts-negate : goal.ghosts-negate
 ghosts-negate g a = record { name = a.blank.name; parts = 1 }

@@ -1,0 +1,201 @@
+-- The live symbols of each pass, one by one, stage by stage: the terms to be evaluated, the models and the refusals.
+use Rattle.std.proofs.Common.{◌≡◌, ◌∙◌, sym, ap, refl, subst, ℕ, ◌+◌, ◌≤◌, Bool, true, false, cond, List, [], ◌∷◌, ◌++◌, map, filter, flat_map, take, drop, slice_get, Err, Some, None, All, append_assoc}
+use Rattle.std.proofs.lemmas.Bool.{ltb-false, le-ltb}
+use Rattle.std.proofs.lemmas.List.{map-append, append-nil}
+use Rattle.std.proofs.lemmas.List.Elements.{All-nil, All-cons, All-head, All-tail}
+use Rattle.std.proofs.lemmas.Grind.{flat_map-append}
+use Rattle.std.proofs.lemmas.Option.{slice_get_within, get_or_from_slice_get}
+use Rattle.smt_terms.specs.declared.ids.NodeId.{NodeId}
+use Rattle.smt_terms.specs.Groups.{Named}
+use Rattle.smt_terms.specs.Free.{is_among}
+use Rattle.smt_terms.specs.Models.{Model}
+use Rattle.smt_terms.specs.Val.{bits_bound}
+use Rattle.smt_terms.proofs.Tests.{left_true, right_true}
+use Rattle.smt_terms.specs.declared.ids.SymId.{SymId}
+use Rattle.smt_terms.specs.Values.{default_value}
+use Rattle.smt_values.specs.Meaning.{meaning}
+use Rattle.smt_values.specs.SizeTable.{sizes_by}
+use Rattle.smt_values.specs.Valid.{IsValue}
+use Rattle.smt_values.specs.declared.value.Value.{Value}
+use Rattle.term_table.specs.Formulas.{Formulas, symbol_at, tree, IsSymbol}
+use Rattle.models.specs.ModelView.{ModelLists, model_at, with_graph}
+use Rattle.passes.specs.declared.carrying.CarryFault.{CarryFault}
+use Rattle.passes.specs.declared.carrying.CarryFault.TheVariants.{NoSuchCheck, EvalWidth, Beyond128, Memory}
+use Rattle.passes.specs.declared.carrying.Live.{Live as FoundLive}
+use Rattle.passes.specs.declared.carrying.LiveSymbol.{LiveSymbol}
+use Rattle.passes.specs.Carry.{Asked, asked_for, beyond, constant_graph, with_graphs, graph_given, term_for, numbers, most_bits, too_wide, bits_of_assertion, all_asked}
+use Rattle.passes.specs.Carrying.{breaks_in}
+use Rattle.passes.specs.LiveGroups.{Drawn, Met, asked_of, symbols_in, with_met, forth_by, stages_by}
+use Rattle.passes.specs.LiveSymbols.{Given, Live, given_by, live_of, live_at, lives_at, given_at, named_in, asked_in, all_asked_in, with_live, forth_over_live, stages_over_live, beyond_of, breaks_among, widest_of, bits_among, with_defaults, with_each, valued_at, AreValues, IsValueFor, IsBeyondAmong, GivesAll}
+use Rattle.passes.specs.Passed.{least, or_later}
+use Rattle.passes.proofs.GivenModels.{given_live, each-more, default-more}
+use Rattle.passes.proofs.GroupingSteps.{taken_more}
+use Rattle.passes.proofs.LeastAsked.{is_wide}
+use Rattle.passes.proofs.ListPlaces.{front, all_at, map_at}
+use Rattle.passes.proofs.NamedTerms.{all_apart}
+
+-- ---- one element more
+
+abbrev asked_of_given : Given → Asked
+asked_of_given g = record { number = g.number; term = g.term }
+
+pub given-more : (t : Formulas) (ls : List LiveSymbol) (i : ℕ) (a : LiveSymbol) → slice_get ls i ≡ Some a → map (given_at t) (take (i + 1) ls) ≡ map (given_at t) (take i ls) ++ given_at t a ∷ []
+given-more t ls i a at = ap (map (given_at t)) (taken_more ls i a at) ∙ map-append (given_at t) (take i ls) (a ∷ [])
+
+pub asked-given : (t : Formulas) (ls : List LiveSymbol) (i : ℕ) (a : LiveSymbol) → slice_get ls i ≡ Some a → (qs : List Asked)
+    → qs ++ asked_in (map (given_at t) (take (i + 1) ls)) ≡ (qs ++ asked_in (map (given_at t) (take i ls))) ++ record { number = a.assertion; term = tree t a.term } ∷ []
+asked-given t ls i a at qs =
+    ap (λ gs. qs ++ asked_in gs) (given-more t ls i a at)
+    ∙ ap (λ rs. qs ++ rs) (map-append asked_of_given (map (given_at t) (take i ls)) (given_at t a ∷ []))
+    ∙ sym (append_assoc qs (asked_in (map (given_at t) (take i ls))) (record { number = a.assertion; term = tree t a.term } ∷ []))
+
+pub stage-more : (t : Formulas) (rs : List FoundLive) (i : ℕ) (r : FoundLive) → slice_get rs i ≡ Some r
+    → all_asked_in (lives_at t (take (i + 1) rs)) ≡ all_asked_in (lives_at t (take i rs)) ++ asked_in (live_at t r).given
+stage-more t rs i r at =
+    ap (λ xs. all_asked_in (lives_at t xs)) (taken_more rs i r at)
+    ∙ ap all_asked_in (map-append (live_at t) (take i rs) (r ∷ []))
+    ∙ flat_map-append (λ (x : Live). asked_in x.given) (lives_at t (take i rs)) (live_at t r ∷ [])
+    ∙ ap (λ ys. all_asked_in (lives_at t (take i rs)) ++ ys) (append-nil (asked_in (live_at t r).given))
+
+-- ---- terms that bind few bits
+
+abbrev pub IsNarrow : Asked → Type 0
+IsNarrow q = bits_bound q.term ≤ most_bits
+
+narrow_first : (q : Asked) (qs : List Asked) (b : Bool) → is_wide q ≡ b → least (numbers (cond b (q ∷ filter is_wide qs) (filter is_wide qs))) ≡ None → (widest_of qs ≡ None → All IsNarrow qs) → All IsNarrow (q ∷ qs)
+narrow_first q qs true wide none rest = absurd cc
+narrow_first q qs false wide none rest = All-cons IsNarrow q qs (ltb-false most_bits (bits_bound q.term) wide) (rest none)
+
+pub all_narrow : (qs : List Asked) → widest_of qs ≡ None → All IsNarrow qs
+all_narrow [] none = All-nil IsNarrow
+all_narrow (q ∷ qs) none = narrow_first q qs (is_wide q) refl none (all_narrow qs)
+
+pub none_of_narrow : (qs : List Asked) → All IsNarrow qs → widest_of qs ≡ None
+none_of_narrow [] all = refl
+none_of_narrow (q ∷ qs) all =
+    ap (λ b. least (numbers (cond b (q ∷ filter is_wide qs) (filter is_wide qs)))) (le-ltb most_bits (bits_bound q.term) (All-head IsNarrow q qs all))
+    ∙ none_of_narrow qs (All-tail IsNarrow q qs all)
+
+-- those of each stage, where all are
+pub narrow_at : (rs : List Live) (i : ℕ) (r : Live) → slice_get rs i ≡ Some r → widest_of (all_asked_in rs) ≡ None → widest_of (asked_in r.given) ≡ None
+narrow_at rs i r at none =
+    none_of_narrow (asked_in r.given)
+    (subst (λ (x : Live). All IsNarrow (asked_in x.given)) (get_or_from_slice_get rs i r r at)
+    (all_apart IsNarrow (λ (x : Live). asked_in x.given) rs (all_narrow (all_asked_in rs) none) i r (slice_get_within rs i r at)))
+
+pub narrow_term : (t : Formulas) (ls : List LiveSymbol) (i : ℕ) (a : LiveSymbol) → slice_get ls i ≡ Some a → widest_of (asked_in (map (given_at t) ls)) ≡ None → bits_bound (tree t a.term) ≤ 16
+narrow_term t ls i a at none =
+    all_at IsNarrow (asked_in (map (given_at t) ls)) i (asked_of_given (given_at t a)) (map_at asked_of_given (map (given_at t) ls) i (given_at t a) (map_at (given_at t) ls i a at))
+    (all_narrow (asked_in (map (given_at t) ls)) none)
+
+-- ---- one stage after the other
+
+module _ (t : Formulas) (rs : List Live) (i : ℕ) (r : Live) (at : slice_get rs i ≡ Some r) (m : Model) where
+  pub forth-step : forth_over_live (drop i rs) m ≡ forth_over_live (drop (i + 1) rs) (with_live r m)
+  forth-step = ap (λ xs. forth_over_live xs m) (front rs i r at)
+
+  stages_front : stages_over_live (drop i rs) m ≡ record { model = m; asked = asked_in r.given } ∷ stages_over_live (drop (i + 1) rs) (with_live r m)
+  stages_front = ap (λ xs. stages_over_live xs m) (front rs i r at)
+
+  pub beyond-step : beyond_of m (asked_in r.given) ≡ None → beyond (stages_over_live (drop i rs) m) ≡ beyond (stages_over_live (drop (i + 1) rs) (with_live r m))
+  beyond-step none = ap beyond stages_front ∙ ap (λ o. or_later o (beyond (stages_over_live (drop (i + 1) rs) (with_live r m)))) none
+
+  pub beyond-here : (a : ℕ) → beyond_of m (asked_in r.given) ≡ Some a → beyond (stages_over_live (drop i rs) m) ≡ Some a
+  beyond-here a some = ap beyond stages_front ∙ ap (λ o. or_later o (beyond (stages_over_live (drop (i + 1) rs) (with_live r m)))) some
+
+  pub breaks-step : (a : ℕ) (k : NodeId) → breaks_in t (stages_over_live (drop (i + 1) rs) (with_live r m)) a k ≡ true → breaks_in t (stages_over_live (drop i rs) m) a k ≡ true
+  breaks-step a k h =
+      ap (λ sts. breaks_in t sts a k) stages_front
+      ∙ right_true (breaks_among m (asked_in r.given) a (tree t k)) (breaks_in t (stages_over_live (drop (i + 1) rs) (with_live r m)) a k) h
+
+  pub breaks-here : (a : ℕ) (k : NodeId) → breaks_among m (asked_in r.given) a (tree t k) ≡ true → breaks_in t (stages_over_live (drop i rs) m) a k ≡ true
+  breaks-here a k h =
+      ap (λ sts. breaks_in t sts a k) stages_front
+      ∙ left_true (breaks_among m (asked_in r.given) a (tree t k)) (breaks_in t (stages_over_live (drop (i + 1) rs) (with_live r m)) a k) h
+
+-- ---- as groups
+
+named_by : (i : ℕ) (ns : Named) → named_in (given_by i ns) ≡ ns
+named_by i [] = refl
+named_by i (n ∷ ns) = ap (λ xs. n ∷ xs) (named_by i ns)
+
+named_all : (ds : List Drawn) → named_in (flat_map (λ d. given_by d.number d.symbols) ds) ≡ flat_map (λ d. d.symbols) ds
+named_all [] = refl
+named_all (d ∷ ds) =
+    map-append (λ (g : Given). (g.symbol, g.term)) (given_by d.number d.symbols) (flat_map (λ e. given_by e.number e.symbols) ds)
+    ∙ (λ i. named_by d.number d.symbols i ++ named_all ds i)
+
+asked_by : (i : ℕ) (ns : Named) → asked_in (given_by i ns) ≡ asked_for i (map (λ n. n.1) ns)
+asked_by i [] = refl
+asked_by i (n ∷ ns) = ap (λ qs. record { number = i; term = n.1 } ∷ qs) (asked_by i ns)
+
+asked_all : (ds : List Drawn) → asked_in (flat_map (λ d. given_by d.number d.symbols) ds) ≡ flat_map (λ d. asked_for d.number (map (λ n. n.1) d.symbols)) ds
+asked_all [] = refl
+asked_all (d ∷ ds) =
+    map-append asked_of_given (given_by d.number d.symbols) (flat_map (λ e. given_by e.number e.symbols) ds)
+    ∙ (λ i. asked_by d.number d.symbols i ++ asked_all ds i)
+
+live_met : (g : Met) (m : Model) → with_live (live_of g) m ≡ with_met g m
+live_met g m = ap (λ ns. with_graphs m (λ f. graph_given m (term_for ns f) (is_among (symbols_in g.idle) f) f (m.graphs f))) (named_all g.live)
+
+pub forth_met : (gs : List Met) (m : Model) → forth_over_live (map live_of gs) m ≡ forth_by gs m
+forth_met [] m = refl
+forth_met (g ∷ gs) m = ap (forth_over_live (map live_of gs)) (live_met g m) ∙ forth_met gs (with_met g m)
+
+pub stages_met : (gs : List Met) (m : Model) → stages_over_live (map live_of gs) m ≡ stages_by gs m
+stages_met [] m = refl
+stages_met (g ∷ gs) m =
+    (λ i. record { model = m; asked = asked_all g.live i } ∷ stages_over_live (map live_of gs) (live_met g m i))
+    ∙ ap (λ sts. record { model = m; asked = asked_of g } ∷ sts) (stages_met gs (with_met g m))
+
+-- ---- all terms of the stages
+
+pub asked_over : (rs : List Live) (m : Model) → all_asked (stages_over_live rs m) ≡ all_asked_in rs
+asked_over [] m = refl
+asked_over (r ∷ rs) m = ap (λ qs. asked_in r.given ++ qs) (asked_over rs (with_live r m))
+
+pub too_wide_over : (rs : List Live) (m : Model) → too_wide (stages_over_live rs m) ≡ widest_of (all_asked_in rs)
+too_wide_over rs m = ap widest_of (asked_over rs m)
+
+pub bits_over : (rs : List Live) (m : Model) (a : ℕ) → bits_of_assertion a (stages_over_live rs m) ≡ bits_among a (all_asked_in rs)
+bits_over rs m a = ap (bits_among a) (asked_over rs m)
+
+-- ---- the model behind one stage
+
+module _ (t : Formulas) (r : Live) (old mid new : ModelLists) (vs : List (SymId × Value)) (are : AreValues t old r.given vs) where
+  pub values_later : mid.sizes ≡ old.sizes → All (IsValueFor t mid) vs
+  values_later same = subst (λ ss. All (λ p. IsSymbol t p.0 × IsValue (symbol_at t p.0).result (sizes_by t.sorts ss) p.1) vs) (sym same) are.each
+
+  pub live_given : model_at t mid ≡ with_defaults r.idle (model_at t old) → model_at t new ≡ with_each (map (valued_at t) vs) (model_at t mid) → model_at t new ≡ with_live r (model_at t old)
+  live_given defaults values = values ∙ (λ i. with_each (are.values i) (defaults i)) ∙ given_live (model_at t old) r.idle r.given
+
+-- ---- values, one after the other
+
+pub values_for : (t : Formulas) (m n : ModelLists) (vs : List (SymId × Value)) → n.sizes ≡ m.sizes → All (IsValueFor t m) vs → All (IsValueFor t n) vs
+values_for t m n vs same all = subst (λ ss. All (λ p. IsSymbol t p.0 × IsValue (symbol_at t p.0).result (sizes_by t.sorts ss) p.1) vs) (sym same) all
+
+pub define-more : (t : Formulas) (items left : List (SymId × Value)) (p : SymId × Value) → items ≡ left ++ p ∷ [] → (m n : Model) → n ≡ with_graph (symbol_at t p.0) (Some (constant_graph (meaning p.1))) m
+    → with_each (map (valued_at t) left) n ≡ with_each (map (valued_at t) items) m
+define-more t items left p is m n defined =
+    ap (with_each (map (valued_at t) left)) defined
+    ∙ sym (each-more (map (valued_at t) left) (valued_at t p) m)
+    ∙ ap (λ vs. with_each vs m) (sym (ap (map (valued_at t)) is ∙ map-append (valued_at t) left (p ∷ [])))
+
+pub default-defined : (t : Formulas) (fs : List SymId) (i : ℕ) (f : SymId) → slice_get fs i ≡ Some f → (v : Value) → meaning v ≡ default_value (symbol_at t f).result → (m n o : Model)
+    → n ≡ with_defaults (map (symbol_at t) (take i fs)) m → o ≡ with_graph (symbol_at t f) (Some (constant_graph (meaning v))) n → o ≡ with_defaults (map (symbol_at t) (take (i + 1) fs)) m
+default-defined t fs i f at v is m n o before defined =
+    defined
+    ∙ (λ j. with_graph (symbol_at t f) (Some (constant_graph (is j))) (before j))
+    ∙ default-more (symbol_at t f) m (map (symbol_at t) (take i fs))
+    ∙ ap (λ gs. with_defaults gs m) (sym (ap (map (symbol_at t)) (taken_more fs i f at) ∙ map-append (symbol_at t) (take i fs) (f ∷ [])))
+
+-- ---- a refusal at a stage
+
+pub given_refused : (t : Formulas) (rs : List Live) (i : ℕ) (r : Live) → slice_get rs i ≡ Some r → (first m : Model)
+    → beyond (stages_over_live rs first) ≡ beyond (stages_over_live (drop i rs) m)
+    → ((a : ℕ) (k : NodeId) → breaks_in t (stages_over_live (drop i rs) m) a k ≡ true → breaks_in t (stages_over_live rs first) a k ≡ true)
+    → (e : CarryFault) → IsBeyondAmong t m (asked_in r.given) e → GivesAll t rs first (Err e)
+given_refused t rs i r at first m so breaks (NoSuchCheck c n) h = absurd h
+given_refused t rs i r at first m so breaks (EvalWidth a bits) h = absurd h
+given_refused t rs i r at first m so breaks (Beyond128 a k) h = (so ∙ beyond-here t rs i r at m a h.0, h.1, breaks a k (breaks-here t rs i r at m a k h.2))
+given_refused t rs i r at first m so breaks Memory h = tt

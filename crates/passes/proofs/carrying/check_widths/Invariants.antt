@@ -1,0 +1,10 @@
+use Rattle.std.proofs.Common.{take}
+use Rattle.evaluation.specs.KeptValues.{KeepsBounds}
+use Rattle.passes.specs.LiveSymbols.{all_asked_in, lives_at, IsWidest}
+use Rattle.passes.proofs.carrying.check_widths.Given as goal
+
+abbrev pub invariant-loop-stage : goal.invariant-loop-stage
+invariant-loop-stage l = record {
+  kept : KeepsBounds l.table l.kept;
+  widest : IsWidest (all_asked_in (lives_at l.table (take l.stage-index l.stages))) l.widest;
+}

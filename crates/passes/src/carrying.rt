@@ -1,0 +1,632 @@
+//! Models carried over the passes that a script went through: from behind them to before them, and the other way. SMT-LIB 2.6,
+//! section 5.3, for the values of terms.
+//!
+//! Back, the values of all new symbols are dropped. Forth, a new symbol whose assertion is live at the check gets the value of
+//! the term that it stands for, in the model before the pass, and one that is only declared there its sort's default.
+
+ghost use Rattle.std.specs.Prelude.{◌≡◌, ◌≤◌, ◌<◌, ◌+◌, ◌^◌, ◌⊎◌, ◌++◌, ℕ, None, Some, List, [], ◌∷◌, map, IsTrue, false, All, IfOk, OnOk, MatchResult};
+ghost use Rattle.std.specs.List.{list_all};
+ghost use Rattle.smt_terms.specs.Fresh.{Supply};
+ghost use Rattle.smt_terms.specs.Models.{IsModel};
+ghost use Rattle.smt_terms.specs.Sorts.{Symbol};
+ghost use Rattle.smt_terms.specs.Term.{Term};
+ghost use Rattle.smt_terms.specs.Val.{bits_bound};
+ghost use Rattle.term_groups.specs.Seen.{named_at};
+ghost use Rattle.term_table.specs.Formulas.{Formulas, symbol_at, tree, IsNode, IsSymbol, IsTable};
+ghost use Rattle.script_read.specs.Commands.{Command};
+ghost use Rattle.models.specs.ModelView.{model_at, IsModelOf};
+ghost use Rattle.evaluation.specs.Evaluated.{told_bits};
+ghost use Rattle.evaluation.specs.KeptValues.{KeepsBounds, KeepsValues};
+ghost use Rattle.passes.specs.declared.names.Pass.{Pass};
+ghost use Rattle.passes.specs.Carry.{Asked};
+ghost use Rattle.passes.specs.Carrying.{CarriesBack, CarriesForth};
+ghost use Rattle.passes.specs.Laws.{IsReady};
+ghost use Rattle.passes.specs.Lists.{can_run, groups_after_rules};
+ghost use Rattle.passes.specs.LiveGroups.{Met, nothing_met, with_drawn, met_before, met_in, met_at, before_check, global_behind, without_drawn};
+ghost use Rattle.passes.specs.LiveSymbols.{Given, live_of, given_by, asked_in, all_asked_in, with_live, with_defaults, with_each, widest_of, given_at, live_at, lives_at, dropped_at, valued_at, IsLiveOver, AreLiveOver, IsSearched, IsSearchOver, IsWidest, IsTooWide, IsValueFor, IsValuation, AreValues, IsBeyondAmong, is_settled, Gives, GivesAll};
+ghost use Rattle.passes.specs.Plans.{step_of, steps_of, told_in, IsPlanOf, IsPlanOver, IsStageOver, IsStepOver, IsPairOver};
+
+use crate::laws::{groups_carry_models, passes_keep_commands, steps_tell_models};
+use crate::plan::{Plan, Stage, Step};
+use evaluation::{ValueFault, bits_bound, value_of};
+use models::Model;
+use smt_terms::{NodeId, SymId};
+use smt_values::{Value, default_value};
+use std::alloc::{AllocError, Global};
+use term_subst::SymPairs;
+use term_table::{Table, know_table};
+use term_walk::{Kept, Stack};
+use thiserror::Error;
+
+/// Why a model isn't carried over passes.
+#[derive(Clone, Copy, Debug, PartialEq, Eq, Error)]
+pub enum CarryFault {
+    /// The script hasn't got this check; it has so many.
+    #[error("check {check} of {checks}")]
+    NoSuchCheck { check: u64, checks: u64 },
+    /// A term for this assertion binds so many bits on a path, more than 16.
+    #[error("{bits} bits are bound on a path in assertion {assertion}")]
+    EvalWidth { assertion: u64, bits: u32 },
+    /// A term for this assertion has this subterm, a whole number outside the range.
+    #[error("a value beyond 128 bits in assertion {assertion}")]
+    Beyond128 { assertion: u64, node: NodeId },
+    /// There is no memory.
+    #[error("want of memory")]
+    Memory,
+}
+
+impl From<AllocError> for CarryFault {
+    ghost use Rattle.std.specs.Prelude.{◌≡◌};
+    ghost use Rattle.passes.specs.declared.carrying.CarryFault.TheVariants.{Memory};
+
+    ghost from_gives = { λ _ made. made ≡ Memory };
+
+    fn from(_error: AllocError) -> CarryFault {
+        CarryFault::Memory
+    }
+}
+
+/// As many bits may be bound on a path.
+const MOST_BITS: u32 = 16;
+
+/// The model of the script before the passes that a model of the script behind them stands for, at a check.
+pub fn back(
+    alloc: Global,
+    table: &Table,
+    plan: &Plan,
+    model: Model,
+    check: u64,
+) -> Result<Model, CarryFault>
+    requires plan { IsPlanOver table.now plan.now }
+    requires numbers { IsModelOf table.now model }
+    requires valid { IsModel (model_at table.now model) }
+    ensures { (ps : List Pass) (cs : List (Command Term)) (s : Supply) → IsPlanOf table.now plan.now ps cs s → IsReady cs s → IsTrue (list_all can_run ps) → groups_after_rules ps ≡ false
+        → CarriesBack table.now ps cs s check (model_at table.now model) result }
+{
+    passes_keep_commands();
+    groups_carry_models();
+    steps_tell_models();
+    know_table(table);
+    find_check(plan, check)?;
+    let mut model = model;
+    for place in (0..plan.stages.len()).rev() {
+        forget_drawn(&plan.stages[place], &mut model);
+    }
+    Ok(model)
+}
+
+/// The model of the script behind the passes that a model of the script before them stands for, at a check.
+pub fn forth(
+    alloc: Global,
+    table: &Table,
+    plan: &Plan,
+    model: Model,
+    check: u64,
+) -> Result<Model, CarryFault>
+    requires plan { IsPlanOver table.now plan.now }
+    requires numbers { IsModelOf table.now model }
+    requires valid { IsModel (model_at table.now model) }
+    ensures { (ps : List Pass) (cs : List (Command Term)) (s : Supply) → IsPlanOf table.now plan.now ps cs s → IsReady cs s → IsTrue (list_all can_run ps) → groups_after_rules ps ≡ false
+        → CarriesForth table.now ps cs s check (model_at table.now model) result }
+{
+    passes_keep_commands();
+    groups_carry_models();
+    steps_tell_models();
+    find_check(plan, check)?;
+    let stages = live_at_each(alloc, plan, check)?;
+    let lives = stages.as_slice();
+    check_widths(alloc, table, lives)?;
+    let model = give_all(alloc, table, lives, model)?;
+    Ok(model)
+}
+
+/// Refuses a check that the script hasn't got.
+fn find_check(plan: &Plan, check: u64) -> Result<(), CarryFault>
+    ensures { MatchResult result
+        (λ _. (1 ≤ check) × (check ≤ plan.now.checks))
+        (λ e. (e ≡ CarryFault.NoSuchCheck check plan.now.checks) × ((check ≡ 0) ⊎ (plan.now.checks < check))) }
+{
+    let checks = plan.checks;
+    if check == 0 {
+        return Err(CarryFault::NoSuchCheck { check, checks });
+    }
+    if check > checks {
+        return Err(CarryFault::NoSuchCheck { check, checks });
+    }
+    Ok(())
+}
+
+// ---- back
+
+/// Drops the values of all symbols that a pass drew.
+fn forget_drawn(stage: &Stage, model: &mut Model)
+    ensures model { (t : Formulas) → IsTable t → IsStageOver t stage.now → model_at t model.new ≡ without_drawn (steps_of t stage.now.steps.items) (model_at t model.old) }
+    ensures valid { (t : Formulas) → IsTable t → IsStageOver t stage.now → IsModel (model_at t model.old) → IsModel (model_at t model.new) }
+    ensures numbers { (t : Formulas) → IsModelOf t model.old → IsModelOf t model.new }
+{
+    for step in &stage.steps {
+        if let Step::Group { symbols, .. } = step {
+            forget_symbols(symbols, model);
+        }
+    }
+}
+
+/// Drops the values of these symbols.
+fn forget_symbols(symbols: &SymPairs, model: &mut Model)
+    ensures model { (t : Formulas) → IsTable t → All (IsPairOver t) symbols.now → model_at t model.new ≡ dropped_at t symbols.now (model_at t model.old) }
+    ensures valid { (t : Formulas) → IsTable t → All (IsPairOver t) symbols.now → IsModel (model_at t model.old) → IsModel (model_at t model.new) }
+    ensures numbers { (t : Formulas) → IsModelOf t model.old → IsModelOf t model.new }
+{
+    for place in 0..symbols.len() {
+        let (symbol, _) = symbols.get(place);
+        model.forget(symbol);
+    }
+}
+
+// ---- what is live at a check
+
+/// A new symbol of a live assertion, with the term that it stands for.
+#[derive(Clone, Copy)]
+struct LiveSymbol {
+    assertion: u64,
+    symbol: SymId,
+    term: NodeId,
+}
+
+/// What a pass drew that is live at a check.
+#[derive(Drop)]
+struct Live {
+    /// The new symbols of live assertions.
+    given: Vec<LiveSymbol>,
+    /// The other new symbols that are live.
+    idle: Vec<SymId>,
+}
+
+/// A search for what is live at a check, on the way from there back to the first command.
+#[derive(Drop)]
+struct Search {
+    /// No assertion before is live at the check.
+    is_anew: bool,
+    /// No declaration before is.
+    is_gone: bool,
+    /// So many levels that were open before are closed at the check.
+    closed: u128,
+    /// What was found so far of live assertions.
+    given: Stack<LiveSymbol>,
+    /// What was found so far of others.
+    idle: Stack<SymId>,
+}
+
+impl Search {
+    /// Nothing found yet.
+    fn new(alloc: Global) -> Search
+        ensures searched { (t : Formulas) → IsSearched t result nothing_met }
+        ensures over { (t : Formulas) → IsSearchOver t result }
+        ensures closed { result.closed ≡ 0 }
+    {
+        Search {
+            is_anew: false,
+            is_gone: false,
+            closed: 0,
+            given: Stack::new(alloc),
+            idle: Stack::new(alloc),
+        }
+    }
+
+    /// Goes back over a step.
+    fn meet(&mut self, step: &Step, is_global: bool) -> Result<(), AllocError>
+        requires { self.old.closed + 2 ^ 64 ≤ 2 ^ 128 }
+        ensures searched { OnOk result ((t : Formulas) (g : Met) → IsSearched t self.old g → IsSearched t self.new (met_before is_global (step_of t step.now) g)) }
+        ensures over { OnOk result ((t : Formulas) → IsStepOver t step.now → IsSearchOver t self.old → IsSearchOver t self.new) }
+        ensures closed { OnOk result (self.new.closed < self.old.closed + 2 ^ 64) }
+    {
+        match step {
+            Step::Group { number, symbols } => {
+                self.meet_group(*number, symbols, is_global)?;
+                Ok(())
+            }
+            Step::Push(levels) => {
+                self.closed = self.closed.saturating_sub(u128::from(*levels));
+                Ok(())
+            }
+            Step::Pop(levels) => {
+                self.closed += u128::from(*levels);
+                Ok(())
+            }
+            Step::Reset => {
+                self.is_anew = true;
+                self.is_gone = true;
+                Ok(())
+            }
+            Step::ResetAssertions => {
+                self.is_anew = true;
+                self.is_gone = self.is_gone || !is_global;
+                Ok(())
+            }
+            Step::Check | Step::Globals(_) => Ok(()),
+        }
+    }
+
+    /// Goes back over an assertion, for which these symbols were drawn.
+    fn meet_group(
+        &mut self,
+        assertion: u64,
+        symbols: &SymPairs,
+        is_global: bool,
+    ) -> Result<(), AllocError>
+        ensures searched { OnOk result ((t : Formulas) (g : Met) → IsSearched t self.old g → IsSearched t self.new (with_drawn is_global (record { number = assertion; symbols = named_at t symbols.now }) g)) }
+        ensures over { OnOk result ((t : Formulas) → All (IsPairOver t) symbols.now → IsSearchOver t self.old → IsSearchOver t self.new) }
+        ensures closed { OnOk result (self.new.closed ≡ self.old.closed) }
+    {
+        if !self.is_anew && self.closed == 0 {
+            push_given(&mut self.given, assertion, symbols)?;
+            return Ok(());
+        }
+        if is_global && !self.is_gone {
+            push_idle(&mut self.idle, symbols)?;
+            return Ok(());
+        }
+        Ok(())
+    }
+}
+
+/// Puts these symbols with their terms before the others, as those of this assertion.
+fn push_given(
+    given: &mut Stack<LiveSymbol>,
+    assertion: u64,
+    symbols: &SymPairs,
+) -> Result<(), AllocError>
+    ensures given { OnOk result ((t : Formulas) → map (given_at t) given.new ≡ given_by assertion (named_at t symbols.now) ++ map (given_at t) given.old) }
+    ensures over { OnOk result ((t : Formulas) → All (IsPairOver t) symbols.now → All (IsLiveOver t) given.old → All (IsLiveOver t) given.new) }
+{
+    for place in (0..symbols.len()).rev() {
+        let (symbol, term) = symbols.get(place);
+        given.push(LiveSymbol {
+            assertion,
+            symbol,
+            term,
+        })?;
+    }
+    Ok(())
+}
+
+/// Puts these symbols before the others.
+fn push_idle(idle: &mut Stack<SymId>, symbols: &SymPairs) -> Result<(), AllocError>
+    ensures idle { OnOk result ((t : Formulas) → map (symbol_at t) idle.new ≡ map (λ n. n.0) (named_at t symbols.now) ++ map (symbol_at t) idle.old) }
+    ensures over { OnOk result ((t : Formulas) → All (IsPairOver t) symbols.now → All (IsSymbol t) idle.old → All (IsSymbol t) idle.new) }
+{
+    for place in (0..symbols.len()).rev() {
+        let (symbol, _) = symbols.get(place);
+        idle.push(symbol)?;
+    }
+    Ok(())
+}
+
+/// The items of a stack, the last one first.
+fn items_of<T: Drop>(alloc: Global, stack: Stack<T>) -> Result<Vec<T>, AllocError>
+    ensures { IfOk result (λ v. v.items ≡ stack) }
+{
+    let mut left = stack;
+    let mut items = Vec::new(alloc);
+    while let Some(item) = left.pop() {
+        items.push(item)?;
+    }
+    Ok(items)
+}
+
+/// What of a pass is live at a check for each pass that makes groups.
+fn live_at_each(alloc: Global, plan: &Plan, check: u64) -> Result<Vec<Live>, AllocError>
+    requires { 1 ≤ check }
+    ensures live { IfOk result (λ v. (t : Formulas) → lives_at t v.items ≡ map (λ cs. live_of (met_at check cs)) (told_in t plan.now)) }
+    ensures over { IfOk result (λ v. (t : Formulas) → IsPlanOver t plan.now → All (AreLiveOver t) v.items) }
+{
+    let mut lives = Vec::new(alloc);
+    for stage in &plan.stages {
+        let live = live_at_check(alloc, stage.steps.as_slice(), check)?;
+        lives.push(live)?;
+    }
+    Ok(lives)
+}
+
+/// What is live at a check, of a pass with these steps.
+fn live_at_check(alloc: Global, steps: &[Step], check: u64) -> Result<Live, AllocError>
+    requires { 1 ≤ check }
+    ensures live { IfOk result (λ r. (t : Formulas) → live_at t r ≡ live_of (met_at check (steps_of t steps.now))) }
+    ensures over { IfOk result (λ r. (t : Formulas) → All (IsStepOver t) steps.now → AreLiveOver t r) }
+{
+    let before = before_check(steps, check);
+    let live = live_behind(alloc, before, is_global_behind(before))?;
+    Ok(live)
+}
+
+/// The steps before the check of this number.
+fn before_check(steps: &[Step], check: u64) -> &[Step]
+    requires { 1 ≤ check }
+    ensures steps { (t : Formulas) → steps_of t result.now ≡ before_check check (steps_of t steps.now) }
+    ensures over { (t : Formulas) → All (IsStepOver t) steps.now → All (IsStepOver t) result.now }
+{
+    let mut left = check;
+    for (place, step) in steps.iter().enumerate() {
+        let Step::Check = step else {
+            continue;
+        };
+        if left == 1 {
+            return &steps[..place];
+        }
+        left -= 1;
+    }
+    steps
+}
+
+/// Whether declarations outlive their levels behind these steps.
+fn is_global_behind(steps: &[Step]) -> bool
+    ensures { (t : Formulas) → global_behind false (steps_of t steps.now) ≡ result }
+{
+    let mut is_global = false;
+    for step in steps {
+        is_global = is_global_after(step, is_global);
+    }
+    is_global
+}
+
+/// Whether declarations outlive their levels behind a step.
+fn is_global_after(step: &Step, before: bool) -> bool
+    ensures { (t : Formulas) → global_behind before (step_of t step.now ∷ []) ≡ result }
+{
+    match step {
+        Step::Globals(is_global) => *is_global,
+        Step::Reset => false,
+        _ => before,
+    }
+}
+
+/// What is live behind these steps.
+fn live_behind(alloc: Global, steps: &[Step], is_global: bool) -> Result<Live, AllocError>
+    ensures live { IfOk result (λ r. (t : Formulas) → live_at t r ≡ live_of (met_in is_global (steps_of t steps.now))) }
+    ensures over { IfOk result (λ r. (t : Formulas) → All (IsStepOver t) steps.now → AreLiveOver t r) }
+{
+    let mut search = Search::new(alloc);
+    for place in (0..steps.len()).rev() {
+        search.meet(&steps[place], is_global)?;
+    }
+    let given = items_of(alloc, search.given)?;
+    let idle = items_of(alloc, search.idle)?;
+    Ok(Live { given, idle })
+}
+
+// ---- terms that bind too many bits
+
+/// An assertion with a term that binds too many bits, and the greatest bound of its terms.
+#[derive(Clone, Copy)]
+struct Wide {
+    assertion: u64,
+    bits: u32,
+}
+
+/// Refuses the least assertion with a term that binds too many bits.
+fn check_widths(alloc: Global, table: &Table, stages: &[Live]) -> Result<(), CarryFault>
+    requires { All (AreLiveOver table.now) stages.now }
+    ensures { MatchResult result (λ _. widest_of (all_asked_in (lives_at table.now stages.now)) ≡ None) (IsTooWide (all_asked_in (lives_at table.now stages.now))) }
+{
+    let mut kept = Kept::new(alloc);
+    let mut widest = None;
+    for stage in stages {
+        let given = stage.given.as_slice();
+        widest = widest_with(alloc, table, given, &mut kept, widest)?;
+    }
+    match widest {
+        None => Ok(()),
+        Some(Wide { assertion, bits }) => Err(CarryFault::EvalWidth { assertion, bits }),
+    }
+}
+
+/// The least assertion with a term that binds too many bits, among earlier ones and these.
+fn widest_with(
+    alloc: Global,
+    table: &Table,
+    given: &[LiveSymbol],
+    kept: &mut Kept<u32>,
+    earlier: Option<Wide>,
+) -> Result<Option<Wide>, AllocError>
+    requires given { All (IsLiveOver table.now) given.now }
+    requires kept { KeepsBounds table.now kept.old }
+    ensures widest { IfOk result (λ w. (qs : List Asked) → IsWidest qs earlier → IsWidest (qs ++ asked_in (map (given_at table.now) given.now)) w) }
+    ensures kept { KeepsBounds table.now kept.new }
+{
+    let mut widest = earlier;
+    for one in given {
+        let bits = bits_bound(alloc, table, one.term, kept)?;
+        widest = with_bits(widest, one.assertion, bits);
+    }
+    Ok(widest)
+}
+
+/// The least assertion so far with a term that binds too many bits, where this one has a term that binds so many.
+fn with_bits(widest: Option<Wide>, assertion: u64, bits: u32) -> Option<Wide>
+    ensures { (qs : List Asked) (u : Term) → bits ≡ told_bits (bits_bound u) → IsWidest qs widest → IsWidest (qs ++ record { number = assertion; term = u } ∷ []) result }
+{
+    let Some(wide) = widest else {
+        if bits > MOST_BITS {
+            return Some(Wide { assertion, bits });
+        }
+        return None;
+    };
+    if assertion == wide.assertion {
+        return Some(Wide {
+            assertion,
+            bits: wide.bits.max(bits),
+        });
+    }
+    if bits <= MOST_BITS || wide.assertion < assertion {
+        return Some(wide);
+    }
+    Some(Wide { assertion, bits })
+}
+
+// ---- values
+
+/// A subterm of a term of an assertion that is a whole number outside the range.
+#[derive(Clone, Copy)]
+struct Beyond {
+    assertion: u64,
+    node: NodeId,
+}
+
+/// Symbols with the values of their terms, as far as these are within the range.
+#[derive(Drop)]
+struct Valuation {
+    kept: Kept<Value>,
+    values: Vec<(SymId, Value)>,
+    /// In the least assertion that has one.
+    beyond: Option<Beyond>,
+}
+
+impl Valuation {
+    /// Values the term of a symbol, unless a value beyond the range was found in its assertion or in one of a lesser number.
+    fn value(
+        &mut self,
+        alloc: Global,
+        table: &Table,
+        one: LiveSymbol,
+        model: &Model,
+    ) -> Result<(), AllocError>
+        requires one { IsLiveOver table.now one }
+        requires narrow { bits_bound (tree table.now one.term) ≤ 16 }
+        requires valid { IsModel (model_at table.now model.now) }
+        requires numbers { IsModelOf table.now model.now }
+        requires kept { KeepsValues table.now (model_at table.now model.now) self.old.kept }
+        ensures kept { KeepsValues table.now (model_at table.now model.now) self.new.kept }
+        ensures values { OnOk result ((gs : List Given) → IsValuation table.now model.now gs self.old → IsValuation table.now model.now (gs ++ given_at table.now one ∷ []) self.new) }
+    {
+        if is_settled(self.beyond, one.assertion) {
+            return Ok(());
+        }
+        match value_of(alloc, table, one.term, model, &mut self.kept) {
+            Ok(value) => {
+                self.values.push((one.symbol, value))?;
+                Ok(())
+            }
+            Err(ValueFault::Beyond128 { node }) => {
+                self.beyond = Some(Beyond {
+                    assertion: one.assertion,
+                    node,
+                });
+                Ok(())
+            }
+            Err(ValueFault::Memory) => Err(AllocError),
+        }
+    }
+}
+
+/// Whether a value beyond the range was found in this assertion or in one of a lesser number.
+fn is_settled(beyond: Option<Beyond>, assertion: u64) -> bool
+    ensures { result ≡ is_settled beyond assertion }
+{
+    match beyond {
+        Some(found) => found.assertion <= assertion,
+        None => false,
+    }
+}
+
+/// The symbols with the values of their terms.
+fn values_of(
+    alloc: Global,
+    table: &Table,
+    given: &[LiveSymbol],
+    model: &Model,
+) -> Result<Vec<(SymId, Value)>, CarryFault>
+    requires given { All (IsLiveOver table.now) given.now }
+    requires narrow { widest_of (asked_in (map (given_at table.now) given.now)) ≡ None }
+    requires valid { IsModel (model_at table.now model.now) }
+    requires numbers { IsModelOf table.now model.now }
+    ensures { MatchResult result (λ vs. AreValues table.now model.now (map (given_at table.now) given.now) vs.items) (IsBeyondAmong table.now (model_at table.now model.now) (asked_in (map (given_at table.now) given.now))) }
+{
+    let mut valuation = Valuation {
+        kept: Kept::new(alloc),
+        values: Vec::new(alloc),
+        beyond: None,
+    };
+    for one in given {
+        valuation.value(alloc, table, *one, model)?;
+    }
+    match valuation.beyond {
+        None => Ok(valuation.values),
+        Some(Beyond { assertion, node }) => Err(CarryFault::Beyond128 { assertion, node }),
+    }
+}
+
+/// Gives symbols these values; of a symbol that stands twice the first value counts.
+fn define_each(
+    table: &Table,
+    values: Vec<(SymId, Value)>,
+    model: &mut Model,
+) -> Result<(), AllocError>
+    requires { All (IsValueFor table.now model.old) values.items }
+    ensures model { OnOk result (model_at table.now model.new ≡ with_each (map (valued_at table.now) values.items) (model_at table.now model.old)) }
+    ensures valid { OnOk result (IsModel (model_at table.now model.old) → IsModel (model_at table.now model.new)) }
+    ensures numbers { OnOk result (IsModelOf table.now model.old → IsModelOf table.now model.new) }
+{
+    let mut values = values;
+    while let Some((symbol, value)) = values.pop() {
+        model.define(table, symbol, value)?;
+    }
+    Ok(())
+}
+
+/// Gives symbols the defaults of their sorts.
+fn define_defaults(
+    alloc: Global,
+    table: &Table,
+    symbols: &[SymId],
+    model: &mut Model,
+) -> Result<(), AllocError>
+    requires symbols { All (IsSymbol table.now) symbols.now }
+    requires valid { IsModel (model_at table.now model.old) }
+    ensures model { OnOk result (model_at table.now model.new ≡ with_defaults (map (symbol_at table.now) symbols.now) (model_at table.now model.old)) }
+    ensures valid { OnOk result (IsModel (model_at table.now model.new)) }
+    ensures numbers { OnOk result (IsModelOf table.now model.old → IsModelOf table.now model.new) }
+    ensures sizes { OnOk result (model.new.sizes ≡ model.old.sizes) }
+{
+    for symbol in symbols {
+        let (_, sort) = table.symbol_rank(*symbol);
+        let value = default_value(alloc, table.sorts(), sort)?;
+        model.define(table, *symbol, value)?;
+    }
+    Ok(())
+}
+
+/// Gives the symbols of live assertions the values of their terms, and others that are live the defaults of their sorts.
+fn give(alloc: Global, table: &Table, live: &Live, model: &mut Model) -> Result<(), CarryFault>
+    requires live { AreLiveOver table.now live.now }
+    requires narrow { widest_of (asked_in (live_at table.now live.now).given) ≡ None }
+    requires valid { IsModel (model_at table.now model.old) }
+    requires numbers { IsModelOf table.now model.old }
+    ensures { MatchResult result (λ _. Gives table.now (live_at table.now live.now) model.old model.new) (IsBeyondAmong table.now (model_at table.now model.old) (asked_in (live_at table.now live.now).given)) }
+{
+    let given = live.given.as_slice();
+    let idle = live.idle.as_slice();
+    let values = values_of(alloc, table, given, model)?;
+    define_defaults(alloc, table, idle, model)?;
+    define_each(table, values, model)?;
+    Ok(())
+}
+
+/// The same for each pass, from the first to the last.
+fn give_all(
+    alloc: Global,
+    table: &Table,
+    stages: &[Live],
+    model: Model,
+) -> Result<Model, CarryFault>
+    requires live { All (AreLiveOver table.now) stages.now }
+    requires narrow { widest_of (all_asked_in (lives_at table.now stages.now)) ≡ None }
+    requires valid { IsModel (model_at table.now model) }
+    requires numbers { IsModelOf table.now model }
+    ensures { GivesAll table.now (lives_at table.now stages.now) (model_at table.now model) result }
+{
+    let mut model = model;
+    for live in stages {
+        give(alloc, table, live, &mut model)?;
+    }
+    Ok(model)
+}
