@@ -21,7 +21,7 @@ use Rattle.model_texts.specs.ValueForms.{value_in}
 use Rattle.model_texts.specs.Tables.{written, Equation, parameter_named, parameter_in, equation_of, equation, with_equation, all_equations, conjuncts, names_each_once, where_each_once, side_value, Key, keys_of, key_named, keys_in_order, condition_values, condition, value_everywhere, body_in}
 use Rattle.model_texts.specs.ModelLines.{value_form, stores_form, parameter_name, parameters, equation_forms, condition_form, rows_form}
 use Rattle.model_texts.proofs.Knowing.{Gives, gives_it, gives_next}
-use Rattle.model_texts.proofs.Parameters.{earlier_name, later_name}
+use Rattle.model_texts.proofs.ParametersRead.{earlier_name, later_name}
 use Rattle.model_texts.proofs.ValuesRead.{IsReadAs, gives_same}
 
 -- ---- bodies that are values

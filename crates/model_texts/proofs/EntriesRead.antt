@@ -17,7 +17,7 @@ use Rattle.script_read.proofs.FormTexts.{end_of, placed, placed_behind}
 use Rattle.script_read.specs.Commands.{Signature}
 use Rattle.term_table.specs.WrittenForms.{word_form, symbol_form}
 use Rattle.smt_print.proofs.SymbolsRead.{symbol_item, symbol_read}
-use Rattle.model_texts.specs.Laws.{are_distinct}
+use Rattle.model_texts.specs.Proper.{are_distinct}
 use Rattle.model_texts.specs.Reading.{Element, names_in, continued, gives}
 use Rattle.model_texts.specs.ValueForms.{is_sort_form}
 use Rattle.model_texts.specs.Entries.{entry_in, symbol_named, Given, elements_met, sort_given, entry_given, entries_given}

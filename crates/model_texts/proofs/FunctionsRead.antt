@@ -19,7 +19,7 @@ use Rattle.model_texts.specs.Entries.{Entry, function, parameters_in, function_e
 use Rattle.model_texts.specs.ModelLines.{value_form, parameters, rows_form, function_form}
 use Rattle.model_texts.proofs.BodiesRead.{RowsRead, body_read}
 use Rattle.model_texts.proofs.Knowing.{Gives, gives_it, gives_next}
-use Rattle.model_texts.proofs.Parameters.{ParametersRead, parameters_read}
+use Rattle.model_texts.proofs.ParametersRead.{ParametersRead, parameters_read}
 use Rattle.model_texts.proofs.Placed.{has_placed}
 use Rattle.model_texts.proofs.ValuesRead.{IsReadAs, gives_same}
 

@@ -1,4 +1,4 @@
--- The signature at a point of a printable script is one over which models can be written.
+-- The signature at a point of a printable script is one over which models can be written, and texts of models read.
 use Rattle.std.proofs.Common.{◌≡◌, ℕ, zero, suc, inl, inr, Bool, true, false, not, ◌&&◌, List, [], ◌∷◌, ◌++◌, drop, replicate, refl, ap, sym, ◌∙◌, subst, append_assoc, append-nil}
 use Rattle.std.specs.Prelude.{IsTrue}
 use Rattle.std.specs.List.{list_all}
@@ -9,12 +9,14 @@ use Rattle.smt_terms.specs.Free.{names_of}
 use Rattle.smt_terms.specs.Rank.{is_sort}
 use Rattle.smt_terms.specs.Sorts.{Name, Sort, bool, int, bit_vector, array, free_sort, Symbol}
 use Rattle.smt_terms.specs.Term.{Term}
-use Rattle.smt_terms.proofs.Equal.{name_itself, name_same, names_differ}
-use Rattle.smt_terms.proofs.Tests.{true_or_false, both_true, and_true, either_true, both_false, or_false, not_true, contrary}
-use Rattle.script_read.specs.Commands.{Command, passed, declare_sort, declare, assert, check, check_assuming, push, pop, reset, reset_assertions, globals, exit, Level, State, empty_level, start, throughout, on_latest, with_sort, with_symbol, with_assertion, with_declarations, folded, levels_popped, levels_emptied, after, Point, with_point, points_from, points, nth_point, at_point, sorts_of_state, symbols_of_state}
-use Rattle.script_read.specs.Printable.{is_writable, is_usable, sort_is_live, is_new_symbol, may_stand, may_be_followed, fixes, printable_from}
+use Rattle.smt_terms.proofs.Equal.{name_same}
+use Rattle.smt_terms.proofs.Tests.{true_or_false, both_true, and_true, either_true, left_true, right_true, both_false, or_false, not_true, contrary}
+use Rattle.script_read.specs.Commands.{Command, passed, declare_sort, declare, assert, check, check_assuming, push, pop, reset, reset_assertions, globals, exit, Level, State, empty_level, start, throughout, on_latest, with_sort, with_symbol, with_assertion, with_declarations, folded, levels_popped, levels_emptied, after, Point, with_point, points_from, points, nth_point, at_point, sorts_of_state, symbols_of_state, signature}
+use Rattle.script_read.specs.Printable.{is_writable, is_usable, sort_is_live, is_new_symbol, may_stand, may_be_followed, fixes, printable_from, printable}
 use Rattle.model_texts.specs.Entries.{division_table, modulus_table}
-use Rattle.model_texts.specs.Laws.{has_writable_names, is_writable_sort, is_table_name, is_writable_symbol, are_distinct, is_writable_signature, SignaturesAreWritable}
+use Rattle.model_texts.specs.Laws.{has_writable_names, is_writable_sort, is_writable_symbol, is_writable_signature, SignaturesAreWritable, SignaturesAreProper}
+use Rattle.model_texts.specs.Proper.{is_table_name, are_distinct, rank_is_live}
+use Rattle.model_texts.proofs.DistinctNames.{distinct_with}
 
 -- ---- sorts over writable names
 
@@ -88,9 +90,45 @@ new_writable sorts symbols f new plain =
 
 -- ---- one more sort, one more symbol
 
--- models can be written over these
+-- models can be written over these, and the symbols speak of these sorts alone
 abbrev IsFine : List Name → List Symbol → Type 0
-IsFine sorts symbols = IsTrue (is_writable_signature (record { sorts = sorts; symbols = symbols }))
+IsFine sorts symbols = IsTrue (is_writable_signature (record { sorts = sorts; symbols = symbols })) × IsTrue (list_all (rank_is_live sorts) symbols)
+
+-- a sort stays live as more are declared
+among_more : (ns : List Name) (n m : Name) → is_among ns m ≡ true → is_among (ns ++ n ∷ []) m ≡ true
+among_more [] n m there = absurd cc
+among_more (k ∷ ns) n m there =
+    elim (either_true (name_eq m k) (is_among ns m) there) [
+      | inl same ↦ left_true (name_eq m k) (is_among (ns ++ n ∷ []) m) same
+      | inr behind ↦ right_true (name_eq m k) (is_among (ns ++ n ∷ []) m) (among_more ns n m behind)
+    ]
+
+sort_live : (ns : List Name) (n : Name) (s : Sort) → sort_is_live ns s ≡ true → sort_is_live (ns ++ n ∷ []) s ≡ true
+sort_live ns n bool live = refl
+sort_live ns n int live = refl
+sort_live ns n (bit_vector w) live = refl
+sort_live ns n (array i e) live =
+    let parts = both_true (sort_is_live ns i) (sort_is_live ns e) live in
+    and_true (sort_is_live (ns ++ n ∷ []) i) (sort_is_live (ns ++ n ∷ []) e) (sort_live ns n i parts.0) (sort_live ns n e parts.1)
+sort_live ns n (free_sort m) live = among_more ns n m live
+
+rank_live : (ns : List Name) (n : Name) (ss : List Sort) → list_all (sort_is_live ns) ss ≡ true → list_all (sort_is_live (ns ++ n ∷ [])) ss ≡ true
+rank_live ns n [] live = refl
+rank_live ns n (s ∷ ss) live =
+    let parts = both_true (sort_is_live ns s) (list_all (sort_is_live ns) ss) live in
+    and_true (sort_is_live (ns ++ n ∷ []) s) (list_all (sort_is_live (ns ++ n ∷ [])) ss) (sort_live ns n s parts.0) (rank_live ns n ss parts.1)
+
+ranks_live : (ns : List Name) (n : Name) (fs : List Symbol) → list_all (rank_is_live ns) fs ≡ true → list_all (rank_is_live (ns ++ n ∷ [])) fs ≡ true
+ranks_live ns n [] live = refl
+ranks_live ns n (f ∷ fs) live =
+    let parts = both_true (rank_is_live ns f) (list_all (rank_is_live ns) fs) live in
+    and_true (rank_is_live (ns ++ n ∷ []) f) (list_all (rank_is_live (ns ++ n ∷ [])) fs) (rank_live ns n (f.result ∷ f.args) parts.0) (ranks_live ns n fs parts.1)
+
+sorts_live : (ns : List Name) (ss : List Sort) → list_all (λ to. is_sort to && sort_is_live ns to) ss ≡ true → list_all (sort_is_live ns) ss ≡ true
+sorts_live ns [] live = refl
+sorts_live ns (s ∷ ss) live =
+    let a = both_true (is_sort s && sort_is_live ns s) (list_all (λ to. is_sort to && sort_is_live ns to) ss) live in
+    and_true (sort_is_live ns s) (list_all (sort_is_live ns) ss) (both_true (is_sort s) (sort_is_live ns s) a.0).1 (sorts_live ns ss a.1)
 
 all_with : {A : Type 0} (test : A → Bool) (xs : List A) (x : A) → list_all test xs ≡ true → test x ≡ true → list_all test (xs ++ x ∷ []) ≡ true
 all_with test [] x before here = and_true (test x) true here refl
@@ -98,38 +136,28 @@ all_with test (y ∷ xs) x before here =
     let parts = both_true (test y) (list_all test xs) before in
     and_true (test y) (list_all test (xs ++ x ∷ [])) parts.0 (all_with test xs x parts.1 here)
 
-not_last : (ns : List Name) (m n : Name) → is_among ns m ≡ false → name_eq m n ≡ false → is_among (ns ++ n ∷ []) m ≡ false
-not_last [] m n other apart = or_false (name_eq m n) false apart refl
-not_last (k ∷ ns) m n other apart =
-    let parts = both_false (name_eq m k) (is_among ns m) other in
-    or_false (name_eq m k) (is_among (ns ++ n ∷ []) m) parts.0 (not_last ns m n parts.1 apart)
-
-distinct_with : (ns : List Name) (n : Name) → are_distinct ns ≡ true → is_among ns n ≡ false → are_distinct (ns ++ n ∷ []) ≡ true
-distinct_with [] n distinct other = refl
-distinct_with (m ∷ ns) n distinct other =
-    let a = both_true (not (is_among ns m)) (are_distinct ns) distinct in
-    let b = both_false (name_eq n m) (is_among ns n) other in
-    let apart : name_eq m n ≡ false = names_differ m n (λ same. contrary (name_eq n m) (ap (name_eq n) same ∙ name_itself n) b.0) in
-    and_true (not (is_among (ns ++ n ∷ []) m)) (are_distinct (ns ++ n ∷ [])) (ap not (not_last ns m n (not_true (is_among ns m) a.0) apart)) (distinct_with ns n a.1 b.1)
-
 module _ (sorts : List Name) (symbols : List Symbol) (fine : IsFine sorts symbols) where
   plain : list_all is_writable sorts ≡ true
-  plain = (both_true (list_all is_writable sorts) (list_all is_writable_symbol symbols && are_distinct (names_of symbols)) fine).0
+  plain = (both_true (list_all is_writable sorts) (list_all is_writable_symbol symbols && are_distinct (names_of symbols)) fine.0).0
 
   others : (list_all is_writable_symbol symbols && are_distinct (names_of symbols)) ≡ true
-  others = (both_true (list_all is_writable sorts) (list_all is_writable_symbol symbols && are_distinct (names_of symbols)) fine).1
+  others = (both_true (list_all is_writable sorts) (list_all is_writable_symbol symbols && are_distinct (names_of symbols)) fine.0).1
 
   sort_more : (n : Name) → is_writable n ≡ true → IsFine (sorts ++ n ∷ []) symbols
-  sort_more n writable =
-      and_true (list_all is_writable (sorts ++ n ∷ [])) (list_all is_writable_symbol symbols && are_distinct (names_of symbols)) (all_with is_writable sorts n plain writable) others
+  sort_more n writable = (
+    and_true (list_all is_writable (sorts ++ n ∷ [])) (list_all is_writable_symbol symbols && are_distinct (names_of symbols)) (all_with is_writable sorts n plain writable) others,
+    ranks_live sorts n symbols fine.1,
+  )
 
   symbol_more : (f : Symbol) → IsNew sorts symbols f → IsFine sorts (symbols ++ f ∷ [])
   symbol_more f new =
       let parts = both_true (list_all is_writable_symbol symbols) (are_distinct (names_of symbols)) others in
       let distinct : are_distinct (names_of (symbols ++ f ∷ [])) ≡ true =
-      ap are_distinct (map-append (λ (g : Symbol). g.name) symbols (f ∷ [])) ∙ distinct_with (names_of symbols) f.name parts.1 new.apart in
-      and_true (list_all is_writable sorts) (list_all is_writable_symbol (symbols ++ f ∷ []) && are_distinct (names_of (symbols ++ f ∷ []))) plain
-      (and_true (list_all is_writable_symbol (symbols ++ f ∷ [])) (are_distinct (names_of (symbols ++ f ∷ []))) (all_with is_writable_symbol symbols f parts.0 (new_writable sorts symbols f new plain)) distinct)
+      ap are_distinct (map-append (λ (g : Symbol). g.name) symbols (f ∷ [])) ∙ distinct_with (names_of symbols) f.name parts.1 new.apart in (
+        and_true (list_all is_writable sorts) (list_all is_writable_symbol (symbols ++ f ∷ []) && are_distinct (names_of (symbols ++ f ∷ []))) plain
+            (and_true (list_all is_writable_symbol (symbols ++ f ∷ [])) (are_distinct (names_of (symbols ++ f ∷ []))) (all_with is_writable_symbol symbols f parts.0 (new_writable sorts symbols f new plain)) distinct),
+        all_with (rank_is_live sorts) symbols f fine.1 (sorts_live sorts (f.result ∷ f.args) new.live),
+      )
 
 -- ---- levels
 
@@ -145,26 +173,26 @@ AreFine [] = Unit {0}
 AreFine (l ∷ ls) = IsFine (sorts_of (l ∷ ls)) (symbols_of (l ∷ ls)) × AreFine ls
 
 now_fine : (ls : List (Level Term)) → AreFine ls → IsFine (sorts_of ls) (symbols_of ls)
-now_fine [] fine = refl
+now_fine [] fine = (refl, refl)
 now_fine (l ∷ ls) fine = fine.0
 
 fine_as : (ms ns : List Name) (fs gs : List Symbol) → ms ≡ ns → fs ≡ gs → IsFine ms fs → IsFine ns gs
 fine_as ms ns fs gs sorts symbols fine = subst (IsFine ns) symbols (subst (λ ns. IsFine ns fs) sorts fine)
 
 sort_fine : (n : Name) (ls : List (Level Term)) → is_writable n ≡ true → AreFine ls → AreFine (on_latest (with_sort n) ls)
-sort_fine n [] writable fine = (sort_more [] [] refl n writable, tt)
+sort_fine n [] writable fine = (sort_more [] [] (refl, refl) n writable, tt)
 sort_fine n (l ∷ ls) writable fine =
     let more = sort_more (sorts_of (l ∷ ls)) (symbols_of (l ∷ ls)) fine.0 n writable in
     (fine_as (sorts_of (l ∷ ls) ++ n ∷ []) (sorts_of ls ++ (l.sorts ++ n ∷ [])) (symbols_of (l ∷ ls)) (symbols_of (l ∷ ls)) (append_assoc (sorts_of ls) l.sorts (n ∷ [])) refl more, fine.1)
 
 symbol_fine : (f : Symbol) (ls : List (Level Term)) → IsNew (sorts_of ls) (symbols_of ls) f → AreFine ls → AreFine (on_latest (with_symbol f) ls)
-symbol_fine f [] new fine = (symbol_more [] [] refl f new, tt)
+symbol_fine f [] new fine = (symbol_more [] [] (refl, refl) f new, tt)
 symbol_fine f (l ∷ ls) new fine =
     let more = symbol_more (sorts_of (l ∷ ls)) (symbols_of (l ∷ ls)) fine.0 f new in
     (fine_as (sorts_of (l ∷ ls)) (sorts_of (l ∷ ls)) (symbols_of (l ∷ ls) ++ f ∷ []) (symbols_of ls ++ (l.symbols ++ f ∷ [])) refl (append_assoc (symbols_of ls) l.symbols (f ∷ [])) more, fine.1)
 
 assertion_fine : (t : Term) (ls : List (Level Term)) → AreFine ls → AreFine (on_latest (with_assertion t) ls)
-assertion_fine t [] fine = (refl, tt)
+assertion_fine t [] fine = ((refl, refl), tt)
 assertion_fine t (l ∷ ls) fine = fine
 
 pushed_fine : (n : ℕ) (ls : List (Level Term)) → AreFine ls → AreFine (replicate n empty_level ++ ls)
@@ -196,7 +224,7 @@ popped_fine false n ls fine = dropped_fine n ls fine
 
 emptied_fine : (global : Bool) (ls : List (Level Term)) → AreFine ls → AreFine (levels_emptied global ls)
 emptied_fine true ls fine = (now_fine ls fine, tt)
-emptied_fine false ls fine = (refl, tt)
+emptied_fine false ls fine = ((refl, refl), tt)
 
 -- ---- commands
 
@@ -208,7 +236,7 @@ after_fine (assert i t) begun s may fine = assertion_fine t s.levels fine
 after_fine (push n) begun s may fine = pushed_fine n s.levels fine
 after_fine (pop n) begun s may fine = popped_fine s.global n s.levels fine
 after_fine reset_assertions begun s may fine = emptied_fine s.global s.levels fine
-after_fine reset begun s may fine = (refl, tt)
+after_fine reset begun s may fine = ((refl, refl), tt)
 after_fine (globals b) begun s may fine = fine
 after_fine (passed text) begun s may fine = fine
 after_fine check begun s may fine = fine
@@ -242,10 +270,29 @@ points_fine (c ∷ cs) begun s may fine =
 
 point_at : (ps : List (Point Term)) (k : ℕ) → PointsFine ps
     → IsFine (at_point (λ (p : Point Term). sorts_of_state p.state) (nth_point ps k)) (at_point (λ (p : Point Term). symbols_of_state p.state) (nth_point ps k))
-point_at [] k fine = refl
-point_at (p ∷ ps) zero fine = refl
+point_at [] k fine = (refl, refl)
+point_at (p ∷ ps) zero fine = (refl, refl)
 point_at (p ∷ ps) (suc zero) fine = now_fine p.state.levels fine.0
 point_at (p ∷ ps) (suc (suc k)) fine = point_at ps (suc k) fine.1
 
+signature_fine : (cs : List (Command Term)) (k : ℕ) → printable cs ≡ true → IsFine (signature cs k).sorts (signature cs k).symbols
+signature_fine cs k may = point_at (points cs) k (points_fine cs false start may ((refl, refl), tt))
+
 pub signatures_are_writable : SignaturesAreWritable
-signatures_are_writable cs k may = point_at (points cs) k (points_fine cs false start may (refl, tt))
+signatures_are_writable cs k may = (signature_fine cs k may).0
+
+no_table_name : (fs : List Symbol) → list_all is_writable_symbol fs ≡ true → list_all (λ (f : Symbol). not (is_table_name f.name)) fs ≡ true
+no_table_name [] writable = refl
+no_table_name (f ∷ fs) writable =
+    let a = both_true (is_writable_symbol f) (list_all is_writable_symbol fs) writable in
+    let b = both_true (is_writable f.name) (not (is_table_name f.name) && list_all is_writable_sort (f.result ∷ f.args)) a.0 in
+    and_true (not (is_table_name f.name)) (list_all (λ (g : Symbol). not (is_table_name g.name)) fs)
+    (both_true (not (is_table_name f.name)) (list_all is_writable_sort (f.result ∷ f.args)) b.1).0 (no_table_name fs a.1)
+
+pub signatures_are_proper : SignaturesAreProper
+signatures_are_proper cs k may =
+    let fine = signature_fine cs k may in
+    let sig = signature cs k in
+    let a = both_true (list_all is_writable sig.sorts) (list_all is_writable_symbol sig.symbols && are_distinct (names_of sig.symbols)) fine.0 in
+    let b = both_true (list_all is_writable_symbol sig.symbols) (are_distinct (names_of sig.symbols)) a.1 in
+    record { names = b.1; tables = no_table_name sig.symbols b.0; ranks = fine.1 }

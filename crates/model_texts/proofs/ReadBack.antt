@@ -18,7 +18,8 @@ use Rattle.script_terms.specs.Refusals.{and_then}
 use Rattle.script_read.specs.Commands.{Signature}
 use Rattle.script_read.specs.Printable.{is_writable}
 use Rattle.models.specs.GraphRows.{default_graph}
-use Rattle.model_texts.specs.Laws.{is_writable_sort, is_table_name, is_writable_symbol, are_distinct, is_readable_graph, IsTextable, ModelsReadBack}
+use Rattle.model_texts.specs.Laws.{is_writable_sort, is_writable_symbol, is_readable_graph, IsTextable, ModelsReadBack}
+use Rattle.model_texts.specs.Proper.{is_table_name, are_distinct}
 use Rattle.model_texts.specs.Reading.{Element, names_in, sizes}
 use Rattle.model_texts.specs.Entries.{Given, division_table, modulus_table, table_symbol, entries_given}
 use Rattle.model_texts.specs.ModelText.{graph_named, with_first_rows, table_of, number_row, number_graph, number_table, model_over, without_word, nothing_behind, model_of_entries, with_line, model_from, model_of}

@@ -15,7 +15,8 @@ use Rattle.smt_terms.proofs.Equal.{name_itself, names_differ, symbol_itself, Dec
 use Rattle.smt_terms.proofs.Tests.{true_or_false, both_true, and_true, both_false, or_false, not_true, left_true, right_true, contrary}
 use Rattle.script_read.specs.Commands.{Signature}
 use Rattle.models.specs.GraphRows.{default_graph}
-use Rattle.model_texts.specs.Laws.{has_writable_names, is_writable_sort, is_table_name, is_writable_symbol, are_distinct, is_readable, is_readable_row, is_readable_graph, is_readable_table}
+use Rattle.model_texts.specs.Laws.{has_writable_names, is_writable_sort, is_writable_symbol, is_readable, is_readable_row, is_readable_graph, is_readable_table}
+use Rattle.model_texts.specs.Proper.{is_table_name, are_distinct}
 use Rattle.model_texts.specs.Entries.{division_table, modulus_table, table_symbol, symbol_named, symbol_among}
 use Rattle.model_texts.specs.ModelText.{graph_named}
 use Rattle.model_texts.specs.ModelLines.{parameters, symbol_entry, row_of, graph_of, is_there, table_entries}

@@ -1,20 +1,18 @@
 -- Statements of the laws of model texts.
-use Rattle.std.specs.Prelude.{◌≡◌, ℕ, Bool, true, ◌&&◌, ◌||◌, not, List, [], ◌∷◌, Ok, IfSome, IsTrue}
+use Rattle.std.specs.Prelude.{◌≡◌, ℕ, Bool, true, ◌&&◌, not, List, ◌∷◌, Ok, IfSome, IsTrue}
 use Rattle.std.specs.List.{list_all}
-use Rattle.smt_lex.specs.Names.{is_among}
-use Rattle.smt_terms.specs.Equal.{name_eq}
 use Rattle.smt_terms.specs.Free.{names_of}
 use Rattle.smt_terms.specs.Models.{Row, Graph, NumberRow, NumberGraph, Model, IsModelOver}
 use Rattle.smt_terms.specs.Rank.{is_sort}
-use Rattle.smt_terms.specs.Sorts.{Name, Sort, array, free_sort, Symbol}
+use Rattle.smt_terms.specs.Sorts.{Sort, array, free_sort, Symbol}
 use Rattle.smt_terms.specs.Term.{Term}
 use Rattle.smt_terms.specs.Val.{within_range}
 use Rattle.smt_terms.specs.Values.{Value, whole, table, Pairs, no_pairs, pair}
 use Rattle.script_read.specs.Commands.{Command, Signature, signature}
 use Rattle.script_read.specs.Printable.{is_writable, printable}
-use Rattle.model_texts.specs.Entries.{division_table, modulus_table}
 use Rattle.model_texts.specs.ModelText.{model_of}
 use Rattle.model_texts.specs.ModelLines.{model_lines}
+use Rattle.model_texts.specs.Proper.{are_distinct, is_table_name, IsProper}
 
 -- ---- signatures over which models can be written
 
@@ -27,16 +25,8 @@ has_writable_names _ = true
 abbrev pub is_writable_sort : Sort → Bool
 is_writable_sort s = is_sort s && has_writable_names s
 
--- the tables of `div` and `mod` by zero have names of their own
-abbrev pub is_table_name : Name → Bool
-is_table_name n = name_eq n division_table || name_eq n modulus_table
-
 abbrev pub is_writable_symbol : Symbol → Bool
 is_writable_symbol f = is_writable f.name && (not (is_table_name f.name) && list_all is_writable_sort (f.result ∷ f.args))
-
-abbrev pub are_distinct : List Name → Bool
-are_distinct [] = true
-are_distinct (n ∷ ns) = not (is_among ns n) && are_distinct ns
 
 -- sorts may stand twice, symbols' names may not
 abbrev pub is_writable_signature : Signature → Bool
@@ -79,3 +69,7 @@ ModelsReadBack = (sig : Signature) (m : Model) → IsTextable sig m → model_of
 -- over the signature at any point of a printable script, models can be written
 abbrev pub SignaturesAreWritable : Type 0
 SignaturesAreWritable = (cs : List (Command Term)) (k : ℕ) → IsTrue (printable cs) → IsTrue (is_writable_signature (signature cs k))
+
+-- over the signature at any point of a printable script, texts can be read
+abbrev pub SignaturesAreProper : Type 0
+SignaturesAreProper = (cs : List (Command Term)) (k : ℕ) → IsTrue (printable cs) → IsProper (signature cs k)
