@@ -1,7 +1,14 @@
+mod AskedChecks
+mod CarriedModels
+mod Carriages
 mod Commanded
 mod Counts
+mod EarlyEnds
 mod EightRun
 mod Endings
-mod Promised
+mod ModelTexts
+mod ReadTexts
+mod Sent
 mod Texts
 mod Unbegun
+mod Ways

@@ -8,66 +8,65 @@ use Rattle.smtrw_answers.specs.declared.status.Status.{Status}
 use Rattle.smtrw_answers.specs.declared.status.Status.TheVariants.{Done, Usage, OutOfMemory}
 use Rattle.smtrw_answers.specs.Answers.{err_line}
 use Rattle.smtrw_answers.specs.Said.{GotPrefix}
-use Rattle.smtrw_answers.specs.Words.{Asked, asked, file_of}
-use Rattle.smtrw.specs.Run.{IsComplete, OutFits, Promised, Quiet, ReadFits, ScriptFits, Stands, WhereAsked, WordsFit, WriteFits}
+use Rattle.smtrw_answers.specs.Words.{Asked, asked}
+use Rattle.smtrw.specs.Run.{IsComplete, MayEnd, OutFits, Promised, Quiet, ReadFits, Texts, TextsFit, WhereAsked, WordsFit, WriteFits, texts_of}
 use Rattle.smtrw.specs.WholeRun.{Sunk, IsRun, IsUnbegun}
 
-stands : (status : Status) → IsUnbegun status → Stands status
-stands (Usage fault) is = tt
-stands OutOfMemory is = tt
-stands _ is = absurd is
+-- what holds at both ends of such a run holds at the one that it has
+at_either : (P : Status → Type 0) → ((fault : UsageFault) → P (Usage fault)) → P OutOfMemory → (r : Result Asked UsageFault) (status : Status) → IsUnbegun r status → P status
+at_either P faulty short (Err fault) status is = subst P (sym is) (faulty fault)
+at_either P faulty short (Ok a) status is = subst P (sym is) short
 
-write : (before now : ℕ) (status : Status) → IsUnbegun status → WriteFits before now status
-write before now (Usage fault) is = tt
-write before now OutOfMemory is = tt
-write before now _ is = absurd is
-
-quiet : (sent : Option (List ℕ)) (status : Status) → IsUnbegun status → Quiet sent sent status
-quiet sent (Usage fault) is = refl
-quiet sent OutOfMemory is = refl
-quiet sent _ is = absurd is
+words : (r : Result Asked UsageFault) (status : Status) → IsUnbegun r status → WordsFit r status
+words (Err fault) status is = is
+words (Ok a) status is = subst (λ (s : Status). WordsFit (Ok a) s) (sym is) tt
 
 -- words without a fault end it for want of memory
-where_asked : (r : Result Asked UsageFault) (P : Status → Asked → Type 0) → ((a : Asked) → P OutOfMemory a) → (status : Status) → WordsFit r status → IsUnbegun status → WhereAsked r (P status)
-where_asked (Err fault) P short status fits is = tt
-where_asked (Ok a) P short (Usage fault) fits is = absurd fits
-where_asked (Ok a) P short OutOfMemory fits is = short a
-where_asked (Ok a) P short _ fits is = absurd is
+where_asked : (r : Result Asked UsageFault) (P : Status → Asked → Type 0) → ((a : Asked) → P OutOfMemory a) → (status : Status) → IsUnbegun r status → WhereAsked r (P status)
+where_asked (Err fault) P short status is = tt
+where_asked (Ok a) P short status is = subst (λ (s : Status). P s a) (sym is) (short a)
 
-script : (text : Option (List ℕ)) → ScriptFits text OutOfMemory
-script None = tt
-script (Some b) = tt
+ends : (a : Asked) → MayEnd a OutOfMemory
+ends a = tt
 
-promise : (text before now : Option (List ℕ)) (a : Asked) → Promised text before now OutOfMemory a
-promise None before now a = tt
-promise (Some b) before now a = tt
+texts : (ts : Texts) (a : Asked) → TextsFit ts OutOfMemory a
+texts ts a = by ts.script ts.model
+  where
+    by : (s m : Option (List ℕ)) → TextsFit (record { script = s; model = m }) OutOfMemory a
+    by None m = tt
+    by (Some b) None = tt
+    by (Some b) (Some g) = tt
 
-complete : (text : Option (List ℕ)) (reads_before reads_now : List ℕ → ℕ) (before now : ℕ) (a : Asked) → IsComplete text reads_before reads_now before now OutOfMemory a
-complete None reads_before reads_now before now a = tt
-complete (Some b) reads_before reads_now before now a = λ fine read written. inr refl
+complete : (ts : Texts) (reads_before reads_now : List ℕ → ℕ) (before now : ℕ) (a : Asked) → IsComplete ts reads_before reads_now before now OutOfMemory a
+complete ts reads_before reads_now before now a = by ts.script ts.model
+  where
+    by : (s m : Option (List ℕ)) → IsComplete (record { script = s; model = m }) reads_before reads_now before now OutOfMemory a
+    by None m = tt
+    by (Some b) None = tt
+    by (Some b) (Some g) = λ fine script model written. inr refl
 
-pub unbegun_run : (rules : List Name) (given : List (List ℕ)) (text : List ℕ → Option (List ℕ)) (before now : List ℕ → ℕ) (output errors errors_now : Sunk) (status : Status) → WordsFit (asked given) status → IsUnbegun status → (status ≡ Done → errors_now.sent ≡ errors.sent) → GotPrefix errors.sent errors_now.sent (err_line status given)
+pub unbegun_run : (rules : List Name) (given : List (List ℕ)) (text : List ℕ → Option (List ℕ)) (before now : List ℕ → ℕ) (output errors errors_now : Sunk) (status : Status) → IsUnbegun (asked given) status → (status ≡ Done → errors_now.sent ≡ errors.sent) → GotPrefix errors.sent errors_now.sent (err_line status given)
     → Rose errors.faults errors_now.faults ⊎ (errors_now.sent ≡ with_bytes errors.sent (err_line status given)) → IsRun rules given text before now output output errors errors_now status
-unbegun_run rules given text before now output errors errors_now status fits is silent prefix whole = record {
-  words = fits;
-  stands = stands status is;
-  read = where_asked (asked given) (λ s. ReadFits before now s) (λ a. tt) status fits is;
-  write = write output.faults output.faults status is;
-  script = where_asked (asked given) (λ s a. ScriptFits (text (file_of a).word) s) (λ a. script (text (file_of a).word)) status fits is;
-  out = where_asked (asked given) (λ s a. OutFits rules (text (file_of a).word) output.sent output.sent output.flushed s a) (λ a. refl) status fits is;
-  quiet = quiet output.sent status is;
-  promise = where_asked (asked given) (λ s a. Promised (text (file_of a).word) output.sent output.sent s a) (λ a. promise (text (file_of a).word) output.sent output.sent a) status fits is;
-  complete = where_asked (asked given) (λ s a. IsComplete (text (file_of a).word) before now output.faults output.faults s a) (λ a. complete (text (file_of a).word) before now output.faults output.faults a) status fits is;
+unbegun_run rules given text before now output errors errors_now status is silent prefix whole = record {
+  words = words (asked given) status is;
+  ends = where_asked (asked given) (λ s a. MayEnd a s) ends status is;
+  read = where_asked (asked given) (λ s. ReadFits before now s) (λ a. tt) status is;
+  write = at_either (λ s. WriteFits output.faults output.faults s) (λ fault. tt) tt (asked given) status is;
+  texts = where_asked (asked given) (λ s a. TextsFit (texts_of text a) s a) (λ a. texts (texts_of text a) a) status is;
+  out = where_asked (asked given) (λ s a. OutFits rules (texts_of text a) output.sent output.sent output.flushed s a) (λ a. refl) status is;
+  quiet = at_either (λ s. Quiet output.sent output.sent s) (λ fault. refl) refl (asked given) status is;
+  promise = where_asked (asked given) (λ s a. Promised (texts_of text a) output.sent output.sent s a) (λ a. tt) status is;
+  complete = where_asked (asked given) (λ s a. IsComplete (texts_of text a) before now output.faults output.faults s a) (λ a. complete (texts_of text a) before now output.faults output.faults a) status is;
   silent = silent;
   prefix = prefix;
   whole = whole;
 }
 
 -- the same by what the devices are when the status is told, where they are as they were
-pub unbegun_by : (rules : List Name) (given : List (List ℕ)) (text : List ℕ → Option (List ℕ)) (before now : List ℕ → ℕ) (output output_now errors errors_begun errors_now : Sunk) (status : Status) → output_now ≡ output → errors_begun ≡ errors → WordsFit (asked given) status → IsUnbegun status
+pub unbegun_by : (rules : List Name) (given : List (List ℕ)) (text : List ℕ → Option (List ℕ)) (before now : List ℕ → ℕ) (output output_now errors errors_begun errors_now : Sunk) (status : Status) → output_now ≡ output → errors_begun ≡ errors → IsUnbegun (asked given) status
     → (status ≡ Done → errors_now.sent ≡ errors_begun.sent) → GotPrefix errors_begun.sent errors_now.sent (err_line status given) → Rose errors_begun.faults errors_now.faults ⊎ (errors_now.sent ≡ with_bytes errors_begun.sent (err_line status given))
     → IsRun rules given text before now output output_now errors errors_now status
-unbegun_by rules given text before now output output_now errors errors_begun errors_now status unsent unsaid fits is silent prefix whole =
+unbegun_by rules given text before now output output_now errors errors_begun errors_now status unsent unsaid is silent prefix whole =
     subst (λ (o : Sunk). IsRun rules given text before now output o errors errors_now status) (sym unsent)
     (subst (λ (e : Sunk). IsRun rules given text before now output output e errors_now status) unsaid
-    (unbegun_run rules given text before now output errors_begun errors_now status fits is silent prefix whole))
+    (unbegun_run rules given text before now output errors_begun errors_now status is silent prefix whole))

@@ -1,3 +1,4 @@
+pub mod Carrying
 pub mod Counted
 pub mod Prepared
 pub mod Run

@@ -1,41 +1,73 @@
 -- What a run of the program may answer, and what it leaves behind at each answer, by what its words ask for.
-use Rattle.std.specs.Prelude.{◌≡◌, ℕ, ◌⊎◌, List, take, Option, Some, None, Result, Ok, Err}
+use Rattle.std.specs.Prelude.{◌≡◌, ℕ, ◌⊎◌, List, [], take, Option, Some, None, Result, Ok, Err}
 use Rattle.smt_io.specs.Counts.{Rose}
 use Rattle.smt_terms.specs.Sorts.{Name}
 use Rattle.smt_io.specs.Told.{with_bytes}
 use Rattle.smtrw_answers.specs.declared.status.Usage.{Usage as UsageFault}
 use Rattle.smtrw_answers.specs.declared.status.Status.{Status}
 use Rattle.smtrw_answers.specs.declared.status.Status.TheVariants.{Done, Refused, Usage, ReadFailed, WriteFailed, OutOfMemory, ModelRefused, Beyond128, PassRefused}
-use Rattle.smtrw_answers.specs.Words.{Asked, rewrite, file_of}
-use Rattle.smtrw_answers.specs.Outputs.{IsOutputOf}
-use Rattle.smtrw_answers.specs.Endings.{script_end}
+use Rattle.smtrw_answers.specs.Words.{Word, Numbered, Asked, rewrite, translate, extend, file_of, model_file_of}
+use Rattle.smtrw_answers.specs.Endings.{or_later, script_end, check_end, end_of}
 use Rattle.smtrw_answers.specs.Headline.{IsRewriting}
+use Rattle.smtrw_answers.specs.Written.{IsOutputOf}
 
 -- ---- the words
-
--- `Usage` comes exactly where the words have a fault, and is that one
-abbrev pub WordsFit : Result Asked UsageFault → Status → Type 0
-WordsFit (Err fault) status = status ≡ Usage fault
-WordsFit (Ok asked) (Usage fault) = ⊥
-WordsFit (Ok asked) _ = Unit {0}
-
--- no model is read, nothing is evaluated and no pass refuses
-abbrev pub Stands : Status → Type 0
-Stands (ModelRefused code line byte) = ⊥
-Stands (Beyond128 assertion) = ⊥
-Stands (PassRefused code assertion) = ⊥
-Stands _ = Unit {0}
 
 -- of what the words ask for, where they ask for something
 abbrev pub WhereAsked : Result Asked UsageFault → (Asked → Type 0) → Type 0
 WhereAsked (Err fault) P = Unit {0}
 WhereAsked (Ok asked) P = P asked
 
+-- the commands that carry a model
+abbrev pub CarriesModel : Asked → Type 0
+CarriesModel (translate passes check script model) = Unit {0}
+CarriesModel (extend passes check script model) = Unit {0}
+CarriesModel _ = ⊥
+
+-- `Usage` comes exactly where the words have a fault, and is that one; else it says of no word that a check is missing
+abbrev pub WordsFit : Result Asked UsageFault → Status → Type 0
+WordsFit (Err fault) status = status ≡ Usage fault
+WordsFit (Ok asked) (Usage fault) = (fault.word ≡ 0) × CarriesModel asked
+WordsFit (Ok asked) _ = Unit {0}
+
+-- a model is refused, and a value or a width of a term, only where a model is carried; and no pass refuses
+abbrev pub MayEnd : Asked → Status → Type 0
+MayEnd asked (ModelRefused code line byte) = CarriesModel asked
+MayEnd asked (Beyond128 assertion) = CarriesModel asked
+MayEnd asked (PassRefused code assertion) = (code ≡ 71) × CarriesModel asked
+MayEnd asked _ = Unit {0}
+
+-- ---- the texts that the words name
+
+-- each where it is told; a command that reads no model has an empty one
+pub record Texts : Type 0 where
+  pub script : Option (List ℕ)
+  pub model : Option (List ℕ)
+
+abbrev pub model_text_of : Option Numbered → (Word → Option (List ℕ)) → Option (List ℕ)
+model_text_of None text = Some []
+model_text_of (Some file) text = text file.word
+
+abbrev pub texts_of : (Word → Option (List ℕ)) → Asked → Texts
+texts_of text asked = record { script = text (file_of asked).word; model = model_text_of (model_file_of asked) text }
+
+-- of both texts, where they are told
+abbrev pub WhereTold : Texts → (List ℕ → List ℕ → Type 0) → Type 0
+WhereTold ts P = elim ts.script [ None ↦ Unit {0} | Some b ↦ elim ts.model [ None ↦ Unit {0} | Some g ↦ P b g ] ]
+
 -- ---- devices
 
+-- of the file at a word, the count of faults rose
+abbrev pub RoseFor : (Word → ℕ) → (Word → ℕ) → ℕ → Numbered → Type 0
+RoseFor before now word file = (word ≡ file.number) × Rose (before file.word) (now file.word)
+
+abbrev pub RoseForModel : (Word → ℕ) → (Word → ℕ) → ℕ → Option Numbered → Type 0
+RoseForModel before now word None = ⊥
+RoseForModel before now word (Some file) = RoseFor before now word file
+
 -- `ReadFailed` comes only where the count of faults rose that the inputs have for the file at its word
-abbrev pub ReadFits : (List ℕ → ℕ) → (List ℕ → ℕ) → Status → Asked → Type 0
-ReadFits before now (ReadFailed word) asked = (word ≡ (file_of asked).number) × Rose (before (file_of asked).word) (now (file_of asked).word)
+abbrev pub ReadFits : (Word → ℕ) → (Word → ℕ) → Status → Asked → Type 0
+ReadFits before now (ReadFailed word) asked = RoseFor before now word (file_of asked) ⊎ RoseForModel before now word (model_file_of asked)
 ReadFits before now _ asked = Unit {0}
 
 -- `WriteFailed` comes only where the output's count of faults rose
@@ -43,43 +75,62 @@ abbrev pub WriteFits : ℕ → ℕ → Status → Type 0
 WriteFits before now WriteFailed = Rose before now
 WriteFits before now _ = Unit {0}
 
--- ---- the script
+-- ---- how it ends by its texts
 
--- a told script is refused exactly where it is too long or isn't accepted, and so
-abbrev pub ScriptFits : Option (List ℕ) → Status → Type 0
-ScriptFits None _ = Unit {0}
-ScriptFits (Some b) (Refused r) = script_end b ≡ Some (Refused r)
-ScriptFits (Some b) Done = script_end b ≡ None
-ScriptFits (Some b) WriteFailed = script_end b ≡ None
-ScriptFits (Some b) _ = Unit {0}
+-- a told script is refused exactly where it is too long or isn't accepted, and so; a check is missing exactly where it has fewer
+abbrev pub check_end_of : Asked → List ℕ → Option Status
+check_end_of (translate passes check script model) b = check_end b check
+check_end_of (extend passes check script model) b = check_end b check
+check_end_of _ b = None
+
+abbrev pub ScriptFits : Asked → List ℕ → Status → Type 0
+ScriptFits asked b (Refused r) = script_end b ≡ Some (Refused r)
+ScriptFits asked b (Usage u) = or_later (script_end b) (check_end_of asked b) ≡ Some (Usage u)
+ScriptFits asked b (ReadFailed word) = Unit {0}
+ScriptFits asked b OutOfMemory = Unit {0}
+ScriptFits asked b _ = or_later (script_end b) (check_end_of asked b) ≡ None
+
+-- the same with a told model: the run ends as the texts say
+abbrev pub EndFits : Option Status → Status → Type 0
+EndFits end Done = end ≡ None
+EndFits end WriteFailed = end ≡ None
+EndFits end (ReadFailed word) = Unit {0}
+EndFits end OutOfMemory = Unit {0}
+EndFits end status = end ≡ Some status
+
+abbrev pub TextsFit : Texts → Status → Asked → Type 0
+TextsFit ts status asked =
+    elim ts.script [ None ↦ Unit {0} | Some b ↦ elim ts.model [ None ↦ ScriptFits asked b status | Some g ↦ EndFits (end_of asked b g) status ] ]
 
 -- ---- the output
 
--- the whole text of a told script, with stored rules of these names
-abbrev pub IsOutput : List Name → Asked → Option (List ℕ) → List ℕ → Type 0
-IsOutput rules asked None w = Unit {0}
-IsOutput rules asked (Some b) w = IsOutputOf rules asked b w
-
 -- at `Done` the whole text was sent and flushed, at `WriteFailed` a prefix of it was sent, and else nothing
-abbrev pub OutFits : List Name → Option (List ℕ) → Option (List ℕ) → Option (List ℕ) → Option (List ℕ) → Status → Asked → Type 0
-OutFits rules script before now flushed Done asked = (w : List ℕ) × IsOutput rules asked script w × (now ≡ with_bytes before w) × (flushed ≡ now)
-OutFits rules script before now flushed WriteFailed asked = (w : List ℕ) × IsOutput rules asked script w × ((n : ℕ) × (now ≡ with_bytes before (take n w)))
-OutFits rules script before now flushed _ asked = now ≡ before
+abbrev pub OutFits : List Name → Texts → Option (List ℕ) → Option (List ℕ) → Option (List ℕ) → Status → Asked → Type 0
+OutFits rules ts before now flushed Done asked =
+    (w : List ℕ) × WhereTold ts (λ b g. IsOutputOf rules asked b g w) × (now ≡ with_bytes before w) × (flushed ≡ now)
+OutFits rules ts before now flushed WriteFailed asked =
+    (w : List ℕ) × WhereTold ts (λ b g. IsOutputOf rules asked b g w) × ((n : ℕ) × (now ≡ with_bytes before (take n w)))
+OutFits rules ts before now flushed _ asked = now ≡ before
 
--- at a fault of the words nothing was sent
+-- at any other status nothing was sent
 abbrev pub Quiet : Option (List ℕ) → Option (List ℕ) → Status → Type 0
 Quiet before now Done = Unit {0}
 Quiet before now WriteFailed = Unit {0}
 Quiet before now _ = now ≡ before
 
 -- what was sent of a told script at `Done` is a rewriting of it by the passes
-abbrev pub Promised : Option (List ℕ) → Option (List ℕ) → Option (List ℕ) → Status → Asked → Type 0
-Promised (Some b) before now Done (rewrite passes layout file) = (w : List ℕ) × (now ≡ with_bytes before w) × IsRewriting b passes w
-Promised script before now status asked = Unit {0}
+abbrev pub Promised : Texts → Option (List ℕ) → Option (List ℕ) → Status → Asked → Type 0
+Promised ts before now Done (rewrite passes layout file) =
+    elim ts.script [ None ↦ Unit {0} | Some b ↦ (w : List ℕ) × (now ≡ with_bytes before w) × IsRewriting b passes w ]
+Promised ts before now status asked = Unit {0}
 
--- a told script that isn't refused is written, where no device fails and memory is there
-abbrev pub IsComplete : Option (List ℕ) → (List ℕ → ℕ) → (List ℕ → ℕ) → ℕ → ℕ → Status → Asked → Type 0
-IsComplete None reads_before reads_now before now status asked = Unit {0}
-IsComplete (Some b) reads_before reads_now before now status asked =
-    script_end b ≡ None → (Rose (reads_before (file_of asked).word) (reads_now (file_of asked).word) → ⊥) → (Rose before now → ⊥) →
-    (status ≡ Done) ⊎ (status ≡ OutOfMemory)
+abbrev pub NoneRose : (Word → ℕ) → (Word → ℕ) → Option Numbered → Type 0
+NoneRose before now None = Unit {0}
+NoneRose before now (Some file) = Rose (before file.word) (now file.word) → ⊥
+
+-- told texts that aren't refused are answered, where no device fails and memory is there
+abbrev pub IsComplete : Texts → (Word → ℕ) → (Word → ℕ) → ℕ → ℕ → Status → Asked → Type 0
+IsComplete ts reads_before reads_now before now status asked =
+    WhereTold ts
+    (λ b g. end_of asked b g ≡ None → NoneRose reads_before reads_now (Some (file_of asked)) → NoneRose reads_before reads_now (model_file_of asked) →
+    (Rose before now → ⊥) → (status ≡ Done) ⊎ (status ≡ OutOfMemory))

@@ -3,6 +3,7 @@
 ghost use Rattle.std.specs.Prelude.{◌≡◌, ◌≤◌, ◌++◌, length, IfOk, OnOk};
 ghost use Rattle.script_terms.specs.Places.{IsRead};
 ghost use Rattle.smt_io.specs.Told.{longest_text};
+ghost use Rattle.smtrw_answers.specs.Endings.{stats_end};
 ghost use Rattle.smtrw_answers.specs.Outputs.{count_line, stats_lines};
 ghost use Rattle.smtrw.specs.Counted.{declarations_in, ids_of, is_declaration, lines_of};
 ghost use Rattle.smtrw.specs.Prepared.{Writes};
@@ -22,7 +23,7 @@ use term_walk::count_nodes;
 pub fn counted(alloc: Global, forest: &Forest) -> Result<Pieces, Status>
     requires read { IsRead forest.now }
     requires short { length forest.now.bytes ≤ longest_text }
-    ensures { Writes forest.now.bytes (λ w. w ≡ stats_lines forest.now.bytes) result }
+    ensures { Writes (stats_end forest.now.bytes) (λ w. w ≡ stats_lines forest.now.bytes) result }
 {
     let mut table = Table::new(alloc);
     let (script, _) = read_script(alloc, &mut table, forest)?;

@@ -1,8 +1,11 @@
 //! `rewrite`: the script behind the passes, printed again.
 
-ghost use Rattle.std.specs.Prelude.{◌≤◌, length, IfOk};
+ghost use Rattle.std.specs.Prelude.{◌≡◌, ◌≤◌, false, length, IfOk, IsTrue};
+ghost use Rattle.std.specs.List.{list_all};
 ghost use Rattle.script_terms.specs.Places.{IsRead};
 ghost use Rattle.smt_io.specs.Told.{longest_text};
+ghost use Rattle.passes.specs.Lists.{can_run, groups_after_rules};
+ghost use Rattle.smtrw_answers.specs.Endings.{rewrite_end};
 ghost use Rattle.smtrw_answers.specs.Headline.{IsRewriting};
 ghost use Rattle.smtrw_answers.specs.Outputs.{MayBeWritten};
 ghost use Rattle.smtrw.specs.Prepared.{Writes};
@@ -28,12 +31,13 @@ pub fn rewritten(
 ) -> Result<Pieces, Status>
     requires read { IsRead forest }
     requires short { length forest.bytes ≤ longest_text }
-    ensures text { Writes forest.bytes (MayBeWritten forest.bytes passes.now (⟦<RuleBook as Named>⟧.names book.now) layout) result }
+    ensures text { Writes (rewrite_end forest.bytes passes.now) (MayBeWritten forest.bytes passes.now (⟦<RuleBook as Named>⟧.names book.now) layout) result }
     ensures promise { IfOk result (λ w. IsRewriting forest.bytes passes.now w) }
 {
     rewriting_keeps_its_promise();
     reading_gives_a_printable_script();
     names_left_are_new();
+    passes_can_run(passes);
     let mut table = Table::new(alloc);
     let (script, mut fresh) = read_script(alloc, &mut table, &forest)?;
     // The script stands by itself. Of what it was read from the memory of the text is written over again.
@@ -44,4 +48,12 @@ pub fn rewritten(
     let mut text = Pieces::over(alloc, bytes);
     script_into(alloc, &table, &script, layout, &mut text)?;
     Ok(text)
+}
+
+/// The passes of a list can be run, and none that makes groups stands behind `rules`.
+pub fn passes_can_run(passes: &Passes)
+    ensures run { IsTrue (list_all can_run passes.now) }
+    ensures order { groups_after_rules passes.now ≡ false }
+{
+    passes.len();
 }

@@ -3,7 +3,6 @@
 ghost use Rattle.std.specs.Prelude.{◌≡◌, ◌∷◌, [], ◌++◌, map, string_bytes, OnOk, OnErr, IfOk};
 ghost use Rattle.rule_book.specs.EightRules.{eight_names};
 ghost use Rattle.smtrw_answers.specs.Words.{asked};
-ghost use Rattle.smtrw.specs.Run.{WordsFit};
 ghost use Rattle.smtrw.specs.WholeRun.{IsRun, IsUnbegun};
 
 use crate::run::run;
@@ -88,8 +87,7 @@ fn run_by_book<I: Inputs, O: Sink, E: Sink>(
 
 // How the run ends where there is no memory to begin: a fault of the words still counts first.
 fn unbegun(alloc: Global, words: &[String]) -> Status
-    ensures words { WordsFit (asked (map string_bytes words.now)) result }
-    ensures unbegun { IsUnbegun result }
+    ensures { IsUnbegun (asked (map string_bytes words.now)) result }
 {
     match parse_words(alloc, words) {
         Err(WordsFault::Usage(usage)) => Status::Usage(usage),

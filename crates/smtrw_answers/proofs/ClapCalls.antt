@@ -7,16 +7,16 @@ use Rattle.clap.specs.Takes.{takes}
 use Rattle.clap.specs.declared.builder.command.Command.{Command as ClapCommand}
 use Rattle.clap.specs.declared.builder.command.Command.TheViews.{out-Command}
 use Rattle.clap.specs.declared.parser.matches.ArgMatches.{ArgMatches}
+use Rattle.clap.specs.declared.parser.matches.Found.{Found}
 use Rattle.clap.proofs.WalkLemmas.{first_value-rows}
-use Rattle.smt_print.specs.declared.layout.Layout.{Layout}
-use Rattle.passes.specs.declared.names.Pass.{Pass}
 use Rattle.passes.specs.Lists.{can_run}
 use Rattle.smtrw_answers.specs.declared.status.Usage.{Usage}
 use Rattle.smtrw_answers.specs.Words.{Word, Numbered, Command, rewriting, translating, extending, counting, demonstrating, Setting, Given, nothing_given, words_from, Asked, rewrite, translate, extend, stats, demo, asked_with, asked_or_missing, at_end, asked_of, asked, command_if, command_named, stands}
-use Rattle.smtrw_answers.specs.Asking.{IsRewriting, IsCounting, GivesRewriting, GivesCounting, passes_in, layout_in}
-use Rattle.smtrw_answers.proofs.ClapRows.{rewrite_app, stats_app, rewrite_is_simple, stats_is_simple}
+use Rattle.smtrw_answers.specs.Asking.{IsRewriting, IsCarrying, IsCounting, GivesRewriting, GivesCarrying, GivesCounting}
+use Rattle.smtrw_answers.proofs.ClapRows.{rewrite_app, carry_app, stats_app, rewrite_is_simple, carry_is_simple, stats_is_simple}
+use Rattle.smtrw_answers.proofs.ClapCommands.{rewrite_taking, carry_taking, stats_taking}
 use Rattle.smtrw_answers.proofs.ClapWords.{and_then_ok}
-use Rattle.smtrw_answers.proofs.ClapMatches.{Matches, rewrite_matches, OneMatch, stats_match}
+use Rattle.smtrw_answers.proofs.ClapMatches.{Matched, all_matched, rewriting_given, translating_given, extending_given, counting_given}
 
 -- ---- a command without the flag for help
 
@@ -69,55 +69,73 @@ asked_of_by (Some c) ws a e =
 
 -- ---- the values
 
-module _ (words : List Word) (m : ArgMatches) where
-  found_at : (app : App) → is_simple app ≡ true → HasMatchesOf app words m → (id : Text) → first_value (found_of m) id ≡ first_of id (matches_of app words)
-  found_at app simple has id = first_value-rows (found_of m) id ∙ ap (first_of id) (has simple).0
+-- `clap` takes the words of a command, and gives their values
+pub record IsTaken (app : App) (Gives : Result Asked Usage → Found → Type 0) (words : List Word) : Type 0 where
+  pub takes : takes app words ≡ true
+  pub gives : (m : ArgMatches) → HasMatchesOf app words m → Gives (asked words) (found_of m)
 
-  values_are : (ps : List Pass) (l : Layout) (f : Numbered) → HasMatchesOf rewrite_app words m → Matches ps l f words → GivesRewriting (Ok (rewrite ps l f)) (found_of m)
-  values_are ps l f has are = (
-    ap passes_in (found_at rewrite_app rewrite_is_simple has (codes "passes")) ∙ are.passes,
-    ap layout_in (found_at rewrite_app rewrite_is_simple has (codes "layout")) ∙ are.layout,
-    found_at rewrite_app rewrite_is_simple has (codes "file") ∙ are.file,
-  )
+module _ (app : App) (ids : List Text) (words : List Word) (g : Given) (simple : is_simple app ≡ true) (is : Matched app ids g words) where
+  same_values : (m : ArgMatches) → HasMatchesOf app words m → (id : Text) → first_value (found_of m) id ≡ first_of id (matches_of app words)
+  same_values m has id = first_value-rows (found_of m) id ∙ ap (first_of id) (has simple).0
 
-  value_is : (f : Numbered) → HasMatchesOf stats_app words m → OneMatch f words → GivesCounting (Ok (stats f)) (found_of m)
-  value_is f has is = found_at stats_app stats_is_simple has (codes "file") ∙ is.file
+  taken_as : (Gives : Result Asked Usage → Found → Type 0) (a : Asked) → asked words ≡ Ok a
+      → ((found : Found) → ((id : Text) → first_value found id ≡ first_of id (matches_of app words)) → Gives (Ok a) found) → IsTaken app Gives words
+  taken_as Gives a e gives = record { takes = is.takes; gives = λ m has. subst (λ r. Gives r (found_of m)) (sym e) (gives (found_of m) (same_values m has)) }
 
--- the words of `rewrite`, as `clap` takes them
-pub record IsTakenRewriting (words : List Word) : Type 0 where
-  pub takes : takes rewrite_app words ≡ true
-  pub gives : (m : ArgMatches) → HasMatchesOf rewrite_app words m → GivesRewriting (asked words) (found_of m)
+-- what is asked for by words is asked for by their command
+by_command : (c d : Command) (w : Word) (ws : List Word) (a : Asked) → command_if stands (command_named w) ≡ Some d → d ≡ c → asked (w ∷ ws) ≡ Ok a → asked_of can_run (Some c) ws ≡ Ok a
+by_command c d w ws a named same e = ap (λ x. asked_of can_run (Some x) ws) (sym same) ∙ ap (λ o. asked_of can_run o ws) (sym named) ∙ e
 
-pub record IsTakenCounting (words : List Word) : Type 0 where
-  pub takes : takes stats_app words ≡ true
-  pub gives : (m : ArgMatches) → HasMatchesOf stats_app words m → GivesCounting (asked words) (found_of m)
-
-pub rewriting_taken : (words : List Word) → IsRewriting (asked words) → IsTakenRewriting words
+pub rewriting_taken : (words : List Word) → IsRewriting (asked words) → IsTaken rewrite_app GivesRewriting words
 rewriting_taken [] is = absurd is
 rewriting_taken (w ∷ ws) is = go (asked (w ∷ ws)) refl is
   where
-    go : (r : Result Asked Usage) → asked (w ∷ ws) ≡ r → IsRewriting r → IsTakenRewriting (w ∷ ws)
+    go : (r : Result Asked Usage) → asked (w ∷ ws) ≡ r → IsRewriting r → IsTaken rewrite_app GivesRewriting (w ∷ ws)
     go (Ok (rewrite ps l f)) e is =
         let by = asked_of_by (command_if stands (command_named w)) ws (rewrite ps l f) e in
-        let of : asked_of can_run (Some rewriting) ws ≡ Ok (rewrite ps l f) = ap (λ c. asked_of can_run (Some c) ws) (sym by.2) ∙ ap (λ o. asked_of can_run o ws) (sym by.1) ∙ e in
-        let are = rewrite_matches w ws ps l f of in
-        record { takes = are.takes; gives = λ m has. subst (λ r. GivesRewriting r (found_of m)) (sym e) (values_are (w ∷ ws) m ps l f has are) }
+        let of = by_command rewriting by.0 w ws (rewrite ps l f) by.1 by.2 e in
+        let all = all_matched rewriting rewrite_app (codes "file" ∷ []) rewrite_taking (λ i v g. refl) w ws (rewrite ps l f) of in
+        taken_as rewrite_app (codes "file" ∷ []) (w ∷ ws) all.0 rewrite_is_simple all.1 GivesRewriting (rewrite ps l f) e
+        (λ found same. rewriting_given (matches_of rewrite_app (w ∷ ws)) found same (suc (suc (length ws))) all.0 ps l f all.1.holds all.2)
     go (Ok (translate ps k s m)) e is = absurd is
     go (Ok (extend ps k s m)) e is = absurd is
     go (Ok (stats f)) e is = absurd is
     go (Ok (demo s n)) e is = absurd is
     go (Err u) e is = absurd is
 
-pub counting_taken : (words : List Word) → IsCounting (asked words) → IsTakenCounting words
+pub carrying_taken : (name : Text) (words : List Word) → IsCarrying (asked words) → IsTaken (carry_app name) GivesCarrying words
+carrying_taken name [] is = absurd is
+carrying_taken name (w ∷ ws) is = go (asked (w ∷ ws)) refl is
+  where
+    go : (r : Result Asked Usage) → asked (w ∷ ws) ≡ r → IsCarrying r → IsTaken (carry_app name) GivesCarrying (w ∷ ws)
+    go (Ok (translate ps k s m)) e is =
+        let by = asked_of_by (command_if stands (command_named w)) ws (translate ps k s m) e in
+        let of = by_command translating by.0 w ws (translate ps k s m) by.1 by.2 e in
+        let all = all_matched translating (carry_app name) (codes "script" ∷ codes "model" ∷ []) (carry_taking name) (λ i v g. refl) w ws (translate ps k s m) of in
+        taken_as (carry_app name) (codes "script" ∷ codes "model" ∷ []) (w ∷ ws) all.0 (carry_is_simple name) all.1 GivesCarrying (translate ps k s m) e
+        (λ found same. translating_given (matches_of (carry_app name) (w ∷ ws)) found same (suc (suc (length ws))) all.0 ps k s m all.1.holds all.2)
+    go (Ok (extend ps k s m)) e is =
+        let by = asked_of_by (command_if stands (command_named w)) ws (extend ps k s m) e in
+        let of = by_command extending by.0 w ws (extend ps k s m) by.1 by.2 e in
+        let all = all_matched extending (carry_app name) (codes "script" ∷ codes "model" ∷ []) (carry_taking name) (λ i v g. refl) w ws (extend ps k s m) of in
+        taken_as (carry_app name) (codes "script" ∷ codes "model" ∷ []) (w ∷ ws) all.0 (carry_is_simple name) all.1 GivesCarrying (extend ps k s m) e
+        (λ found same. extending_given (matches_of (carry_app name) (w ∷ ws)) found same (suc (suc (length ws))) all.0 ps k s m all.1.holds all.2)
+    go (Ok (rewrite ps l f)) e is = absurd is
+    go (Ok (stats f)) e is = absurd is
+    go (Ok (demo s n)) e is = absurd is
+    go (Err u) e is = absurd is
+
+pub counting_taken : (words : List Word) → IsCounting (asked words) → IsTaken stats_app GivesCounting words
 counting_taken [] is = absurd is
 counting_taken (w ∷ ws) is = go (asked (w ∷ ws)) refl is
   where
-    go : (r : Result Asked Usage) → asked (w ∷ ws) ≡ r → IsCounting r → IsTakenCounting (w ∷ ws)
+    go : (r : Result Asked Usage) → asked (w ∷ ws) ≡ r → IsCounting r → IsTaken stats_app GivesCounting (w ∷ ws)
     go (Ok (stats f)) e is =
         let by = asked_of_by (command_if stands (command_named w)) ws (stats f) e in
-        let of : asked_of can_run (Some counting) ws ≡ Ok (stats f) = ap (λ c. asked_of can_run (Some c) ws) (sym by.2) ∙ ap (λ o. asked_of can_run o ws) (sym by.1) ∙ e in
-        let are = stats_match w ws f of in
-        record { takes = are.takes; gives = λ m has. subst (λ r. GivesCounting r (found_of m)) (sym e) (value_is (w ∷ ws) m f has are) }
+        let of = by_command counting by.0 w ws (stats f) by.1 by.2 e in
+        let all = all_matched counting stats_app (codes "file" ∷ []) stats_taking (λ i v g. refl) w ws (stats f) of in
+        taken_as stats_app (codes "file" ∷ []) (w ∷ ws) all.0 stats_is_simple all.1 GivesCounting (stats f) e
+        (λ found same. counting_given (matches_of stats_app (w ∷ ws)) found same (suc (suc (length ws))) all.0 f all.1.holds all.2)
     go (Ok (translate ps k s m)) e is = absurd is
     go (Ok (extend ps k s m)) e is = absurd is
     go (Ok (rewrite ps l f)) e is = absurd is

@@ -7,7 +7,7 @@ use Rattle.clap.specs.declared.builder.value_parser.Reading.{Reading}
 use Rattle.clap.specs.declared.parser.matches.ValueSource.TheVariants.{CommandLine}
 use Rattle.clap.specs.Simple.{App, on_top, new_app, new_rule, with_rule, is_simple}
 
--- ---- the two commands
+-- ---- the commands
 
 abbrev pub passes_rule : Rule
 passes_rule = record (new_rule (codes "passes")) { long = Some (codes "passes") }
@@ -15,8 +15,17 @@ passes_rule = record (new_rule (codes "passes")) { long = Some (codes "passes") 
 abbrev pub layout_rule : Rule
 layout_rule = record (new_rule (codes "layout")) { long = Some (codes "layout") }
 
+abbrev pub check_rule : Rule
+check_rule = record (new_rule (codes "check")) { long = Some (codes "check") }
+
 abbrev pub file_rule : Rule
 file_rule = new_rule (codes "file")
+
+abbrev pub script_rule : Rule
+script_rule = new_rule (codes "script")
+
+abbrev pub model_rule : Rule
+model_rule = new_rule (codes "model")
 
 -- a command without the flag that `clap` adds for help
 abbrev pub app_named : Text → App
@@ -25,11 +34,18 @@ app_named name = on_top (λ s. record s { disable_help_flag = true }) (new_app n
 abbrev pub rewrite_app : App
 rewrite_app = with_rule (with_rule (with_rule (app_named (codes "rewrite")) passes_rule) layout_rule) file_rule
 
+-- the command of this name
+abbrev pub carry_app : Text → App
+carry_app name = with_rule (with_rule (with_rule (with_rule (app_named name) passes_rule) check_rule) script_rule) model_rule
+
 abbrev pub stats_app : App
 stats_app = with_rule (app_named (codes "stats")) file_rule
 
 pub rewrite_is_simple : is_simple rewrite_app ≡ true
 rewrite_is_simple = refl
+
+pub carry_is_simple : (name : Text) → is_simple (carry_app name) ≡ true
+carry_is_simple name = refl
 
 pub stats_is_simple : is_simple stats_app ≡ true
 stats_is_simple = refl

@@ -1,39 +1,25 @@
--- One word after the other, as `clap` takes them apart.
-use Rattle.std.proofs.Common.{◌≡◌, ℕ, ◌&&◌, Bool, true, false, nat_eq, List, [], ◌∷◌, ◌++◌, Option, Some, None, refl, codes, arith}
+-- One word after the other, as `clap` takes them apart: what a command has to take of words that have no fault.
+use Rattle.std.proofs.Common.{◌≡◌, ℕ, suc, Bool, true, false, nat_eq, nat_le, List, [], ◌∷◌, ◌++◌, length, Option, Some, None, refl, codes, arith}
+use Rattle.std.specs.List.{list_any}
 use Rattle.std.specs.Str.{bytes_eq}
 use Rattle.std.proofs.lemmas.Bool.Decides.{nat_tests}
 use Rattle.clap.specs.Lexer.{long_of, short_of}
-use Rattle.clap.specs.Walk.{Held, Row, Rule, Text, Waiting, Walk, idle, option, used, has_row, settled_rows, walked}
-use Rattle.clap.specs.Simple.{Shape, built, filled, with_index}
-use Rattle.clap.specs.Takes.{settle_passes, turn_passes}
-use Rattle.smtrw_answers.specs.Words.{Word, is_dashed}
-use Rattle.smtrw_answers.proofs.ClapRows.{rewrite_app, stats_app, passes_rule, layout_rule, file_rule}
+use Rattle.clap.specs.Walk.{Held, Row, Rule, Text, Waiting, Walk, idle, option, used, has_row, first_of, finished, settled_rows, walk, walked, nothing_held}
+use Rattle.clap.specs.Simple.{App, Shape, built, filled, matches_of}
+use Rattle.clap.specs.Takes.{settle_passes, takes, turn_passes, walk_passes}
+use Rattle.smtrw_answers.specs.Words.{Word, Numbered, Setting, of_passes, of_layout, of_check, setting_among, is_dashed}
+use Rattle.smtrw_answers.proofs.ClapRows.{RowAdded, passes_rule, layout_rule, check_rule}
 
 -- ---- where a walk stands
 
-abbrev pub rewrite_shape : Shape
-rewrite_shape = (built rewrite_app).top
+-- an argument whose values are being read
+abbrev pub Pending : Type 0
+Pending = Option (Text × List Text)
 
-abbrev pub stats_shape : Shape
-stats_shape = (built stats_app).top
-
-abbrev pub rules : List Rule
-rules = rewrite_shape.rules
-
--- the rules of the arguments, as `clap` completes them
-abbrev pub passes_used : Rule
-passes_used = filled passes_rule
-
-abbrev pub layout_used : Rule
-layout_used = filled layout_rule
-
-abbrev pub file_used : Rule
-file_used = with_index 1 (filled file_rule)
-
-abbrev pub held_at : List Row → Option (Text × List Text) → Held
+abbrev pub held_at : List Row → Pending → Held
 held_at rows pending = record { rows = rows; pending = pending; skip = 0 }
 
-abbrev pub walk_at : List Row → Option (Text × List Text) → Waiting → ℕ → Walk
+abbrev pub walk_at : List Row → Pending → Waiting → ℕ → Walk
 walk_at rows pending waiting position = record { held = held_at rows pending; waiting = waiting; position = position; is_trailing = false; stopped = None }
 
 -- ---- words that aren't options
@@ -66,68 +52,82 @@ plain_word_is (x ∷ y ∷ w) e = go (nat_eq x 45) refl
         absurd cc
     go false other = not_hyphen x (y ∷ w) other
 
-and_false : (b : Bool) → (b && false) ≡ false
-and_false true = refl
-and_false false = refl
+-- ---- options
 
--- ---- steps: where the walk stands behind a word, and that `clap` takes it
+abbrev pub id_of : Setting → Text
+id_of of_passes = codes "passes"
+id_of of_layout = codes "layout"
+id_of of_check = codes "check"
 
-module _ (rows : List Row) (p : Option (Text × List Text)) (n : ℕ) where
-  pub passes_attached : (v : Word) → walked rules [] (walk_at rows p idle n) (codes "--passes=" ++ v) ≡ walk_at (used passes_used (v ∷ []) (settled_rows rules p rows)) None idle n
-  unfolding walked
-  passes_attached v = refl
+abbrev pub name_of : Setting → Word
+name_of of_passes = codes "--passes"
+name_of of_layout = codes "--layout"
+name_of of_check = codes "--check"
 
-  pub layout_attached : (v : Word) → walked rules [] (walk_at rows p idle n) (codes "--layout=" ++ v) ≡ walk_at (used layout_used (v ∷ []) (settled_rows rules p rows)) None idle n
-  unfolding walked
-  layout_attached v = refl
+-- the rule of an option, as `clap` completes it
+abbrev pub rule_of : Setting → Rule
+rule_of of_passes = filled passes_rule
+rule_of of_layout = filled layout_rule
+rule_of of_check = filled check_rule
 
-  pub passes_begun : walked rules [] (walk_at rows p idle n) (codes "--passes") ≡ walk_at (settled_rows rules p rows) (Some (codes "passes", [])) (option (codes "passes")) n
-  unfolding walked
-  passes_begun = refl
+abbrev pub with_value_in : Setting → Word → Word
+with_value_in s v = (name_of s ++ codes "=") ++ v
 
-  pub layout_begun : walked rules [] (walk_at rows p idle n) (codes "--layout") ≡ walk_at (settled_rows rules p rows) (Some (codes "layout", [])) (option (codes "layout")) n
-  unfolding walked
-  layout_begun = refl
+-- where the walk stands behind an option or its value, and that `clap` takes them
+pub record TakesOption (shape : Shape) (s : Setting) : Type 0 where
+  pub attached : (rows : List Row) (p : Pending) (n : ℕ) (v : Word)
+      → walked shape.rules [] (walk_at rows p idle n) (with_value_in s v) ≡ walk_at (used (rule_of s) (v ∷ []) (settled_rows shape.rules p rows)) None idle n
+  pub attached_turn : (rows : List Row) (p : Pending) (n : ℕ) (v : Word) → settle_passes shape.rules false (held_at rows p) ≡ true
+      → has_row (id_of s) (settled_rows shape.rules p rows) ≡ false → turn_passes shape [] (walk_at rows p idle n) (with_value_in s v) ≡ true
+  pub begun : (rows : List Row) (p : Pending) (n : ℕ)
+      → walked shape.rules [] (walk_at rows p idle n) (name_of s) ≡ walk_at (settled_rows shape.rules p rows) (Some (id_of s, [])) (option (id_of s)) n
+  pub begun_turn : (rows : List Row) (p : Pending) (n : ℕ) → settle_passes shape.rules false (held_at rows p) ≡ true
+      → turn_passes shape [] (walk_at rows p idle n) (name_of s) ≡ true
+  pub value : (rows : List Row) (n : ℕ) (w : Word) → IsPlainWord w
+      → walked shape.rules [] (walk_at rows (Some (id_of s, [])) (option (id_of s)) n) w ≡ walk_at rows (Some (id_of s, w ∷ [])) idle n
+  pub value_turn : (rows : List Row) (n : ℕ) (w : Word) → IsPlainWord w
+      → turn_passes shape [] (walk_at rows (Some (id_of s, [])) (option (id_of s)) n) w ≡ true
+  pub settled : (rows : List Row) (w : Word) → settled_rows shape.rules (Some (id_of s, w ∷ [])) rows ≡ used (rule_of s) (w ∷ []) rows
+  pub settles : (rows : List Row) (w : Word) → has_row (id_of s) rows ≡ false → settle_passes shape.rules false (held_at rows (Some (id_of s, w ∷ []))) ≡ true
 
-  pub passes_attached_turn : (v : Word) → settle_passes rules false (held_at rows p) ≡ true → has_row (codes "passes") (settled_rows rules p rows) ≡ false
-      → turn_passes rewrite_shape [] (walk_at rows p idle n) (codes "--passes=" ++ v) ≡ true
-  passes_attached_turn v settles none = rw (settles, none) refl
+-- the word is the option, with its value where it holds it
+abbrev pub IsOptionWord : Setting × Option Word → Word → Type 0
+IsOptionWord (s, None) w = w ≡ name_of s
+IsOptionWord (s, Some v) w = w ≡ with_value_in s v
 
-  pub layout_attached_turn : (v : Word) → settle_passes rules false (held_at rows p) ≡ true → has_row (codes "layout") (settled_rows rules p rows) ≡ false
-      → turn_passes rewrite_shape [] (walk_at rows p idle n) (codes "--layout=" ++ v) ≡ true
-  layout_attached_turn v settles none = rw (settles, none) refl
+-- ---- files
 
-  pub passes_begun_turn : settle_passes rules false (held_at rows p) ≡ true → turn_passes rewrite_shape [] (walk_at rows p idle n) (codes "--passes") ≡ true
-  passes_begun_turn settles = rw settles refl
+-- the files of a command, by the ids of its places
+abbrev pub FilesIn : List Text → List Numbered → List Row → Type 0
+FilesIn [] [] rows = Unit {0}
+FilesIn [] (f ∷ fs) rows = ⊥
+FilesIn (id ∷ ids) [] rows = (has_row id rows ≡ false) × FilesIn ids [] rows
+FilesIn (id ∷ ids) (f ∷ fs) rows = (first_of id rows ≡ Some f.word) × FilesIn ids fs rows
 
-  pub layout_begun_turn : settle_passes rules false (held_at rows p) ≡ true → turn_passes rewrite_shape [] (walk_at rows p idle n) (codes "--layout") ≡ true
-  layout_begun_turn settles = rw settles refl
+-- the place of one more file
+pub record TakesPlace (shape : Shape) (ids : List Text) (fs : List Numbered) : Type 0 where
+  pub id : Text
+  pub met : (rows : List Row) (p : Pending) (w : Word) → IsPlainWord w
+      → walked shape.rules [] (walk_at rows p idle (suc (length fs))) w ≡ walk_at (settled_rows shape.rules p rows) (Some (id, w ∷ [])) idle (suc (suc (length fs)))
+  pub turn : (rows : List Row) (p : Pending) (w : Word) → IsPlainWord w → settle_passes shape.rules false (held_at rows p) ≡ true
+      → turn_passes shape [] (walk_at rows p idle (suc (length fs))) w ≡ true
+  pub settles : (rows : List Row) (w : Word) → has_row id rows ≡ false → settle_passes shape.rules false (held_at rows (Some (id, w ∷ []))) ≡ true
+  pub added : (rows : List Row) (w : Word) → has_row id rows ≡ false → RowAdded id w rows (settled_rows shape.rules (Some (id, w ∷ [])) rows)
+  pub free : (rows : List Row) → FilesIn ids fs rows → has_row id rows ≡ false
+  pub put : (f : Numbered) (old new : List Row) → RowAdded id f.word old new → FilesIn ids fs old → FilesIn ids (fs ++ f ∷ []) new
+  pub apart : (s : Setting) → bytes_eq id (id_of s) ≡ false
 
-module _ (rows : List Row) (n : ℕ) (w : Word) (plain : IsPlainWord w) where
-  pub passes_value : walked rules [] (walk_at rows (Some (codes "passes", [])) (option (codes "passes")) n) w ≡ walk_at rows (Some (codes "passes", w ∷ [])) idle n
-  unfolding walked
-  passes_value = rw (plain.no_end, plain.no_long, plain.no_short) refl
+-- ---- a command
 
-  pub layout_value : walked rules [] (walk_at rows (Some (codes "layout", [])) (option (codes "layout")) n) w ≡ walk_at rows (Some (codes "layout", w ∷ [])) idle n
-  unfolding walked
-  layout_value = rw (plain.no_end, plain.no_long, plain.no_short) refl
-
-  pub passes_value_turn : turn_passes rewrite_shape [] (walk_at rows (Some (codes "passes", [])) (option (codes "passes")) n) w ≡ true
-  passes_value_turn = rw (plain.no_end, plain.no_long, plain.no_short) refl
-
-  pub layout_value_turn : turn_passes rewrite_shape [] (walk_at rows (Some (codes "layout", [])) (option (codes "layout")) n) w ≡ true
-  layout_value_turn = rw (plain.no_end, plain.no_long, plain.no_short) refl
-
-  pub file_met : (p : Option (Text × List Text)) → walked rules [] (walk_at rows p idle 1) w ≡ walk_at (settled_rows rules p rows) (Some (codes "file", w ∷ [])) idle 2
-  unfolding walked
-  file_met p = rw (plain.no_end, plain.no_long, plain.no_short, and_false) refl
-
-  pub file_met_turn : (p : Option (Text × List Text)) → settle_passes rules false (held_at rows p) ≡ true → turn_passes rewrite_shape [] (walk_at rows p idle 1) w ≡ true
-  file_met_turn p settles = rw (plain.no_end, plain.no_long, plain.no_short, settles, and_false) refl
-
-  pub only_file_met : walked stats_shape.rules [] (walk_at [] None idle 1) w ≡ walk_at [] (Some (codes "file", w ∷ [])) idle 2
-  unfolding walked
-  only_file_met = rw (plain.no_end, plain.no_long, plain.no_short) refl
-
-  pub only_file_met_turn : turn_passes stats_shape [] (walk_at [] None idle 1) w ≡ true
-  only_file_met_turn = rw (plain.no_end, plain.no_long, plain.no_short) refl
+-- a command with these options and places takes what has no fault
+pub record Taking (settings : List (Word × Setting)) (most : ℕ) (app : App) (ids : List Text) : Type 0 where
+  pub options : (w : Word) (o : Setting × Option Word) → setting_among settings w ≡ Some o → IsOptionWord o w × TakesOption (built app).top o.0
+  pub place : (fs : List Numbered) → nat_le most (length fs) ≡ false → TakesPlace (built app).top ids fs
+  pub no_files : FilesIn ids [] []
+  pub apart : (s : Setting) → list_any (bytes_eq (id_of s)) ids ≡ false
+  -- without defaults
+  pub finished_at : (rows : List Row) (p : Pending) → finished (built app).top.rules (held_at rows p) ≡ settled_rows (built app).top.rules p rows
+  pub found : (name : Word) (ws : List Word) → matches_of app (name ∷ ws) ≡ finished (built app).top.rules (walk (built app).top.rules [] nothing_held ws).held
+  pub taken : (name : Word) (ws : List Word) (rows : List Row) (p : Pending) (n : ℕ) → walk (built app).top.rules [] nothing_held ws ≡ walk_at rows p idle n
+      → settle_passes (built app).top.rules false (held_at rows p) ≡ true → walk_passes (built app).top [] (walk_at [] None idle 1) ws ≡ true
+      → takes app (name ∷ ws) ≡ true

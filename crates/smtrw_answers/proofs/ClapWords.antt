@@ -1,12 +1,10 @@
 -- The words that the definition accepts are taken by `clap`, and its matches are what they give.
-use Rattle.std.proofs.Common.{◌≡◌, ◌≤◌, ℕ, suc, ◌&&◌, Bool, true, false, cond, nat_eq, nat_le, List, [], ◌∷◌, ◌++◌, length, drop, fold, ◌⊎◌, inl, inr, Option, Some, None, Result, Ok, Err, refl, sym, ap, ◌∙◌, subst, codes, arith}
-use Rattle.std.specs.List.{starts_with, list_any}
+use Rattle.std.proofs.Common.{◌≡◌, ℕ, suc, ◌&&◌, ◌||◌, Bool, true, false, cond, nat_le, List, [], ◌∷◌, ◌++◌, length, fold, Option, Some, None, Result, Ok, Err, refl, sym, ap, ap₂, ◌∙◌, subst, codes}
+use Rattle.std.specs.List.{list_any}
 use Rattle.std.specs.Str.{bytes_eq}
 use Rattle.std.specs.Option.{is_some}
-use Rattle.std.proofs.lemmas.Slice.Eq.{bytes_eq-Decides, starts_is}
-use Rattle.std.proofs.lemmas.Bool.Decides.{Decides-eqb, nat_tests}
-use Rattle.std.proofs.lemmas.List.{length-append}
 use Rattle.clap.specs.Walk.{Row, Text, Waiting, Walk, idle, option, used, has_row, first_of, settled_rows, walked}
+use Rattle.clap.specs.Simple.{App, Shape, built}
 use Rattle.clap.specs.Takes.{settle_passes, turn_passes, walk_passes}
 use Rattle.smt_print.specs.declared.layout.Layout.{Layout}
 use Rattle.passes.specs.declared.names.Pass.{Pass}
@@ -14,66 +12,52 @@ use Rattle.passes.specs.declared.names.ListFault.{ListFault}
 use Rattle.passes.specs.declared.names.ListFault.TheVariants.{BadPass as UnknownPass, AfterRules as GroupsAfterRules}
 use Rattle.passes.specs.Lists.{pass_list, can_run}
 use Rattle.smtrw_answers.specs.declared.status.Usage.{Usage}
-use Rattle.smtrw_answers.specs.Words.{Word, Numbered, rewriting, Setting, of_passes, of_layout, of_check, settings_of, setting_among, is_dashed, Given, nothing_given, is_given, layout_named, with_passes, with_layout, value_word, with_setting, option_word, with_plain, file_word, plain_word, word_behind, words_from, and_then}
+use Rattle.smtrw_answers.specs.declared.status.Why.TheVariants.{BadValue}
+use Rattle.smtrw_answers.specs.Words.{Word, Numbered, Command, needed, Setting, of_passes, of_layout, of_check, settings_of, setting_among, is_dashed, Given, nothing_given, is_given, is_from, number_in, layout_named, with_passes, with_layout, with_check, with_value, value_word, with_setting, option_word, with_plain, file_word, of_kind, plain_word, word_behind, words_from, and_then}
+use Rattle.smtrw_answers.specs.Asking.{check_named}
 use Rattle.smtrw_answers.proofs.ClapRows.{RowAdded, row_added}
-use Rattle.smtrw_answers.proofs.ClapWalk.{plain_word_is, rules, rewrite_shape, held_at, walk_at, passes_used, layout_used, file_used, passes_attached, layout_attached, passes_begun, layout_begun, passes_attached_turn, layout_attached_turn, passes_begun_turn, layout_begun_turn, passes_value, layout_value, passes_value_turn, layout_value_turn, file_met, file_met_turn}
+use Rattle.smtrw_answers.proofs.ClapWalk.{Pending, held_at, walk_at, plain_word_is, id_of, name_of, rule_of, with_value_in, TakesOption, IsOptionWord, FilesIn, Taking}
 
 -- ---- what was given, in rows
 
+-- the value of an option, where the text of a row reads as it
+abbrev pub ValueIn : {A : Type 0} → (Text → A → Type 0) → Text → Option A → List Row → Type 0
+ValueIn Reads id None rows = has_row id rows ≡ false
+ValueIn Reads id (Some a) rows = (t : Text) × (first_of id rows ≡ Some t) × Reads t a
+
 abbrev pub PassesIn : Option (List Pass) → List Row → Type 0
-PassesIn None rows = has_row (codes "passes") rows ≡ false
-PassesIn (Some ps) rows = (t : Text) × (first_of (codes "passes") rows ≡ Some t) × (pass_list t ≡ Ok ps)
+PassesIn = ValueIn (λ t ps. pass_list t ≡ Ok ps) (id_of of_passes)
 
 abbrev pub LayoutIn : Option Layout → List Row → Type 0
-LayoutIn None rows = has_row (codes "layout") rows ≡ false
-LayoutIn (Some l) rows = (t : Text) × (first_of (codes "layout") rows ≡ Some t) × (layout_named t ≡ Some l)
+LayoutIn = ValueIn (λ t l. layout_named t ≡ Some l) (id_of of_layout)
 
-abbrev pub FileIn : List Numbered → List Row → Type 0
-FileIn [] rows = has_row (codes "file") rows ≡ false
-FileIn (f ∷ fs) rows = (fs ≡ []) × (first_of (codes "file") rows ≡ Some f.word)
+abbrev pub CheckIn : Option ℕ → List Row → Type 0
+CheckIn = ValueIn (λ t k. check_named t ≡ Some k) (id_of of_check)
 
-pub record Holds (g : Given) (rows : List Row) : Type 0 where
+pub record Holds (ids : List Text) (g : Given) (rows : List Row) : Type 0 where
   pub passes : PassesIn g.passes rows
   pub layout : LayoutIn g.layout rows
-  pub file : FileIn g.plain rows
+  pub check : CheckIn g.check rows
+  pub files : FilesIn ids g.plain rows
+
+neither : (a b : Bool) → (a || b) ≡ false → (a ≡ false) × (b ≡ false)
+neither true b e = absurd cc
+neither false b e = (refl, e)
 
 module _ {id v : Text} {old new : List Row} (added : RowAdded id v old new) where
-  passes_kept : (o : Option (List Pass)) → bytes_eq id (codes "passes") ≡ false → PassesIn o old → PassesIn o new
-  passes_kept None other none = added.has (codes "passes") other ∙ none
-  passes_kept (Some ps) other (t, found, read) = (t, added.others (codes "passes") other ∙ found, read)
+  value_kept : {A : Type 0} (Reads : Text → A → Type 0) (other : Text) (o : Option A) → bytes_eq id other ≡ false → ValueIn Reads other o old → ValueIn Reads other o new
+  value_kept Reads other None differs no_row = added.has other differs ∙ no_row
+  value_kept Reads other (Some a) differs (t, found, read) = (t, added.others other differs ∙ found, read)
 
-  layout_kept : (o : Option Layout) → bytes_eq id (codes "layout") ≡ false → LayoutIn o old → LayoutIn o new
-  layout_kept None other none = added.has (codes "layout") other ∙ none
-  layout_kept (Some l) other (t, found, read) = (t, added.others (codes "layout") other ∙ found, read)
-
-  file_kept : (fs : List Numbered) → bytes_eq id (codes "file") ≡ false → FileIn fs old → FileIn fs new
-  file_kept [] other none = added.has (codes "file") other ∙ none
-  file_kept (f ∷ fs) other (last, found) = (last, added.others (codes "file") other ∙ found)
-
--- ---- where `clap` stands behind words
-
-abbrev pub waiting_of : Option Setting → Waiting
-waiting_of None = idle
-waiting_of (Some of_passes) = option (codes "passes")
-waiting_of (Some of_layout) = option (codes "layout")
-waiting_of (Some of_check) = idle
-
-abbrev pub Stands : Option Setting → Given → List Row → Option (Text × List Text) → Type 0
-Stands None g rows p = Holds g (settled_rows rules p rows) × (settle_passes rules false (held_at rows p) ≡ true)
-Stands (Some of_passes) g rows p = (p ≡ Some (codes "passes", [])) × Holds g rows × (g.passes ≡ None)
-Stands (Some of_layout) g rows p = (p ≡ Some (codes "layout", [])) × Holds g rows × (g.layout ≡ None)
-Stands (Some of_check) g rows p = ⊥
-
-pub record Along (g : Given) (walk : Walk) : Type 0 where
-  pub rows : List Row
-  pub pending : Option (Text × List Text)
-  pub stand : walk ≡ walk_at rows pending (waiting_of g.awaited) (suc (length g.plain))
-  pub holds : Stands g.awaited g rows pending
-
--- behind one more word, which is taken
-pub record Next (g : Given) (from : Walk) (w : Word) : Type 0 where
-  pub along : Along g (walked rules [] from w)
-  pub turn : turn_passes rewrite_shape [] from w ≡ true
+  files_kept : (ids : List Text) (fs : List Numbered) → list_any (bytes_eq id) ids ≡ false → FilesIn ids fs old → FilesIn ids fs new
+  files_kept [] [] apart is = is
+  files_kept [] (f ∷ fs) apart is = absurd is
+  files_kept (other ∷ ids) [] apart is =
+      let parts = neither (bytes_eq id other) (list_any (bytes_eq id) ids) apart in
+      (added.has other parts.0 ∙ is.0, files_kept ids [] parts.1 is.1)
+  files_kept (other ∷ ids) (f ∷ fs) apart is =
+      let parts = neither (bytes_eq id other) (list_any (bytes_eq id) ids) apart in
+      (added.others other parts.0 ∙ is.0, files_kept ids fs parts.1 is.1)
 
 -- ---- what the definition makes of a word
 
@@ -93,249 +77,271 @@ with_layout_taken : (i : ℕ) (o : Option Layout) (g h : Given) → with_layout 
 with_layout_taken i (Some l) g h e = (l, refl, ok_same _ _ e)
 with_layout_taken i None g h e = absurd cc
 
+with_check_taken : (i : ℕ) (o : Option ℕ) (g h : Given) → with_check i o g ≡ Ok h
+    → (k : ℕ) × (cond (is_from 1 o) o None ≡ Some k) × (record g { check = Some k; awaited = None } ≡ h)
+with_check_taken i None g h e = absurd cc
+with_check_taken i (Some k) g h e = go (nat_le 1 k) e
+  where
+    go : (b : Bool) → cond {A = Result Given Usage} b (Ok (record g { check = Some k; awaited = None })) (Err (record { word = i; why = BadValue })) ≡ Ok h
+        → (n : ℕ) × (cond b (Some k) None ≡ Some n) × (record g { check = Some n; awaited = None } ≡ h)
+    go true is = (k, refl, ok_same _ _ is)
+    go false is = absurd cc
+
 -- ---- values
 
 given_none : {A : Type 0} (o : Option A) → is_some o ≡ false → o ≡ None
 given_none None e = refl
 given_none (Some a) e = absurd cc
 
--- the passes are v, behind rows without passes
-passes_come : (g : Given) (ps : List Pass) (v : Text) (rows : List Row) → g.passes ≡ None → Holds g rows → pass_list v ≡ Ok ps
-    → (has_row (codes "passes") rows ≡ false) × Holds (record g { passes = Some ps; awaited = None }) (used passes_used (v ∷ []) rows)
-passes_come g ps v rows none h read =
-    let no_row : has_row (codes "passes") rows ≡ false = subst (λ o. PassesIn o rows) none h.passes in
-    let added : RowAdded (codes "passes") v rows (used passes_used (v ∷ []) rows) = row_added (codes "passes") v _ rows refl no_row in
-    (no_row, record { passes = (v, added.first, read); layout = layout_kept added g.layout refl h.layout; file = file_kept added g.plain refl h.file })
+pub option_added : (s : Setting) (v : Text) (rows : List Row) → has_row (id_of s) rows ≡ false → RowAdded (id_of s) v rows (used (rule_of s) (v ∷ []) rows)
+option_added of_passes v rows no_row = row_added (codes "passes") v _ rows refl no_row
+option_added of_layout v rows no_row = row_added (codes "layout") v _ rows refl no_row
+option_added of_check v rows no_row = row_added (codes "check") v _ rows refl no_row
 
-layout_comes : (g : Given) (l : Layout) (v : Text) (rows : List Row) → g.layout ≡ None → Holds g rows → layout_named v ≡ Some l
-    → (has_row (codes "layout") rows ≡ false) × Holds (record g { layout = Some l; awaited = None }) (used layout_used (v ∷ []) rows)
-layout_comes g l v rows none h read =
-    let no_row : has_row (codes "layout") rows ≡ false = subst (λ o. LayoutIn o rows) none h.layout in
-    let added : RowAdded (codes "layout") v rows (used layout_used (v ∷ []) rows) = row_added (codes "layout") v _ rows refl no_row in
-    (no_row, record { passes = passes_kept added g.passes refl h.passes; layout = (v, added.first, read); file = file_kept added g.plain refl h.file })
+-- the option is given for the first time, behind rows without it
+pub record Comes (ids : List Text) (s : Setting) (v : Text) (g h : Given) (rows : List Row) : Type 0 where
+  pub no_row : has_row (id_of s) rows ≡ false
+  pub holds : Holds ids h (used (rule_of s) (v ∷ []) rows)
+  pub idles : h.awaited ≡ None
+  pub plain : h.plain ≡ g.plain
 
--- ---- one word
-
-module _ (i : ℕ) (w : Word) (g h : Given) (rows : List Row) where
-  passes_value_next : Holds g rows → g.passes ≡ None → value_word can_run i of_passes w g ≡ Ok h
-      → Next h (walk_at rows (Some (codes "passes", [])) (option (codes "passes")) (suc (length g.plain))) w
-  passes_value_next holds none e =
-      let taken = else_taken (is_dashed w) _ (with_passes i (pass_list w) g) h e in
-      let read = with_passes_taken i (pass_list w) g h taken.1 in
-      let come = passes_come g read.0 w rows none holds read.1 in
-      let plain = plain_word_is w taken.0 in
-      subst (λ x. Next x (walk_at rows (Some (codes "passes", [])) (option (codes "passes")) (suc (length g.plain))) w) read.2 (record {
-        along = record {
-          rows = rows;
-          pending = Some (codes "passes", w ∷ []);
-          stand = passes_value rows (suc (length g.plain)) w plain;
-          holds = (come.1, rw come.0 refl);
-        };
-        turn = passes_value_turn rows (suc (length g.plain)) w plain;
-      })
-
-  layout_value_next : Holds g rows → g.layout ≡ None → value_word can_run i of_layout w g ≡ Ok h
-      → Next h (walk_at rows (Some (codes "layout", [])) (option (codes "layout")) (suc (length g.plain))) w
-  layout_value_next holds none e =
-      let taken = else_taken (is_dashed w) _ (with_layout i (layout_named w) g) h e in
-      let read = with_layout_taken i (layout_named w) g h taken.1 in
-      let come = layout_comes g read.0 w rows none holds read.1 in
-      let plain = plain_word_is w taken.0 in
-      subst (λ x. Next x (walk_at rows (Some (codes "layout", [])) (option (codes "layout")) (suc (length g.plain))) w) read.2 (record {
-        along = record {
-          rows = rows;
-          pending = Some (codes "layout", w ∷ []);
-          stand = layout_value rows (suc (length g.plain)) w plain;
-          holds = (come.1, rw come.0 refl);
-        };
-        turn = layout_value_turn rows (suc (length g.plain)) w plain;
-      })
-
--- ---- options
-
-behind_name : (name w : Word) → starts_with nat_eq w (name ++ codes "=") ≡ true → w ≡ (name ++ codes "=") ++ drop (suc (length name)) w
-behind_name name w starts =
-    let longer : length (name ++ codes "=") ≡ suc (length name) = let n = length-append name (codes "=") in omega (arith, n) in
-    (starts_is Decides-eqb w (name ++ codes "=") _ refl).0 starts ∙ ap (λ n. (name ++ codes "=") ++ drop n w) longer
-
--- the word is an option of this name, or the rest has it
-one_option : (name : Word) (s : Setting) (w : Word) (rest : Option (Setting × Option Word)) (o : Setting × Option Word)
-    → cond (bytes_eq w name) (Some (s, None)) (cond (starts_with nat_eq w (name ++ codes "=")) (Some (s, Some (drop (suc (length name)) w))) rest) ≡ Some o
-    → ((o ≡ (s, None)) × (w ≡ name)) ⊎ ((v : Word) × (o ≡ (s, Some v)) × (w ≡ (name ++ codes "=") ++ v)) ⊎ (rest ≡ Some o)
-one_option name s w rest o e = go (bytes_eq w name) refl (starts_with nat_eq w (name ++ codes "=")) refl e
-  where
-    go : (b : Bool) → bytes_eq w name ≡ b → (c : Bool) → starts_with nat_eq w (name ++ codes "=") ≡ c
-        → cond b (Some (s, None)) (cond c (Some (s, Some (drop (suc (length name)) w))) rest) ≡ Some o
-        → ((o ≡ (s, None)) × (w ≡ name)) ⊎ ((v : Word) × (o ≡ (s, Some v)) × (w ≡ (name ++ codes "=") ++ v)) ⊎ (rest ≡ Some o)
-    go true same c starts is = inl (cc, (bytes_eq-Decides w name).0 same)
-    go false same true starts is = inr (inl (drop (suc (length name)) w, cc, behind_name name w starts))
-    go false same false starts is = inr (inr is)
-
-module _ (i : ℕ) (w : Word) (g h : Given) (rows : List Row) (p : Option (Text × List Text)) where
-  abbrev here : Walk
-  here = walk_at rows p idle (suc (length g.plain))
-
-  abbrev StandsHere : Type 0
-  StandsHere = Holds g (settled_rows rules p rows) × (settle_passes rules false (held_at rows p) ≡ true)
-
-  passes_begun_next : StandsHere → g.passes ≡ None → record g { awaited = Some of_passes } ≡ h → Next h here (codes "--passes")
-  passes_begun_next stands none is = subst (λ x. Next x here (codes "--passes")) is (record {
-    along = record {
-      rows = settled_rows rules p rows;
-      pending = Some (codes "passes", []);
-      stand = passes_begun rows p (suc (length g.plain));
-      holds = (refl, record { passes = stands.0.passes; layout = stands.0.layout; file = stands.0.file }, none);
-    };
-    turn = passes_begun_turn rows p (suc (length g.plain)) stands.1;
-  })
-
-  layout_begun_next : StandsHere → g.layout ≡ None → record g { awaited = Some of_layout } ≡ h → Next h here (codes "--layout")
-  layout_begun_next stands none is = subst (λ x. Next x here (codes "--layout")) is (record {
-    along = record {
-      rows = settled_rows rules p rows;
-      pending = Some (codes "layout", []);
-      stand = layout_begun rows p (suc (length g.plain));
-      holds = (refl, record { passes = stands.0.passes; layout = stands.0.layout; file = stands.0.file }, none);
-    };
-    turn = layout_begun_turn rows p (suc (length g.plain)) stands.1;
-  })
-
-  passes_attached_next : (v : Word) → StandsHere → g.passes ≡ None → with_passes i (pass_list v) g ≡ Ok h → Next h here (codes "--passes=" ++ v)
-  passes_attached_next v stands none e =
+module _ (ids : List Text) (i : ℕ) (v : Text) (g h : Given) (rows : List Row) (holds : Holds ids g rows) where
+  passes_come : list_any (bytes_eq (id_of of_passes)) ids ≡ false → is_some g.passes ≡ false → with_passes i (pass_list v) g ≡ Ok h → Comes ids of_passes v g h rows
+  passes_come apart new e =
       let read = with_passes_taken i (pass_list v) g h e in
-      let come = passes_come g read.0 v (settled_rows rules p rows) none stands.0 read.1 in
-      subst (λ x. Next x here (codes "--passes=" ++ v)) read.2 (record {
-        along = record {
-          rows = used passes_used (v ∷ []) (settled_rows rules p rows);
-          pending = None;
-          stand = passes_attached rows p (suc (length g.plain)) v;
-          holds = (come.1, refl);
+      let no_row : has_row (codes "passes") rows ≡ false = subst (λ o. PassesIn o rows) (given_none g.passes new) holds.passes in
+      let added = option_added of_passes v rows no_row in
+      subst (λ x. Comes ids of_passes v g x rows) read.2 (record {
+        no_row = no_row;
+        holds = record {
+          passes = (v, added.first, read.1);
+          layout = value_kept added _ (codes "layout") g.layout refl holds.layout;
+          check = value_kept added _ (codes "check") g.check refl holds.check;
+          files = files_kept added ids g.plain apart holds.files;
         };
-        turn = passes_attached_turn rows p (suc (length g.plain)) v stands.1 come.0;
+        idles = refl;
+        plain = refl;
       })
 
-  layout_attached_next : (v : Word) → StandsHere → g.layout ≡ None → with_layout i (layout_named v) g ≡ Ok h → Next h here (codes "--layout=" ++ v)
-  layout_attached_next v stands none e =
+  layout_comes : list_any (bytes_eq (id_of of_layout)) ids ≡ false → is_some g.layout ≡ false → with_layout i (layout_named v) g ≡ Ok h → Comes ids of_layout v g h rows
+  layout_comes apart new e =
       let read = with_layout_taken i (layout_named v) g h e in
-      let come = layout_comes g read.0 v (settled_rows rules p rows) none stands.0 read.1 in
-      subst (λ x. Next x here (codes "--layout=" ++ v)) read.2 (record {
-        along = record {
-          rows = used layout_used (v ∷ []) (settled_rows rules p rows);
-          pending = None;
-          stand = layout_attached rows p (suc (length g.plain)) v;
-          holds = (come.1, refl);
+      let no_row : has_row (codes "layout") rows ≡ false = subst (λ o. LayoutIn o rows) (given_none g.layout new) holds.layout in
+      let added = option_added of_layout v rows no_row in
+      subst (λ x. Comes ids of_layout v g x rows) read.2 (record {
+        no_row = no_row;
+        holds = record {
+          passes = value_kept added _ (codes "passes") g.passes refl holds.passes;
+          layout = (v, added.first, read.1);
+          check = value_kept added _ (codes "check") g.check refl holds.check;
+          files = files_kept added ids g.plain apart holds.files;
         };
-        turn = layout_attached_turn rows p (suc (length g.plain)) v stands.1 come.0;
+        idles = refl;
+        plain = refl;
       })
 
-  -- what a used option gives
-  abbrev setting_taken : Setting × Option Word → Type 0
-  setting_taken o = (is_given o.0 g ≡ false) × (with_setting can_run i o.0 o.1 g ≡ Ok h)
-
-  option_met_next : StandsHere → (o : Setting × Option Word) → setting_among (settings_of rewriting) w ≡ Some o → setting_taken o → Next h here w
-  option_met_next stands o among taken = elim (one_option (codes "--passes") of_passes w _ o among) [
-    | inl found ↦
-        let t = subst setting_taken found.0 taken in
-        subst (Next h here) (sym found.1) (passes_begun_next stands (given_none g.passes t.0) (ok_same _ _ t.1))
-    | inr (inl found) ↦
-        let t = subst setting_taken found.1 taken in
-        subst (Next h here) (sym found.2) (passes_attached_next found.0 stands (given_none g.passes t.0) t.1)
-    | inr (inr later) ↦ elim (one_option (codes "--layout") of_layout w None o later) [
-      | inl found ↦
-          let t = subst setting_taken found.0 taken in
-          subst (Next h here) (sym found.1) (layout_begun_next stands (given_none g.layout t.0) (ok_same _ _ t.1))
-      | inr (inl found) ↦
-          let t = subst setting_taken found.1 taken in
-          subst (Next h here) (sym found.2) (layout_attached_next found.0 stands (given_none g.layout t.0) t.1)
-      | inr (inr none) ↦ absurd cc
-    ]
-  ]
-
-  option_next : StandsHere → option_word can_run i (setting_among (settings_of rewriting) w) g ≡ Ok h → Next h here w
-  option_next stands e = go (setting_among (settings_of rewriting) w) refl e
-    where
-      go : (o : Option (Setting × Option Word)) → setting_among (settings_of rewriting) w ≡ o → option_word can_run i o g ≡ Ok h → Next h here w
-      go None among is = absurd cc
-      go (Some o) among is = option_met_next stands o among (else_taken (is_given o.0 g) _ (with_setting can_run i o.0 o.1 g) h is)
-
--- ---- the file
-
--- a file comes behind no other
-file_taken : (i : ℕ) (w : Word) (g h : Given) → plain_word rewriting i w g ≡ Ok h
-    → (g.plain ≡ []) × (record g { plain = g.plain ++ record { number = i; word = w } ∷ [] } ≡ h)
-file_taken i [] g h e = absurd cc
-file_taken i (b ∷ bs) g h e =
-    let room = else_taken (nat_le 1 (length g.plain)) _ (file_word i (b ∷ bs) g) h e in
-    let taken = else_taken (bytes_eq (b ∷ bs) (codes "-") && list_any (λ f. bytes_eq f.word (codes "-")) g.plain) _ (with_plain i (b ∷ bs) g) h room.1 in
-    (go g.plain room.0, ok_same _ _ taken.1)
-  where
-    go : (fs : List Numbered) → nat_le 1 (length fs) ≡ false → fs ≡ []
-    go [] none = refl
-    go (f ∷ fs) none = let some : 1 ≤ suc (length fs) = omega arith in absurd (grind (arith, nat_tests))
-
-module _ (i : ℕ) (w : Word) (g h : Given) (rows : List Row) (p : Option (Text × List Text)) where
-  file_next : Holds g (settled_rows rules p rows) × (settle_passes rules false (held_at rows p) ≡ true) → g.awaited ≡ None → is_dashed w ≡ false
-      → plain_word rewriting i w g ≡ Ok h → Next h (walk_at rows p idle (suc (length g.plain))) w
-  file_next stands idles plain e =
-      let taken = file_taken i w g h e in
-      let before : List Row = settled_rows rules p rows in
-      let no_row : has_row (codes "file") before ≡ false = subst (λ fs. FileIn fs before) taken.0 stands.0.file in
-      let added : RowAdded (codes "file") w before (used file_used (w ∷ []) before) = row_added (codes "file") w _ before refl no_row in
-      let is = plain_word_is w plain in
-      let file : Numbered = record { number = i; word = w } in
-      let StandAt : List Numbered → Type 0 = λ fs. walked rules [] (walk_at rows p idle (suc (length fs))) w ≡ walk_at before (Some (codes "file", w ∷ [])) idle (suc (length (fs ++ file ∷ []))) in
-      let TurnAt : List Numbered → Type 0 = λ fs. turn_passes rewrite_shape [] (walk_at rows p idle (suc (length fs))) w ≡ true in
-      let FileAt : List Numbered → Type 0 = λ fs. FileIn (fs ++ file ∷ []) (used file_used (w ∷ []) before) in
-      let StandsAt : Option Setting → Type 0 = λ s. Stands s (record g { plain = g.plain ++ file ∷ [] }) before (Some (codes "file", w ∷ [])) in
-      let stand : StandAt g.plain = subst StandAt (sym taken.0) (file_met rows 1 w is p) in
-      subst (λ x. Next x (walk_at rows p idle (suc (length g.plain))) w) taken.1 (record {
-        along = record {
-          rows = before;
-          pending = Some (codes "file", w ∷ []);
-          stand = stand ∙ ap (λ s. walk_at before (Some (codes "file", w ∷ [])) (waiting_of s) (suc (length (g.plain ++ file ∷ [])))) (sym idles);
-          holds = subst StandsAt (sym idles) (
-            record { passes = passes_kept added g.passes refl stands.0.passes; layout = layout_kept added g.layout refl stands.0.layout; file = subst FileAt (sym taken.0) (refl, added.first) },
-            rw no_row refl,
-          );
+  check_comes : list_any (bytes_eq (id_of of_check)) ids ≡ false → is_some g.check ≡ false → with_check i (number_in v) g ≡ Ok h → Comes ids of_check v g h rows
+  check_comes apart new e =
+      let read = with_check_taken i (number_in v) g h e in
+      let no_row : has_row (codes "check") rows ≡ false = subst (λ o. CheckIn o rows) (given_none g.check new) holds.check in
+      let added = option_added of_check v rows no_row in
+      subst (λ x. Comes ids of_check v g x rows) read.2 (record {
+        no_row = no_row;
+        holds = record {
+          passes = value_kept added _ (codes "passes") g.passes refl holds.passes;
+          layout = value_kept added _ (codes "layout") g.layout refl holds.layout;
+          check = (v, added.first, read.1);
+          files = files_kept added ids g.plain apart holds.files;
         };
-        turn = subst TurnAt (sym taken.0) (file_met_turn rows 1 w is p stands.1);
+        idles = refl;
+        plain = refl;
       })
 
--- ---- word by word
+  value_comes : (s : Setting) → list_any (bytes_eq (id_of s)) ids ≡ false → is_given s g ≡ false → with_value can_run i s v g ≡ Ok h → Comes ids s v g h rows
+  value_comes of_passes apart new e = passes_come apart new e
+  value_comes of_layout apart new e = layout_comes apart new e
+  value_comes of_check apart new e = check_comes apart new e
 
-next_at : (i : ℕ) (w : Word) (g h : Given) (rows : List Row) (p : Option (Text × List Text)) (s : Option Setting) → g.awaited ≡ s → Stands s g rows p
-    → word_behind can_run rewriting i w g s ≡ Ok h → Next h (walk_at rows p (waiting_of s) (suc (length g.plain))) w
-next_at i w g h rows p None idles stands e = go (is_dashed w) refl e
-  where
-    go : (b : Bool) → is_dashed w ≡ b → cond b (option_word can_run i (setting_among (settings_of rewriting) w) g) (plain_word rewriting i w g) ≡ Ok h
-        → Next h (walk_at rows p idle (suc (length g.plain))) w
-    go true dashed is = option_next i w g h rows p stands is
-    go false plain is = file_next i w g h rows p stands idles plain is
-next_at i w g h rows p (Some of_passes) awaits stands e =
-    subst (λ q. Next h (walk_at rows q (option (codes "passes")) (suc (length g.plain))) w) (sym stands.0) (passes_value_next i w g h rows stands.1 stands.2 e)
-next_at i w g h rows p (Some of_layout) awaits stands e =
-    subst (λ q. Next h (walk_at rows q (option (codes "layout")) (suc (length g.plain))) w) (sym stands.0) (layout_value_next i w g h rows stands.1 stands.2 e)
-next_at i w g h rows p (Some of_check) awaits stands e = absurd stands
+-- ---- where `clap` stands behind words
 
-next_along : (i : ℕ) (w : Word) (g h : Given) (walk : Walk) → Along g walk → word_behind can_run rewriting i w g g.awaited ≡ Ok h → Next h walk w
-next_along i w g h walk a e = subst (λ x. Next h x w) (sym a.stand) (next_at i w g h a.rows a.pending g.awaited refl a.holds e)
+abbrev pub waiting_of : Option Setting → Waiting
+waiting_of None = idle
+waiting_of (Some s) = option (id_of s)
+
+abbrev pub Stands : Shape → List Text → Option Setting → Given → List Row → Pending → Type 0
+Stands shape ids None g rows p = Holds ids g (settled_rows shape.rules p rows) × (settle_passes shape.rules false (held_at rows p) ≡ true)
+Stands shape ids (Some s) g rows p = (p ≡ Some (id_of s, [])) × Holds ids g rows × (is_given s g ≡ false) × TakesOption shape s
+
+pub record Along (shape : Shape) (ids : List Text) (g : Given) (walk : Walk) : Type 0 where
+  pub rows : List Row
+  pub pending : Pending
+  pub stand : walk ≡ walk_at rows pending (waiting_of g.awaited) (suc (length g.plain))
+  pub holds : Stands shape ids g.awaited g rows pending
+
+-- behind one more word, which is taken
+pub record Next (shape : Shape) (ids : List Text) (g : Given) (from : Walk) (w : Word) : Type 0 where
+  pub along : Along shape ids g (walked shape.rules [] from w)
+  pub turn : turn_passes shape [] from w ≡ true
 
 pub and_then_ok : {A B : Type 0} (next : A → Result B Usage) (r : Result A Usage) (b : B) → and_then next r ≡ Ok b → (a : A) × (r ≡ Ok a) × (next a ≡ Ok b)
 and_then_ok next (Ok a) b e = (a, refl, e)
 and_then_ok next (Err fault) b e = absurd cc
 
-pub record AlongAll (g : Given) (from : Walk) (ws : List Word) : Type 0 where
-  pub along : Along g (fold (walked rules []) from ws)
-  pub passes : walk_passes rewrite_shape [] from ws ≡ true
+-- all words are taken
+pub record AlongAll (shape : Shape) (ids : List Text) (g : Given) (from : Walk) (ws : List Word) : Type 0 where
+  pub along : Along shape ids g (fold (walked shape.rules []) from ws)
+  pub passes : walk_passes shape [] from ws ≡ true
 
-pub along_all : (i : ℕ) (ws : List Word) (g h : Given) (walk : Walk) → Along g walk → words_from can_run rewriting i ws g ≡ Ok h → AlongAll h walk ws
-unfolding walk_passes
-along_all i [] g h walk a e = record { along = subst (λ x. Along x walk) (ok_same g h e) a; passes = refl }
-along_all i (w ∷ ws) g h walk a e =
-    let step = and_then_ok (words_from can_run rewriting (suc i) ws) (word_behind can_run rewriting i w g g.awaited) h e in
-    let next = next_along i w g step.0 walk a step.1 in
-    let rest = along_all (suc i) ws step.0 h (walked rules [] walk w) next.along step.2 in
-    record { along = rest.along; passes = ap (λ b. b && walk_passes rewrite_shape [] (walked rules [] walk w) ws) next.turn ∙ rest.passes }
+module _ (c : Command) (app : App) (ids : List Text) (t : Taking (settings_of c) (needed c) app ids) (files : (i : ℕ) (w : Word) (g : Given) → of_kind c i w g ≡ file_word i w g) where
+  abbrev shape : Shape
+  shape = (built app).top
 
-pub nothing_along : Along nothing_given (walk_at [] None idle 1)
-nothing_along = record { rows = []; pending = None; stand = refl; holds = (record { passes = refl; layout = refl; file = refl }, refl) }
+  abbrev Follows : Given → Walk → Word → Type 0
+  Follows = Next shape ids
+
+  -- ---- options
+
+  -- the walk behind a value: nothing is awaited, and the files are those from before
+  behind_value : (g h : Given) (rows : List Row) (p : Pending) → h.awaited ≡ None → h.plain ≡ g.plain
+      → walk_at rows p idle (suc (length g.plain)) ≡ walk_at rows p (waiting_of h.awaited) (suc (length h.plain))
+  behind_value g h rows p idles plain = ap₂ (λ s fs. walk_at rows p (waiting_of s) (suc (length fs))) (sym idles) (sym plain)
+
+  stands_idle : (h : Given) (rows : List Row) (p : Pending) → h.awaited ≡ None → Stands shape ids None h rows p → Stands shape ids h.awaited h rows p
+  stands_idle h rows p idles stands = subst (λ s. Stands shape ids s h rows p) (sym idles) stands
+
+  value_next : (i : ℕ) (w : Word) (g h : Given) (rows : List Row) (s : Setting) → TakesOption shape s → Holds ids g rows → is_given s g ≡ false → value_word can_run i s w g ≡ Ok h
+      → Follows h (walk_at rows (Some (id_of s, [])) (option (id_of s)) (suc (length g.plain))) w
+  value_next i w g h rows s takes holds new e =
+      let taken = else_taken (is_dashed w) _ (with_value can_run i s w g) h e in
+      let come = value_comes ids i w g h rows holds s (t.apart s) new taken.1 in
+      let plain = plain_word_is w taken.0 in
+      record {
+        along = record {
+          rows = rows;
+          pending = Some (id_of s, w ∷ []);
+          stand = takes.value rows (suc (length g.plain)) w plain ∙ behind_value g h rows (Some (id_of s, w ∷ [])) come.idles come.plain;
+          holds = stands_idle h rows (Some (id_of s, w ∷ [])) come.idles (subst (Holds ids h) (sym (takes.settled rows w)) come.holds, takes.settles rows w come.no_row);
+        };
+        turn = takes.value_turn rows (suc (length g.plain)) w plain;
+      }
+
+  module _ (i : ℕ) (w : Word) (g h : Given) (rows : List Row) (p : Pending) (stands : Stands shape ids None g rows p) where
+    abbrev here : Walk
+    here = walk_at rows p idle (suc (length g.plain))
+
+    begun_next : (s : Setting) → TakesOption shape s → is_given s g ≡ false → record g { awaited = Some s } ≡ h → Follows h here (name_of s)
+    begun_next s takes new is = subst (λ x. Follows x here (name_of s)) is (record {
+      along = record {
+        rows = settled_rows shape.rules p rows;
+        pending = Some (id_of s, []);
+        stand = takes.begun rows p (suc (length g.plain));
+        holds = (refl, record { passes = stands.0.passes; layout = stands.0.layout; check = stands.0.check; files = stands.0.files }, same_given s new, takes);
+      };
+      turn = takes.begun_turn rows p (suc (length g.plain)) stands.1;
+    })
+      where
+        same_given : (s : Setting) → is_given s g ≡ false → is_given s (record g { awaited = Some s }) ≡ false
+        same_given of_passes e = e
+        same_given of_layout e = e
+        same_given of_check e = e
+
+    attached_next : (s : Setting) (v : Word) → TakesOption shape s → is_given s g ≡ false → with_value can_run i s v g ≡ Ok h → Follows h here (with_value_in s v)
+    attached_next s v takes new e =
+        let before : List Row = settled_rows shape.rules p rows in
+        let come = value_comes ids i v g h before stands.0 s (t.apart s) new e in
+        let behind : List Row = used (rule_of s) (v ∷ []) before in
+        record {
+          along = record {
+            rows = behind;
+            pending = None;
+            stand = takes.attached rows p (suc (length g.plain)) v ∙ behind_value g h behind None come.idles come.plain;
+            holds = stands_idle h behind None come.idles (come.holds, refl);
+          };
+          turn = takes.attached_turn rows p (suc (length g.plain)) v stands.1 come.no_row;
+        }
+
+    option_met_next : (o : Setting × Option Word) → IsOptionWord o w → TakesOption shape o.0 → is_given o.0 g ≡ false → with_setting can_run i o.0 o.1 g ≡ Ok h → Follows h here w
+    option_met_next (s, None) is takes new e = subst (Follows h here) (sym is) (begun_next s takes new (ok_same _ _ e))
+    option_met_next (s, Some v) is takes new e = subst (Follows h here) (sym is) (attached_next s v takes new e)
+
+    option_next : option_word can_run i (setting_among (settings_of c) w) g ≡ Ok h → Follows h here w
+    option_next e = go (setting_among (settings_of c) w) refl e
+      where
+        go : (o : Option (Setting × Option Word)) → setting_among (settings_of c) w ≡ o → option_word can_run i o g ≡ Ok h → Follows h here w
+        go None among is = absurd cc
+        go (Some o) among is =
+            let met = t.options w o among in
+            let taken = else_taken (is_given o.0 g) _ (with_setting can_run i o.0 o.1 g) h is in
+            option_met_next o met.0 met.1 taken.0 taken.1
+
+  -- ---- files
+
+  file_taken : (i : ℕ) (w : Word) (g h : Given) → plain_word c i w g ≡ Ok h
+      → (nat_le (needed c) (length g.plain) ≡ false) × (record g { plain = g.plain ++ record { number = i; word = w } ∷ [] } ≡ h)
+  file_taken i [] g h e = absurd cc
+  file_taken i (b ∷ bs) g h e =
+      let room = else_taken (nat_le (needed c) (length g.plain)) _ (of_kind c i (b ∷ bs) g) h e in
+      let word : file_word i (b ∷ bs) g ≡ Ok h = sym (files i (b ∷ bs) g) ∙ room.1 in
+      let taken = else_taken (bytes_eq (b ∷ bs) (codes "-") && list_any (λ f. bytes_eq f.word (codes "-")) g.plain) _ (with_plain i (b ∷ bs) g) h word in
+      (room.0, ok_same _ _ taken.1)
+
+  file_next : (i : ℕ) (w : Word) (g h : Given) (rows : List Row) (p : Pending) → Stands shape ids None g rows p → g.awaited ≡ None → is_dashed w ≡ false
+      → plain_word c i w g ≡ Ok h → Follows h (walk_at rows p idle (suc (length g.plain))) w
+  file_next i w g h rows p stands idles plain e =
+      let taken = file_taken i w g h e in
+      let place = t.place g.plain taken.0 in
+      let before : List Row = settled_rows shape.rules p rows in
+      let file : Numbered = record { number = i; word = w } in
+      let given : Given = record g { plain = g.plain ++ file ∷ [] } in
+      let pending : Pending = Some (place.id, w ∷ []) in
+      let no_row = place.free before stands.0.files in
+      let added = place.added before w no_row in
+      let is = plain_word_is w plain in
+      let holds : Holds ids given (settled_rows shape.rules pending before) = record {
+        passes = value_kept added _ (codes "passes") g.passes (place.apart of_passes) stands.0.passes;
+        layout = value_kept added _ (codes "layout") g.layout (place.apart of_layout) stands.0.layout;
+        check = value_kept added _ (codes "check") g.check (place.apart of_check) stands.0.check;
+        files = place.put file before _ added stands.0.files;
+      } in
+      let count : suc (length g.plain) ≡ length (g.plain ++ file ∷ []) = one_more g.plain file in
+      subst (λ x. Follows x (walk_at rows p idle (suc (length g.plain))) w) taken.1 (record {
+        along = record {
+          rows = before;
+          pending = pending;
+          stand = place.met rows p w is ∙ ap₂ (λ s n. walk_at before pending (waiting_of s) (suc n)) (sym idles) count;
+          holds = stands_idle given before pending idles (holds, place.settles before w no_row);
+        };
+        turn = place.turn rows p w is stands.1;
+      })
+    where
+      one_more : (fs : List Numbered) (f : Numbered) → suc (length fs) ≡ length (fs ++ f ∷ [])
+      one_more [] f = refl
+      one_more (x ∷ fs) f = ap suc (one_more fs f)
+
+  -- ---- word by word
+
+  next_at : (i : ℕ) (w : Word) (g h : Given) (rows : List Row) (p : Pending) (s : Option Setting) → g.awaited ≡ s → Stands shape ids s g rows p
+      → word_behind can_run c i w g s ≡ Ok h → Follows h (walk_at rows p (waiting_of s) (suc (length g.plain))) w
+  next_at i w g h rows p None idles stands e = go (is_dashed w) refl e
+    where
+      go : (b : Bool) → is_dashed w ≡ b → cond b (option_word can_run i (setting_among (settings_of c) w) g) (plain_word c i w g) ≡ Ok h
+          → Follows h (walk_at rows p idle (suc (length g.plain))) w
+      go true dashed is = option_next i w g h rows p stands is
+      go false plain is = file_next i w g h rows p stands idles plain is
+  next_at i w g h rows p (Some s) awaits stands e =
+      subst (λ q. Follows h (walk_at rows q (option (id_of s)) (suc (length g.plain))) w) (sym stands.0) (value_next i w g h rows s stands.3 stands.1 stands.2 e)
+
+  next_along : (i : ℕ) (w : Word) (g h : Given) (walk : Walk) → Along shape ids g walk → word_behind can_run c i w g g.awaited ≡ Ok h → Follows h walk w
+  next_along i w g h walk a e = subst (λ x. Follows h x w) (sym a.stand) (next_at i w g h a.rows a.pending g.awaited refl a.holds e)
+
+  pub along_all : (i : ℕ) (ws : List Word) (g h : Given) (walk : Walk) → Along shape ids g walk → words_from can_run c i ws g ≡ Ok h → AlongAll shape ids h walk ws
+  unfolding walk_passes
+  along_all i [] g h walk a e = record { along = subst (λ x. Along shape ids x walk) (ok_same g h e) a; passes = refl }
+  along_all i (w ∷ ws) g h walk a e =
+      let step = and_then_ok (words_from can_run c (suc i) ws) (word_behind can_run c i w g g.awaited) h e in
+      let next = next_along i w g step.0 walk a step.1 in
+      let rest = along_all (suc i) ws step.0 h (walked shape.rules [] walk w) next.along step.2 in
+      record { along = rest.along; passes = ap (λ b. b && walk_passes shape [] (walked shape.rules [] walk w) ws) next.turn ∙ rest.passes }
+
+  pub nothing_along : Along shape ids nothing_given (walk_at [] None idle 1)
+  nothing_along = record { rows = []; pending = None; stand = refl; holds = (record { passes = refl; layout = refl; check = refl; files = t.no_files }, refl) }

@@ -6,9 +6,11 @@ use Rattle.std.proofs.lemmas.List.{drop_all, get_or-map, length-map}
 use Rattle.passes.specs.Lists.{can_run}
 use Rattle.smtrw_answers.specs.declared.status.Usage.{Usage}
 use Rattle.smtrw_answers.specs.declared.grammar.Seen.{Seen}
+use Rattle.smtrw_answers.specs.declared.grammar.Files.{Files}
+use Rattle.smtrw_answers.specs.declared.grammar.Files.TheVariants.{Absent, One, Two}
 use Rattle.smtrw_answers.specs.declared.grammar.Plan.{Plan}
 use Rattle.smtrw_answers.specs.Words.{Word, Command, Given, nothing_given, word_behind, words_from, and_then, at_end, asked_of, Asked, asked, command_if, command_named, stands}
-use Rattle.smtrw_answers.specs.Asking.{Agrees, EndFits, StepFits, most_words, one_if}
+use Rattle.smtrw_answers.specs.Asking.{Agrees, EndFits, StepFits, file_count, most_words, one_if}
 
 -- the first k words were accepted
 pub record Met (c : Command) (ws : List Word) (k : ℕ) (s : Seen) : Type 0 where
@@ -18,17 +20,22 @@ pub record Met (c : Command) (ws : List Word) (k : ℕ) (s : Seen) : Type 0 wher
   pub few : k ≤ most_words s
 
 abbrev nothing_seen : Seen
-nothing_seen = record { passes = false; layout = false; file = None; awaited = None }
+nothing_seen = record { passes = false; layout = false; check = false; files = Absent; reads_input = false; awaited = None }
 
 pub none_met : (c : Command) (ws : List Word) → Met c ws 0 nothing_seen
-none_met c ws = record { given = nothing_given; agrees = record { passes = refl; layout = refl; plain = refl; awaited = refl; new = tt }; rest = refl; few = omega arith }
+none_met c ws = record { given = nothing_given; agrees = record { passes = refl; layout = refl; check = refl; plain = refl; input = refl; awaited = refl; new = tt }; rest = refl; few = omega arith }
 
 one_few : (b : Bool) → one_if b ≤ 1
 one_few true = omega arith
 one_few false = omega arith
 
-pub most_few : (s : Seen) → most_words s ≤ 6
-most_few s = omega (arith, one_few s.passes, one_few s.layout, one_few (is_some s.file), one_few (is_some s.awaited))
+files_few : (fs : Files) → file_count fs ≤ 2
+files_few Absent = omega arith
+files_few (One i) = omega arith
+files_few (Two i j) = omega arith
+
+pub most_few : (s : Seen) → most_words s ≤ 9
+most_few s = omega (arith, one_few s.passes, one_few s.layout, one_few s.check, files_few s.files, one_few (is_some s.awaited))
 
 module _ (c : Command) (ws : List Word) (k : ℕ) (s : Seen) (w : Word) (lt : k < length ws) (at : w ≡ get_or ws k w) (m : Met c ws k s) where
   here : words_from can_run c 2 ws nothing_given ≡ and_then (words_from can_run c (suc (k + 2)) (drop (suc k) ws)) (word_behind can_run c (k + 2) w m.given m.given.awaited)

@@ -1,12 +1,13 @@
 -- What the program's code answers to its words.
-use Rattle.std.specs.Prelude.{◌≡◌, Result, Ok, Err, IsOk}
+use Rattle.std.specs.Prelude.{◌≡◌, ℕ, Result, Ok, Err, IsOk}
 use Rattle.smtrw_answers.specs.declared.status.Usage.{Usage as UsageFault}
 use Rattle.smtrw_answers.specs.declared.words.File.{File}
 use Rattle.smtrw_answers.specs.declared.words.Asked.{Asked}
-use Rattle.smtrw_answers.specs.declared.words.Asked.TheVariants.{Rewrite, Stats}
+use Rattle.smtrw_answers.specs.declared.words.Asked.TheVariants.{Rewrite, Translate, Extend, Stats}
+use Rattle.smtrw_answers.specs.declared.words.Carried.{Carried}
 use Rattle.smtrw_answers.specs.declared.words.WordsFault.{WordsFault}
 use Rattle.smtrw_answers.specs.declared.words.WordsFault.TheVariants.{Usage, Memory}
-use Rattle.smtrw_answers.specs.Words.{Numbered, Asked as AskedFor, rewrite, stats}
+use Rattle.smtrw_answers.specs.Words.{Numbered, Asked as AskedFor, rewrite, translate, extend, stats}
 
 -- the word of a file, with its number
 abbrev pub numbered : File → Numbered
@@ -15,6 +16,8 @@ numbered f = record { number = f.word; word = f.name.now }
 -- what the code says is asked for, in the definition's words
 abbrev pub asked_seen : Asked → AskedFor
 asked_seen (Rewrite ps l f) = rewrite ps l (numbered f)
+asked_seen (Translate ps k s m) = translate ps k (numbered s) (numbered m)
+asked_seen (Extend ps k s m) = extend ps k (numbered s) (numbered m)
 asked_seen (Stats f) = stats (numbered f)
 
 -- exactly what is asked for, or exactly the first fault; memory may be wanting only where there is no fault
@@ -22,3 +25,22 @@ abbrev pub Answers : Result AskedFor UsageFault → Result Asked WordsFault → 
 Answers r (Ok a) = r ≡ Ok (asked_seen a)
 Answers r (Err (Usage u)) = r ≡ Err u
 Answers r (Err Memory) = IsOk r
+
+-- ---- what `translate` and `extend` have in common
+
+-- the numbers of the words of the script and of the model
+abbrev pub CarriesFiles : ℕ → ℕ → Result AskedFor UsageFault → Type 0
+CarriesFiles script model (Ok (translate ps k s m)) = (s.number ≡ script) × (m.number ≡ model)
+CarriesFiles script model (Ok (extend ps k s m)) = (s.number ≡ script) × (m.number ≡ model)
+CarriesFiles script model _ = ⊥
+
+abbrev pub IsCarried : AskedFor → Carried → Type 0
+IsCarried (translate ps k s m) c = (ps ≡ c.passes) × (k ≡ c.check) × (s ≡ numbered c.script) × (m ≡ numbered c.model)
+IsCarried (extend ps k s m) c = (ps ≡ c.passes) × (k ≡ c.check) × (s ≡ numbered c.script) × (m ≡ numbered c.model)
+IsCarried _ c = ⊥
+
+-- exactly the values of the words, or want of memory
+abbrev pub GivesCarried : Result AskedFor UsageFault → Result Carried WordsFault → Type 0
+GivesCarried (Ok a) (Ok c) = IsCarried a c
+GivesCarried (Ok a) (Err e) = e ≡ Memory
+GivesCarried (Err u) r = ⊥

@@ -1,6 +1,7 @@
 -- What the program's code makes of its words.
-use Rattle.std.specs.Prelude.{◌≡◌, ℕ, ◌+◌, ◌*◌, ◌≤◌, Bool, true, false, Result, Ok, Err, Option, Some, None, is_some, option_map, List, [], ◌∷◌, codes}
+use Rattle.std.specs.Prelude.{◌≡◌, ℕ, ◌+◌, ◌*◌, ◌≤◌, Bool, true, false, nat_le, if◌then◌else◌, Result, Ok, Err, Option, Some, None, is_some, option_map, List, [], ◌∷◌, ◌++◌, length, codes, bytes_eq}
 use Rattle.std.specs.Borrow.{Bor}
+use Rattle.std.specs.List.{list_any}
 use Rattle.clap.specs.Matches.{first_value}
 use Rattle.clap.specs.declared.parser.matches.Found.{Found}
 use Rattle.smt_print.specs.declared.layout.Layout.{Layout}
@@ -10,22 +11,28 @@ use Rattle.passes.specs.declared.names.ListFault.{ListFault}
 use Rattle.passes.specs.Lists.{pass_list}
 use Rattle.smtrw_answers.specs.declared.status.Usage.{Usage}
 use Rattle.smtrw_answers.specs.declared.grammar.Name.{Name}
-use Rattle.smtrw_answers.specs.declared.grammar.Name.TheVariants.{Rewrite, Stats}
+use Rattle.smtrw_answers.specs.declared.grammar.Name.TheVariants.{Rewrite, Translate, Extend, Stats}
 use Rattle.smtrw_answers.specs.declared.grammar.Setting.{Setting as CodeSetting}
-use Rattle.smtrw_answers.specs.declared.grammar.Setting.TheVariants.{Passes, Layout as LayoutOption}
+use Rattle.smtrw_answers.specs.declared.grammar.Setting.TheVariants.{Passes, Layout as LayoutOption, Check}
+use Rattle.smtrw_answers.specs.declared.grammar.Files.{Files}
+use Rattle.smtrw_answers.specs.declared.grammar.Files.TheVariants.{Absent, One, Two}
 use Rattle.smtrw_answers.specs.declared.grammar.Seen.{Seen}
 use Rattle.smtrw_answers.specs.declared.grammar.Plan.{Plan}
-use Rattle.smtrw_answers.specs.Words.{Word, Numbered, Command, rewriting, counting, Setting, of_passes, of_layout, Given, layout_named, Asked, rewrite, stats}
+use Rattle.smtrw_answers.specs.declared.grammar.Plan.TheVariants as plan
+use Rattle.smtrw_answers.specs.Words.{Word, Numbered, Command, rewriting, translating, extending, counting, needed, Setting, of_passes, of_layout, of_check, Given, number_in, is_from, layout_named, Asked, rewrite, translate, extend, stats}
 
 -- ---- commands and options of the code
 
 abbrev pub command_of : Name → Command
 command_of Rewrite = rewriting
+command_of Translate = translating
+command_of Extend = extending
 command_of Stats = counting
 
 abbrev pub setting_of : CodeSetting → Setting
 setting_of Passes = of_passes
 setting_of LayoutOption = of_layout
+setting_of Check = of_check
 
 -- an option with its value
 abbrev pub option_seen : CodeSetting × Option (Bor Word) → Setting × Option Word
@@ -36,10 +43,21 @@ option_seen o = (setting_of o.0, option_map (λ v. v.now) o.1)
 abbrev pub has_setting : CodeSetting → Seen → Bool
 has_setting Passes s = s.passes
 has_setting LayoutOption s = s.layout
+has_setting Check s = s.check
 
-abbrev pub HasFile : Option ℕ → List Numbered → Type 0
-HasFile None plain = plain ≡ []
-HasFile (Some i) plain = (w : Word) × (plain ≡ record { number = i; word = w } ∷ [])
+abbrev pub HasFiles : Files → List Numbered → Type 0
+HasFiles Absent plain = plain ≡ []
+HasFiles (One i) plain = (w : Word) × (plain ≡ record { number = i; word = w } ∷ [])
+HasFiles (Two i j) plain = (w : Word) × (v : Word) × (plain ≡ record { number = i; word = w } ∷ record { number = j; word = v } ∷ [])
+
+-- standard input is among the files
+abbrev pub names_input : List Numbered → Bool
+names_input = list_any (λ f. bytes_eq f.word (codes "-"))
+
+-- one file more, where the command takes one
+abbrev pub TakesFile : Command → List Numbered → Numbered → Option Files → Type 0
+TakesFile c plain f None = nat_le (needed c) (length plain) ≡ true
+TakesFile c plain f (Some files) = (nat_le (needed c) (length plain) ≡ false) × HasFiles files (plain ++ f ∷ [])
 
 -- an option whose value is awaited wasn't given before
 abbrev pub AwaitsNew : Option CodeSetting → Seen → Type 0
@@ -50,7 +68,9 @@ AwaitsNew (Some o) s = has_setting o s ≡ false
 pub record Agrees (s : Seen) (g : Given) : Type 0 where
   pub passes : is_some g.passes ≡ s.passes
   pub layout : is_some g.layout ≡ s.layout
-  pub plain : HasFile s.file g.plain
+  pub check : is_some g.check ≡ s.check
+  pub plain : HasFiles s.files g.plain
+  pub input : names_input g.plain ≡ s.reads_input
   pub awaited : g.awaited ≡ option_map setting_of s.awaited
   pub new : AwaitsNew s.awaited s
 
@@ -58,9 +78,14 @@ abbrev pub one_if : Bool → ℕ
 one_if true = 1
 one_if false = 0
 
+abbrev pub file_count : Files → ℕ
+file_count Absent = 0
+file_count (One i) = 1
+file_count (Two i j) = 2
+
 -- at least as many words as were met
 abbrev pub most_words : Seen → ℕ
-most_words s = 2 * one_if s.passes + 2 * one_if s.layout + one_if (is_some s.file) + one_if (is_some s.awaited)
+most_words s = 2 * one_if s.passes + 2 * one_if s.layout + 2 * one_if s.check + file_count s.files + one_if (is_some s.awaited)
 
 -- one more word was accepted, or has this fault
 abbrev pub StepFits : Seen → Result Seen Usage → Result Given Usage → Type 0
@@ -71,8 +96,10 @@ StepFits s _ _ = ⊥
 -- ---- behind the last word
 
 abbrev pub IsPlanOf : Asked → Plan → Type 0
-IsPlanOf (rewrite ps l f) p = p ≡ record { command = Rewrite; file = f.number }
-IsPlanOf (stats f) p = p ≡ record { command = Stats; file = f.number }
+IsPlanOf (rewrite ps l f) p = p ≡ plan.Rewrite f.number
+IsPlanOf (translate ps k s m) p = p ≡ plan.Translate s.number m.number
+IsPlanOf (extend ps k s m) p = p ≡ plan.Extend s.number m.number
+IsPlanOf (stats f) p = p ≡ plan.Stats f.number
 IsPlanOf _ p = ⊥
 
 abbrev pub EndFits : Result Plan Usage → Result Asked Usage → Type 0
@@ -92,11 +119,25 @@ abbrev pub layout_in : Option Word → Option Layout
 layout_in None = Some Tree
 layout_in (Some name) = layout_named name
 
+-- checks are counted from 1
+abbrev pub check_named : Word → Option ℕ
+check_named w = if is_from 1 (number_in w) then number_in w else None
+
+-- the check of an option's value; the first one where it isn't given
+abbrev pub check_in : Option Word → Option ℕ
+check_in None = Some 1
+check_in (Some number) = check_named number
+
 -- ---- what `clap` finds in words without a fault
 
 abbrev pub IsRewriting : Result Asked Usage → Type 0
 IsRewriting (Ok (rewrite ps l f)) = Unit {0}
 IsRewriting _ = ⊥
+
+abbrev pub IsCarrying : Result Asked Usage → Type 0
+IsCarrying (Ok (translate ps k s m)) = Unit {0}
+IsCarrying (Ok (extend ps k s m)) = Unit {0}
+IsCarrying _ = ⊥
 
 abbrev pub IsCounting : Result Asked Usage → Type 0
 IsCounting (Ok (stats f)) = Unit {0}
@@ -108,6 +149,18 @@ GivesRewriting (Ok (rewrite ps l f)) found =
     × (layout_in (first_value found (codes "layout")) ≡ Some l)
     × (first_value found (codes "file") ≡ Some f.word)
 GivesRewriting _ found = ⊥
+
+abbrev pub CarryingIn : List Pass → ℕ → Numbered → Numbered → Found → Type 0
+CarryingIn ps k s m found =
+    (passes_in (first_value found (codes "passes")) ≡ Ok ps)
+    × (check_in (first_value found (codes "check")) ≡ Some k)
+    × (first_value found (codes "script") ≡ Some s.word)
+    × (first_value found (codes "model") ≡ Some m.word)
+
+abbrev pub GivesCarrying : Result Asked Usage → Found → Type 0
+GivesCarrying (Ok (translate ps k s m)) found = CarryingIn ps k s m found
+GivesCarrying (Ok (extend ps k s m)) found = CarryingIn ps k s m found
+GivesCarrying _ found = ⊥
 
 abbrev pub GivesCounting : Result Asked Usage → Found → Type 0
 GivesCounting (Ok (stats f)) found = first_value found (codes "file") ≡ Some f.word

@@ -16,6 +16,7 @@ use Rattle.passes.specs.Carry.{Stage, back_stages, forth_stages, too_wide, beyon
 use Rattle.smtrw_answers.specs.declared.status.Why.TheVariants.{NoSuchCheck}
 use Rattle.smtrw_answers.specs.declared.status.Status.{Status}
 use Rattle.smtrw_answers.specs.declared.status.Status.TheVariants.{Refused, Usage, ModelRefused, Beyond128, PassRefused}
+use Rattle.smtrw_answers.specs.Words.{Asked, rewrite, translate, extend, stats, demo}
 use Rattle.smtrw_answers.specs.Outputs.{commands, names_left}
 use Rattle.smtrw_answers.specs.Carrying.{signature_before, signature_behind}
 
@@ -98,3 +99,11 @@ extend_end b ps k g =
 
 abbrev pub stats_end : List ℕ → Option Status
 stats_end b = script_end b
+
+-- of the script b, and the model's text g where the command reads one
+abbrev pub end_of : Asked → List ℕ → List ℕ → Option Status
+end_of (rewrite passes layout script) b g = rewrite_end b passes
+end_of (translate passes check script model) b g = translate_end b passes check g
+end_of (extend passes check script model) b g = extend_end b passes check g
+end_of (stats script) b g = stats_end b
+end_of (demo seed size) b g = None

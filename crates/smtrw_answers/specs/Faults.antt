@@ -1,10 +1,15 @@
--- The statuses that faults of a script's text lead to.
+-- The statuses that faults of a script's or a model's text lead to, and those of carrying a model.
 use Rattle.smt_lex.specs.declared.faults.LexFault.{LexFault}
 use Rattle.smt_lex.specs.declared.faults.LexFault.TheVariants.{BadByte, BadToken, OpenText, Unbalanced, Memory}
 use Rattle.script_terms.specs.declared.faults.ScriptFault.{ScriptFault}
 use Rattle.script_terms.specs.declared.faults.ScriptFault.TheVariants.{Refused as ScriptRefused, Memory as NoMemory}
+use Rattle.model_texts.specs.declared.faults.ModelFault.{ModelFault}
+use Rattle.model_texts.specs.declared.faults.ModelFault.TheVariants.{ModelForm, ModelSort, NotATable, ModelNumber, ModelTwice, Memory as NoMemoryForModel}
+use Rattle.passes.specs.declared.carrying.CarryFault.{CarryFault}
+use Rattle.passes.specs.declared.carrying.CarryFault.TheVariants.{NoSuchCheck as CheckMissing, EvalWidth, Beyond128 as ValueBeyond, Memory as NoMemoryForCarrying}
+use Rattle.smtrw_answers.specs.declared.status.Why.TheVariants.{NoSuchCheck}
 use Rattle.smtrw_answers.specs.declared.status.Status.{Status}
-use Rattle.smtrw_answers.specs.declared.status.Status.TheVariants.{Refused, OutOfMemory}
+use Rattle.smtrw_answers.specs.declared.status.Status.TheVariants.{Refused, Usage, OutOfMemory, ModelRefused, Beyond128, PassRefused}
 
 abbrev pub status_of_lexing : LexFault → Status
 status_of_lexing (BadByte place line) = Refused (record { code = 10; command = 0; line = line; byte = place })
@@ -16,3 +21,28 @@ status_of_lexing Memory = OutOfMemory
 abbrev pub status_of_reading : ScriptFault → Status
 status_of_reading (ScriptRefused r) = Refused r
 status_of_reading NoMemory = OutOfMemory
+
+-- ---- of a model's text
+
+abbrev pub status_of_model_lexing : LexFault → Status
+status_of_model_lexing (BadByte place line) = ModelRefused 10 line place
+status_of_model_lexing (BadToken place line) = ModelRefused 11 line place
+status_of_model_lexing (OpenText place line) = ModelRefused 12 line place
+status_of_model_lexing (Unbalanced place line) = ModelRefused 13 line place
+status_of_model_lexing Memory = OutOfMemory
+
+abbrev pub status_of_model : ModelFault → Status
+status_of_model (ModelForm line byte) = ModelRefused 60 line byte
+status_of_model (ModelSort line byte) = ModelRefused 61 line byte
+status_of_model (NotATable line byte) = ModelRefused 62 line byte
+status_of_model (ModelNumber line byte) = ModelRefused 63 line byte
+status_of_model (ModelTwice line byte) = ModelRefused 64 line byte
+status_of_model NoMemoryForModel = OutOfMemory
+
+-- ---- of carrying
+
+abbrev pub status_of_carrying : CarryFault → Status
+status_of_carrying (CheckMissing check checks) = Usage (record { word = 0; why = NoSuchCheck check checks })
+status_of_carrying (EvalWidth assertion bits) = PassRefused 71 assertion
+status_of_carrying (ValueBeyond assertion node) = Beyond128 assertion
+status_of_carrying NoMemoryForCarrying = OutOfMemory

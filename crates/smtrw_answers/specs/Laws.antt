@@ -1,18 +1,23 @@
--- The statements of the laws of what is written: that rewriting keeps its promise, and where one text alone may be written.
-use Rattle.std.specs.Prelude.{◌≡◌, ℕ, Bool, true, false, List, None, IsTrue}
-use Rattle.std.specs.List.{list_any}
+-- The statements of the laws of what is written: that rewriting keeps its promise, where one text alone may be written, and
+-- that carried models read back.
+use Rattle.std.specs.Prelude.{◌≡◌, ℕ, Bool, true, false, List, None, Ok, IsTrue}
+use Rattle.std.specs.List.{list_all, list_any}
 use Rattle.smt_terms.specs.Fresh.{Supply}
+use Rattle.smt_terms.specs.Models.{Model}
 use Rattle.smt_terms.specs.Sorts.{Name}
 use Rattle.smt_terms.specs.Term.{Term}
 use Rattle.rule_book.specs.EightRules.{all_eight}
 use Rattle.script_read.specs.Commands.{Command}
 use Rattle.script_read.specs.Script.{fault}
+use Rattle.model_texts.specs.ModelText.{model_of}
 use Rattle.smt_print.specs.declared.layout.Layout.{Layout}
 use Rattle.passes.specs.declared.names.Pass.{Pass}
 use Rattle.smt_print.specs.Text.{lines}
 use Rattle.passes.specs.declared.names.Pass.TheVariants.{Rules}
 use Rattle.passes.specs.Laws.{IsReady, AreEquivalent, CarriesModels}
-use Rattle.smtrw_answers.specs.Carrying.{translated, extended}
+use Rattle.passes.specs.Lists.{can_run}
+use Rattle.smtrw_answers.specs.Carrying.{translated, extended, signature_before, signature_behind, translated_text, extended_text}
+use Rattle.smtrw_answers.specs.Endings.{translate_end, extend_end}
 use Rattle.smtrw_answers.specs.Headline.{IsRewriting, are_equivalences}
 use Rattle.smtrw_answers.specs.Outputs.{commands, rewritten, MayBeWritten}
 
@@ -34,3 +39,13 @@ WithoutRulesOneText = (b w : List ℕ) (ps : List Pass) (rules : List Name) (lay
 -- and so does any list where all rules are among the eight
 abbrev pub EightWriteOneText : Type 0
 EightWriteOneText = (b v w : List ℕ) (ps : List Pass) (rules : List Name) (layout : Layout) → IsTrue (all_eight rules) → MayBeWritten b ps rules layout v → MayBeWritten b ps rules layout w → v ≡ w
+
+-- where `translate` ends well, what it writes reads back as the model that was carried, over what is declared in the script
+abbrev pub TranslatedTextsReadBack : Type 0
+TranslatedTextsReadBack = (b : List ℕ) (ps : List Pass) (k : ℕ) (g out : List ℕ) (m : Model) → IsTrue (list_all can_run ps) → translate_end b ps k g ≡ None → model_of g (signature_behind b ps k) ≡ Ok m → translated_text b ps k g ≡ Ok out
+    → model_of out (signature_before b k) ≡ Ok (translated b ps k m)
+
+-- and where `extend` does, over what is declared in the rewritten script
+abbrev pub ExtendedTextsReadBack : Type 0
+ExtendedTextsReadBack = (b : List ℕ) (ps : List Pass) (k : ℕ) (g out : List ℕ) (m : Model) → IsTrue (list_all can_run ps) → extend_end b ps k g ≡ None → model_of g (signature_before b k) ≡ Ok m → extended_text b ps k g ≡ Ok out
+    → model_of out (signature_behind b ps k) ≡ Ok (extended b ps k m)

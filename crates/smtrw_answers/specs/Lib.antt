@@ -9,3 +9,4 @@ pub mod Endings
 pub mod Faults
 pub mod Headline
 pub mod Laws
+pub mod Written

@@ -17,7 +17,6 @@ use Rattle.passes.specs.declared.names.Pass.{Pass}
 use Rattle.passes.specs.declared.names.Pass.TheVariants.{Nnf, Simplify, Cnf}
 use Rattle.passes.specs.Passed.{passed}
 use Rattle.passes.specs.Led.{Leads}
-use Rattle.smtrw_answers.specs.Words.{Asked, rewrite, stats}
 
 -- ---- a text rewritten
 
@@ -73,13 +72,6 @@ stats_lines b =
     ++ count_line (codes "assertions") (length (assertions (commands b)))
     ++ count_line (codes "checks") (checks (commands b))
     ++ count_line (codes "nodes") (length (all_subterms (assertions (commands b))))
-
--- ---- what may be written of a text by the commands that the program has, with stored rules of these names
-
-abbrev pub IsOutputOf : List Name → Asked → List ℕ → List ℕ → Type 0
-IsOutputOf rules (rewrite passes layout file) b w = MayBeWritten b passes rules layout w
-IsOutputOf rules (stats file) b w = w ≡ stats_lines b
-IsOutputOf rules _ b w = w ≡ []
 
 -- ---- the demonstration: a script of so many steps, drawn from a seed
 

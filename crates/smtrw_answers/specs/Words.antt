@@ -62,6 +62,8 @@ needed demonstrating = 2
 -- the commands that the program has so far; the name of another one is none
 abbrev pub stands : Command → Bool
 stands rewriting = true
+stands translating = true
+stands extending = true
 stands counting = true
 stands _ = false
 
@@ -242,6 +244,12 @@ file_of (translate passes check file model) = file
 file_of (extend passes check file model) = file
 file_of (stats file) = file
 file_of (demo seed size) = record { number = 0; word = [] }
+
+-- the word that names the model, where the command reads one
+abbrev pub model_file_of : Asked → Option Numbered
+model_file_of (translate passes check file model) = Some model
+model_file_of (extend passes check file model) = Some model
+model_file_of _ = None
 
 -- behind the last word: nothing is awaited, and there are as many words as the command takes
 abbrev pub at_end : Command → ℕ → Given → Option Setting → Result Asked Usage

@@ -1,11 +1,12 @@
 //! The statuses that end a run before anything is written, by what was met on the way.
 
 ghost use Rattle.std.specs.Prelude.{◌≡◌};
-ghost use Rattle.smtrw_answers.specs.Faults.{status_of_lexing, status_of_reading};
+ghost use Rattle.smtrw_answers.specs.Faults.{status_of_carrying, status_of_lexing, status_of_model, status_of_model_lexing, status_of_reading};
 ghost use Rattle.smtrw_answers.specs.declared.status.Status.TheVariants.{OutOfMemory};
 
-use crate::status::Status;
-use passes::PassFault;
+use crate::status::{Status, Usage, Why};
+use model_texts::ModelFault;
+use passes::{CarryFault, PassFault};
 use script_read::{Refusal, ScriptFault};
 use smt_lex::LexFault;
 use std::alloc::AllocError;
@@ -60,6 +61,59 @@ impl From<PassFault> for Status {
     fn from(fault: PassFault) -> Status {
         match fault {
             PassFault::Memory => Status::OutOfMemory,
+        }
+    }
+}
+
+/// The status at a fault of a model's tokens or parentheses.
+pub fn model_unread(fault: LexFault) -> Status
+    ensures { result ≡ status_of_model_lexing fault }
+{
+    let (code, byte, line) = match fault {
+        LexFault::BadByte { place, line } => (10, place, line),
+        LexFault::BadToken { place, line } => (11, place, line),
+        LexFault::OpenText { place, line } => (12, place, line),
+        LexFault::Unbalanced { place, line } => (13, place, line),
+        LexFault::Memory => return Status::OutOfMemory,
+    };
+    Status::ModelRefused {
+        code,
+        line,
+        byte: u64::from(byte),
+    }
+}
+
+impl From<ModelFault> for Status {
+    ghost from_gives = { λ fault status. status ≡ status_of_model fault };
+
+    fn from(fault: ModelFault) -> Status {
+        let (code, line, byte) = match fault {
+            ModelFault::ModelForm { line, byte } => (60, line, byte),
+            ModelFault::ModelSort { line, byte } => (61, line, byte),
+            ModelFault::NotATable { line, byte } => (62, line, byte),
+            ModelFault::ModelNumber { line, byte } => (63, line, byte),
+            ModelFault::ModelTwice { line, byte } => (64, line, byte),
+            ModelFault::Memory => return Status::OutOfMemory,
+        };
+        Status::ModelRefused { code, line, byte }
+    }
+}
+
+impl From<CarryFault> for Status {
+    ghost from_gives = { λ fault status. status ≡ status_of_carrying fault };
+
+    fn from(fault: CarryFault) -> Status {
+        match fault {
+            CarryFault::NoSuchCheck { check, checks } => Status::Usage(Usage {
+                word: 0,
+                why: Why::NoSuchCheck { check, checks },
+            }),
+            CarryFault::EvalWidth { assertion, .. } => Status::PassRefused {
+                code: 71,
+                assertion,
+            },
+            CarryFault::Beyond128 { assertion, .. } => Status::Beyond128 { assertion },
+            CarryFault::Memory => Status::OutOfMemory,
         }
     }
 }

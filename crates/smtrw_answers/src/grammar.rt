@@ -1,26 +1,64 @@
 //! The grammar of the program's words: their first fault, met from the left, or what they name.
 
-ghost use Rattle.std.specs.Prelude.{◌≡◌, false, None, map, option_map, string_bytes};
+ghost use Rattle.std.specs.Prelude.{◌≡◌, List, [], ◌∷◌, false, None, codes, map, nat_le, option_map, string_bytes};
 ghost use Rattle.passes.specs.Lists.{can_run};
-ghost use Rattle.smtrw_answers.specs.Words.{asked, at_end as end_of, command_if, command_named, is_dashed, layout_named, option_word, plain_word, setting_among, settings_of, stands, value_word, with_value, word_behind, Given as WordsGiven};
-ghost use Rattle.smtrw_answers.specs.Asking.{Agrees, EndFits, StepFits, command_of, has_setting, option_seen, setting_of};
+ghost use Rattle.smtrw_answers.specs.Words.{asked, at_end as end_of, command_if, command_named, is_dashed, layout_named, needed, number_in, of_check, of_layout, of_passes, option_word, plain_word, setting_among, settings_of, stands, value_word, with_value, word_behind, Given as WordsGiven, Numbered};
+ghost use Rattle.smtrw_answers.specs.Asking.{Agrees, EndFits, HasFiles, StepFits, TakesFile, check_named, command_of, has_setting, option_seen, setting_of};
 
 use crate::status::{Usage, Why};
 use passes::{ListFault, parse_list};
+use smt_lex::is_numeral;
 use smt_print::Layout;
+
+/// The most digits that a number may have.
+const MOST_DIGITS: usize = 18;
 
 /// A command that the program has.
 #[derive(Clone, Copy)]
-pub(crate) enum Name {
+enum Name {
     Rewrite,
+    Translate,
+    Extend,
     Stats,
 }
 
-/// An option of `rewrite`.
+impl Name {
+    /// Whether the command takes a model beside the script.
+    fn takes_model(self) -> bool
+        ensures { result ≡ nat_le 2 (needed (command_of self)) }
+    {
+        matches!(self, Name::Translate | Name::Extend)
+    }
+}
+
+/// An option of a command.
 #[derive(Clone, Copy)]
 enum Setting {
     Passes,
     Layout,
+    Check,
+}
+
+/// The numbers of the words that name files, in order.
+#[derive(Clone, Copy)]
+enum Files {
+    Absent,
+    One(u32),
+    Two(u32, u32),
+}
+
+impl Files {
+    /// These files and one more, where the command takes it.
+    fn with(self, command: Name, word: u32) -> Option<Files>
+        ensures { (plain : List Numbered) (f : Numbered) → HasFiles self plain → f.number ≡ word
+            → TakesFile (command_of command) plain f result }
+    {
+        match self {
+            Files::Absent => Some(Files::One(word)),
+            Files::One(first) if command.takes_model() => Some(Files::Two(first, word)),
+            _ => None,
+        }
+    }
 }
 
 /// What the words up to a place gave.
@@ -30,8 +68,12 @@ struct Seen {
     passes: bool,
     /// The layout was given.
     layout: bool,
-    /// The number of the word that names the file.
-    file: Option<u32>,
+    /// The number of a check was given.
+    check: bool,
+    /// The files so far.
+    files: Files,
+    /// One of the files is standard input.
+    reads_input: bool,
     /// The option whose value is the next word.
     awaited: Option<Setting>,
 }
@@ -43,25 +85,30 @@ impl Seen {
         match setting {
             Setting::Passes => self.passes,
             Setting::Layout => self.layout,
+            Setting::Check => self.check,
         }
     }
 }
 
-/// What words without a fault name: the command, and the number of the word that names its file.
+/// What words without a fault name: the command, and the numbers of the words that name its files.
 #[derive(Clone, Copy)]
-pub(crate) struct Plan {
-    pub(crate) command: Name,
-    pub(crate) file: u32,
+pub(crate) enum Plan {
+    Rewrite { file: u32 },
+    Translate { script: u32, model: u32 },
+    Extend { script: u32, model: u32 },
+    Stats { file: u32 },
 }
 
 const NOTHING_SEEN: Seen = Seen {
     passes: false,
     layout: false,
-    file: None,
+    check: false,
+    files: Files::Absent,
+    reads_input: false,
     awaited: None,
 };
 
-/// The command and the place of its file, or the first fault. It takes no memory.
+/// The command and the places of its files, or the first fault. It takes no memory.
 pub(crate) fn plan_of(words: &[String]) -> Result<Plan, Usage>
     ensures { EndFits result (asked (map string_bytes words.now)) }
 {
@@ -91,6 +138,10 @@ fn command_of_word(word: &str) -> Option<Name>
 {
     if word == "rewrite" {
         Some(Name::Rewrite)
+    } else if word == "translate" {
+        Some(Name::Translate)
+    } else if word == "extend" {
+        Some(Name::Extend)
     } else if word == "stats" {
         Some(Name::Stats)
     } else {
@@ -106,7 +157,7 @@ fn word_met(command: Name, seen: Seen, number: u32, word: &str) -> Result<Seen, 
     match seen.awaited {
         Some(setting) => value_met(setting, seen, number, word),
         None if is_option(word) => option_met(command, seen, number, word),
-        None => file_met(seen, number, word),
+        None => file_met(command, seen, number, word),
     }
 }
 
@@ -151,6 +202,14 @@ fn value_given(setting: Setting, seen: Seen, number: u32, value: &str) -> Result
             }),
             None => Err(fault(number, Why::BadValue)),
         },
+        Setting::Check => match check_of_word(value) {
+            Some(_) => Ok(Seen {
+                check: true,
+                awaited: None,
+                ..seen
+            }),
+            None => Err(fault(number, Why::BadValue)),
+        },
     }
 }
 
@@ -165,6 +224,26 @@ pub(crate) fn layout_of_word(word: &str) -> Option<Layout>
     } else {
         None
     }
+}
+
+/// The number of a check: checks are counted from 1.
+pub(crate) fn check_of_word(word: &str) -> Option<u64>
+    ensures { result ≡ check_named word.now }
+{
+    match number_of_word(word) {
+        Some(0) => None,
+        number => number,
+    }
+}
+
+/// The number that the digits of a word write, unless there are too many or a 0 leads them.
+fn number_of_word(word: &str) -> Option<u64>
+    ensures { result ≡ number_in word.now }
+{
+    if word.len() > MOST_DIGITS || !is_numeral(word.as_bytes()) {
+        return None;
+    }
+    word.parse::<u64>().ok()
 }
 
 /// A word that begins with `-`, where no value is awaited.
@@ -187,37 +266,61 @@ fn option_met(command: Name, seen: Seen, number: u32, word: &str) -> Result<Seen
 fn option_in(command: Name, word: &str) -> Option<(Setting, Option<&str>)>
     ensures { option_map option_seen result ≡ setting_among (settings_of (command_of command)) word.now }
 {
-    if let Name::Stats = command {
-        return None;
+    match command {
+        Name::Rewrite => passes_option(word).or(layout_option(word)),
+        Name::Translate | Name::Extend => passes_option(word).or(check_option(word)),
+        Name::Stats => None,
     }
+}
+
+fn passes_option(word: &str) -> Option<(Setting, Option<&str>)>
+    ensures { option_map option_seen result ≡ setting_among ((codes "--passes", of_passes) ∷ []) word.now }
+{
     if word == "--passes" {
         return Some((Setting::Passes, None));
     }
-    if let Some(list) = word.strip_prefix("--passes=") {
-        return Some((Setting::Passes, Some(list)));
-    }
+    let list = word.strip_prefix("--passes=")?;
+    Some((Setting::Passes, Some(list)))
+}
+
+fn layout_option(word: &str) -> Option<(Setting, Option<&str>)>
+    ensures { option_map option_seen result ≡ setting_among ((codes "--layout", of_layout) ∷ []) word.now }
+{
     if word == "--layout" {
         return Some((Setting::Layout, None));
     }
-    if let Some(layout) = word.strip_prefix("--layout=") {
-        return Some((Setting::Layout, Some(layout)));
-    }
-    None
+    let layout = word.strip_prefix("--layout=")?;
+    Some((Setting::Layout, Some(layout)))
 }
 
-/// A word that is no option: the name of the file.
-fn file_met(seen: Seen, number: u32, word: &str) -> Result<Seen, Usage>
-    ensures { (command : Name) (g : WordsGiven) → Agrees seen g → g.awaited ≡ None
+fn check_option(word: &str) -> Option<(Setting, Option<&str>)>
+    ensures { option_map option_seen result ≡ setting_among ((codes "--check", of_check) ∷ []) word.now }
+{
+    if word == "--check" {
+        return Some((Setting::Check, None));
+    }
+    let number = word.strip_prefix("--check=")?;
+    Some((Setting::Check, Some(number)))
+}
+
+/// A word that is no option: the name of a file.
+fn file_met(command: Name, seen: Seen, number: u32, word: &str) -> Result<Seen, Usage>
+    ensures { (g : WordsGiven) → Agrees seen g → g.awaited ≡ None
         → StepFits seen result (plain_word (command_of command) number word.now g) }
 {
     if word.is_empty() {
         return Err(fault(number, Why::BadValue));
     }
-    if seen.file.is_some() {
+    let Some(files) = seen.files.with(command, number) else {
         return Err(fault(number, Why::Extra));
+    };
+    let is_input = word == "-";
+    if is_input && seen.reads_input {
+        return Err(fault(number, Why::TwoInputs));
     }
     Ok(Seen {
-        file: Some(number),
+        files,
+        reads_input: seen.reads_input || is_input,
         ..seen
     })
 }
@@ -227,8 +330,14 @@ fn at_end(command: Name, seen: Seen, number: u32) -> Result<Plan, Usage>
     ensures { (g : WordsGiven) → Agrees seen g
         → EndFits result (end_of (command_of command) number g g.awaited) }
 {
-    match (seen.awaited, seen.file) {
-        (None, Some(file)) => Ok(Plan { command, file }),
+    if seen.awaited.is_some() {
+        return Err(fault(number, Why::Missing));
+    }
+    match (command, seen.files) {
+        (Name::Rewrite, Files::One(file)) => Ok(Plan::Rewrite { file }),
+        (Name::Translate, Files::Two(script, model)) => Ok(Plan::Translate { script, model }),
+        (Name::Extend, Files::Two(script, model)) => Ok(Plan::Extend { script, model }),
+        (Name::Stats, Files::One(file)) => Ok(Plan::Stats { file }),
         _ => Err(fault(number, Why::Missing)),
     }
 }

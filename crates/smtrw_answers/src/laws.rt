@@ -1,8 +1,21 @@
 //! The laws of what is written, each as the contract of a function that does nothing but name the laws on which it rests.
 
-ghost use Rattle.smtrw_answers.specs.Laws.{RewritingKeepsItsPromise, WithoutRulesOneText, EightWriteOneText};
+ghost use Rattle.smtrw_answers.specs.Laws.{
+  RewritingKeepsItsPromise,
+  WithoutRulesOneText,
+  EightWriteOneText,
+  TranslatedTextsReadBack,
+  ExtendedTextsReadBack,
+};
 
-use script_read::{reading_answers, reading_keeps_meaning, terms_and_forms_agree};
+use model_texts::laws::{
+    printable_signatures_are_proper, printable_signatures_are_writable, printed_models_read_back,
+};
+use passes::{groups_carry_models, passes_keep_commands, passes_leave_models};
+use script_read::{
+    names_left_are_new, reading_answers, reading_gives_a_printable_script, reading_keeps_meaning,
+    terms_and_forms_agree,
+};
 use smt_print::printing_reads_back;
 
 /// What rewriting writes of an accepted text, in either layout, is an accepted text with the same points; at each of them each
@@ -26,3 +39,20 @@ pub fn without_rules_one_text()
 pub fn eight_write_one_text()
     ensures { EightWriteOneText }
 {}
+
+/// Where `translate` or `extend` ends well, what it writes reads back as the model that was carried, over what is declared at the
+/// check: of the script where it translates, and of the rewritten one where it extends.
+pub fn carried_texts_read_back()
+    ensures translated { TranslatedTextsReadBack }
+    ensures extended { ExtendedTextsReadBack }
+{
+    reading_answers();
+    reading_gives_a_printable_script();
+    names_left_are_new();
+    passes_keep_commands();
+    passes_leave_models();
+    groups_carry_models();
+    printable_signatures_are_proper();
+    printable_signatures_are_writable();
+    printed_models_read_back();
+}

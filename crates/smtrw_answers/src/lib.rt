@@ -11,8 +11,11 @@ mod matches;
 mod status;
 mod words;
 
-pub use endings::TOO_LONG;
-pub use laws::{eight_write_one_text, rewriting_keeps_its_promise, without_rules_one_text};
+pub use endings::{TOO_LONG, model_unread};
+pub use laws::{
+    carried_texts_read_back, eight_write_one_text, rewriting_keeps_its_promise,
+    without_rules_one_text,
+};
 pub use lines::complain;
 pub use status::{Status, Usage, Why};
 pub use words::{Asked, File, WordsFault, parse_words};

@@ -3,7 +3,7 @@
 ghost use Rattle.std.specs.Prelude.{◌≡◌, map, string_bytes, IfOk, IfErr};
 ghost use Rattle.clap.specs.Words.{found_of, kind_of};
 ghost use Rattle.smtrw_answers.specs.Words.{asked};
-ghost use Rattle.smtrw_answers.specs.Asking.{IsRewriting, IsCounting, GivesRewriting, GivesCounting};
+ghost use Rattle.smtrw_answers.specs.Asking.{IsRewriting, IsCarrying, IsCounting, GivesRewriting, GivesCarrying, GivesCounting};
 
 use clap::error::ErrorKind;
 use clap::{Arg, ArgMatches, Command, Error};
@@ -26,6 +26,29 @@ pub(crate) fn rewrite_matches<'a>(
         .arg(passes)?
         .arg(layout)?
         .arg(file)?;
+    command.try_get_matches_from(words)
+}
+
+/// The values of the words of `translate` or `extend`.
+pub(crate) fn carry_matches<'a>(
+    alloc: Global,
+    name: &'a str,
+    words: &'a [String],
+) -> Result<ArgMatches<'a>, Error>
+    requires { IsCarrying (asked (map string_bytes words.now)) }
+    ensures values { IfOk result (λ m. GivesCarrying (asked (map string_bytes words.entry.now)) (found_of m)) }
+    ensures memory { IfErr result (λ e. kind_of e ≡ ErrorKind.OutOfMemory) }
+{
+    let passes = Arg::new(alloc, "passes").long("passes");
+    let check = Arg::new(alloc, "check").long("check");
+    let script = Arg::new(alloc, "script");
+    let model = Arg::new(alloc, "model");
+    let command = Command::new(alloc, name)
+        .disable_help_flag(true)
+        .arg(passes)?
+        .arg(check)?
+        .arg(script)?
+        .arg(model)?;
     command.try_get_matches_from(words)
 }
 

@@ -23,9 +23,9 @@ fn has_fault(alloc: Global, line: &str, fault: Usage) -> Result<bool, AllocError
     }
 }
 
-const FAULTS: [(&str, u32, Why); 10] = [
+const FAULTS: [(&str, u32, Why); 27] = [
     ("rewrite", 2, Why::Missing),
-    ("translate a b", 1, Why::UnknownCommand),
+    ("demo 1 2", 1, Why::UnknownCommand),
     ("rewrite a --check=1", 3, Why::BadOption),
     ("rewrite --passes nnf --passes=aig a", 4, Why::Repeated),
     ("rewrite --layout --passes a", 3, Why::BadValue),
@@ -34,6 +34,23 @@ const FAULTS: [(&str, u32, Why); 10] = [
     ("stats a ", 3, Why::BadValue),
     ("stats --layout=dag a", 2, Why::BadOption),
     ("rewrite a --layout", 4, Why::Missing),
+    ("translate", 2, Why::Missing),
+    ("extend a", 3, Why::Missing),
+    ("translate a b --check", 5, Why::Missing),
+    ("translate a b --layout tree", 4, Why::BadOption),
+    ("extend --check 1 a --check=2 b", 5, Why::Repeated),
+    ("translate a b --check 0", 5, Why::BadValue),
+    ("translate --check=01 a b", 2, Why::BadValue),
+    ("extend --check x a b", 3, Why::BadValue),
+    ("extend --check=+1 a b", 2, Why::BadValue),
+    ("extend --check 1234567890123456789 a b", 3, Why::BadValue),
+    ("translate a  b", 3, Why::BadValue),
+    ("translate a b ", 4, Why::BadValue),
+    ("translate a b c", 4, Why::Extra),
+    ("translate - -", 3, Why::TwoInputs),
+    ("extend - a -", 4, Why::Extra),
+    ("extend --passes foo a b", 3, Why::BadPass),
+    ("translate --passes=rules,ite a b", 2, Why::AfterRules),
 ];
 
 #[test]
@@ -105,6 +122,107 @@ fn rewrites(rt: HostRuntime) -> Result<(), Fail> {
             "{line}"
         );
     }
+    Ok(())
+}
+
+/// What a line of `translate` or `extend` asks for.
+struct Carry {
+    extends: bool,
+    passes: usize,
+    check: u64,
+    script: (u32, &'static str),
+    model: (u32, &'static str),
+}
+
+fn asks_to_carry(alloc: Global, line: &str, carry: &Carry) -> Result<bool, AllocError> {
+    let words = words_of(alloc, line)?;
+    let (extends, count, check, script, model) = match parse_words(alloc, words.as_slice()) {
+        Ok(
+            Asked::Translate {
+                passes,
+                check,
+                script,
+                model,
+            },
+        ) => (false, passes.len(), check, script, model),
+        Ok(
+            Asked::Extend {
+                passes,
+                check,
+                script,
+                model,
+            },
+        ) => (true, passes.len(), check, script, model),
+        _ => return Ok(false),
+    };
+    Ok(
+        extends == carry.extends
+            && count == carry.passes
+            && check == carry.check
+            && (script.word, script.name) == carry.script
+            && (model.word, model.name) == carry.model,
+    )
+}
+
+const CARRIES: [(&str, Carry); 4] = [
+    (
+        "translate a -",
+        Carry {
+            extends: false,
+            passes: 0,
+            check: 1,
+            script: (2, "a"),
+            model: (3, "-"),
+        },
+    ),
+    (
+        "translate --check 12 a --passes ite,cnf,rules a",
+        Carry {
+            extends: false,
+            passes: 3,
+            check: 12,
+            script: (4, "a"),
+            model: (7, "a"),
+        },
+    ),
+    (
+        "extend - m --check=2",
+        Carry {
+            extends: true,
+            passes: 0,
+            check: 2,
+            script: (2, "-"),
+            model: (3, "m"),
+        },
+    ),
+    (
+        "extend --passes=nnf a.smt2 --check 999999999999999999 b",
+        Carry {
+            extends: true,
+            passes: 1,
+            check: 999_999_999_999_999_999,
+            script: (3, "a.smt2"),
+            model: (6, "b"),
+        },
+    ),
+];
+
+#[test]
+fn carried_models(rt: HostRuntime) -> Result<(), Fail> {
+    for (line, carry) in &CARRIES {
+        assert!(rt; asks_to_carry(rt.alloc(), line, carry)?, "{line}");
+    }
+    Ok(())
+}
+
+#[test]
+fn the_script_is_the_file(rt: HostRuntime) -> Result<(), Fail> {
+    let words = words_of(rt.alloc(), "extend --check 2 a b")?;
+    let file = match parse_words(rt.alloc(), words.as_slice()) {
+        Ok(asked) => asked.file().name,
+        Err(_) => "",
+    };
+    assert!(rt; file == "a");
     Ok(())
 }
 

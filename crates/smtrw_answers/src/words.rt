@@ -5,12 +5,12 @@
 
 ghost use Rattle.std.specs.Prelude.{◌≡◌, map, option_map, string_bytes, Ok};
 ghost use Rattle.smtrw_answers.specs.Words.{asked as asked_for};
-ghost use Rattle.smtrw_answers.specs.Asking.{EndFits, layout_in, passes_in};
-ghost use Rattle.smtrw_answers.specs.Asked.{Answers};
-ghost use Rattle.smtrw_answers.specs.declared.grammar.Name.TheVariants.{Rewrite, Stats};
+ghost use Rattle.smtrw_answers.specs.Asking.{EndFits, check_in, layout_in, passes_in};
+ghost use Rattle.smtrw_answers.specs.Asked.{Answers, CarriesFiles, GivesCarried};
+ghost use Rattle.smtrw_answers.specs.declared.grammar.Plan.TheVariants as a_plan;
 
-use crate::grammar::{Name, layout_of_word, plan_of};
-use crate::matches::{rewrite_matches, stats_matches};
+use crate::grammar::{Plan, check_of_word, layout_of_word, plan_of};
+use crate::matches::{carry_matches, rewrite_matches, stats_matches};
 use crate::status::Usage;
 use passes::{ListFault, Passes, parse_list};
 use smt_print::Layout;
@@ -35,6 +35,22 @@ pub enum Asked<'a> {
         layout: Layout,
         file: File<'a>,
     },
+    /// `translate`: the model of a check of the script behind the passes, as one of the script. Without the options there are
+    /// no passes, and the check is the first.
+    Translate {
+        passes: Passes,
+        check: u64,
+        script: File<'a>,
+        model: File<'a>,
+    },
+    /// `extend`: the model of a check of the script, as one of the script behind the passes. Without the options there are no
+    /// passes, and the check is the first.
+    Extend {
+        passes: Passes,
+        check: u64,
+        script: File<'a>,
+        model: File<'a>,
+    },
     /// `stats`: the numbers of a script.
     Stats {
         file: File<'a>,
@@ -51,9 +67,20 @@ impl<'a> Asked<'a> {
     {
         match self {
             Asked::Rewrite { file, .. } => *file,
+            Asked::Translate { script, .. } => *script,
+            Asked::Extend { script, .. } => *script,
             Asked::Stats { file } => *file,
         }
     }
+}
+
+/// What the words of `translate` and `extend` have in common.
+#[derive(Drop)]
+struct Carried<'a> {
+    passes: Passes,
+    check: u64,
+    script: File<'a>,
+    model: File<'a>,
 }
 
 /// Why the words ask for nothing.
@@ -74,15 +101,15 @@ pub fn parse_words<'a>(alloc: Global, words: &'a [String]) -> Result<Asked<'a>, 
 {
     match plan_of(words) {
         Err(fault) => Err(WordsFault::Usage(fault)),
-        Ok(plan) => match plan.command {
-            Name::Rewrite => rewrite(alloc, words, plan.file),
-            Name::Stats => stats(alloc, words, plan.file),
-        },
+        Ok(Plan::Rewrite { file }) => rewrite(alloc, words, file),
+        Ok(Plan::Translate { script, model }) => translate(alloc, words, script, model),
+        Ok(Plan::Extend { script, model }) => extend(alloc, words, script, model),
+        Ok(Plan::Stats { file }) => stats(alloc, words, file),
     }
 }
 
 fn rewrite<'a>(alloc: Global, words: &'a [String], word: u32) -> Result<Asked<'a>, WordsFault>
-    requires { EndFits (Ok (record { command = Rewrite; file = word })) (asked_for (map string_bytes words.now)) }
+    requires { EndFits (Ok (a_plan.Rewrite word)) (asked_for (map string_bytes words.now)) }
     ensures { Answers (asked_for (map string_bytes words.entry.now)) result }
 {
     let Ok(matches) = rewrite_matches(alloc, words) else {
@@ -104,8 +131,84 @@ fn rewrite<'a>(alloc: Global, words: &'a [String], word: u32) -> Result<Asked<'a
     })
 }
 
+fn translate<'a>(
+    alloc: Global,
+    words: &'a [String],
+    script: u32,
+    model: u32,
+) -> Result<Asked<'a>, WordsFault>
+    requires { EndFits (Ok (a_plan.Translate script model)) (asked_for (map string_bytes words.now)) }
+    ensures { Answers (asked_for (map string_bytes words.entry.now)) result }
+{
+    let carried = carry_values(alloc, "translate", words, script, model)?;
+    Ok(Asked::Translate {
+        passes: carried.passes,
+        check: carried.check,
+        script: carried.script,
+        model: carried.model,
+    })
+}
+
+fn extend<'a>(
+    alloc: Global,
+    words: &'a [String],
+    script: u32,
+    model: u32,
+) -> Result<Asked<'a>, WordsFault>
+    requires { EndFits (Ok (a_plan.Extend script model)) (asked_for (map string_bytes words.now)) }
+    ensures { Answers (asked_for (map string_bytes words.entry.now)) result }
+{
+    let carried = carry_values(alloc, "extend", words, script, model)?;
+    Ok(Asked::Extend {
+        passes: carried.passes,
+        check: carried.check,
+        script: carried.script,
+        model: carried.model,
+    })
+}
+
+/// The values of the words of `translate` or `extend`, whose script and model are the words of these numbers.
+fn carry_values<'a>(
+    alloc: Global,
+    name: &'a str,
+    words: &'a [String],
+    script: u32,
+    model: u32,
+) -> Result<Carried<'a>, WordsFault>
+    requires { CarriesFiles script model (asked_for (map string_bytes words.now)) }
+    ensures { GivesCarried (asked_for (map string_bytes words.entry.now)) result }
+{
+    let Ok(matches) = carry_matches(alloc, name, words) else {
+        return Err(WordsFault::Memory);
+    };
+    let Ok(passes) = passes_of(matches.get_str("passes")) else {
+        unreachable!()
+    };
+    let Some(check) = check_of(matches.get_str("check")) else {
+        unreachable!()
+    };
+    let Some(script_name) = matches.get_str("script") else {
+        unreachable!()
+    };
+    let Some(model_name) = matches.get_str("model") else {
+        unreachable!()
+    };
+    Ok(Carried {
+        passes,
+        check,
+        script: File {
+            word: script,
+            name: script_name,
+        },
+        model: File {
+            word: model,
+            name: model_name,
+        },
+    })
+}
+
 fn stats<'a>(alloc: Global, words: &'a [String], word: u32) -> Result<Asked<'a>, WordsFault>
-    requires { EndFits (Ok (record { command = Stats; file = word })) (asked_for (map string_bytes words.now)) }
+    requires { EndFits (Ok (a_plan.Stats word)) (asked_for (map string_bytes words.now)) }
     ensures { Answers (asked_for (map string_bytes words.entry.now)) result }
 {
     let Ok(matches) = stats_matches(alloc, words) else {
@@ -136,5 +239,15 @@ fn layout_of(value: Option<&str>) -> Option<Layout>
     match value {
         None => Some(Layout::Tree),
         Some(name) => layout_of_word(name),
+    }
+}
+
+/// The check of an option's value; the first one where it isn't given.
+fn check_of(value: Option<&str>) -> Option<u64>
+    ensures { result ≡ check_in (option_map (λ t. t.now) value.entry) }
+{
+    match value {
+        None => Some(1),
+        Some(number) => check_of_word(number),
     }
 }

@@ -1,5 +1,5 @@
 -- Worked rows of texts of models that are carried over passes.
-use Rattle.std.specs.Prelude.{◌≡◌, ℕ, List, [], ◌∷◌, codes, Ok, refl}
+use Rattle.std.specs.Prelude.{◌≡◌, ℕ, List, [], ◌∷◌, codes, Ok, Err, refl}
 use Rattle.smt_lex.specs.Names.{is_syntax_word, is_command_word, is_theory_name, is_theory_sort, is_reserved_for_declaring, is_reserved_for_let, is_reserved_for_sorts}
 use Rattle.smt_terms.specs.Connectives.{operator_kind}
 use Rattle.smt_terms.specs.Constants.{literal_value}
@@ -11,8 +11,10 @@ use Rattle.smt_terms.specs.Written.{operator_named, written_rank, build}
 use Rattle.simplify.specs.Simplify.{law}
 use Rattle.script_read.specs.Outlines.{supported}
 use Rattle.smt_print.specs.TermForms.{operator_form}
+use Rattle.model_texts.specs.ModelText.{model_of}
+use Rattle.model_texts.specs.Refusals.{model_number, refused}
 use Rattle.passes.specs.declared.names.Pass.TheVariants.{Simplify, Ite, Cnf, Ackermann}
-use Rattle.smtrw_answers.specs.Carrying.{translated_text, extended_text}
+use Rattle.smtrw_answers.specs.Carrying.{signature_behind, translated_text, extended_text}
 
 -- ---- a function of a declared sort
 
@@ -68,3 +70,23 @@ levels = refl
 outliving : extended_text (codes "(set-option :global-declarations true)\n(push 1)\n(declare-fun p () Bool)\n(assert (not (and p p)))\n(pop 1)\n(assert p)\n(check-sat)\n") (Cnf ∷ []) 1 (codes "((define-fun p () Bool true))") ≡ Ok (codes "(\n(define-fun p () Bool true)\n(define-fun FV0 () Bool false)\n)\n")
 unfolding operator_kind is_syntax_word is_command_word supported is_theory_name is_theory_sort is_reserved_for_declaring is_reserved_for_let is_reserved_for_sorts operator_named written_rank build rank op_eq op_value operator_form
 outliving = refl
+
+-- ---- an extended value, and one beyond the range, whose text wouldn't be read
+
+abbrev squared : List ℕ
+squared = codes "(declare-fun p () Bool)\n(declare-fun x () Int)\n(assert (= (ite p (* x x) 0) 0))\n(check-sat)\n"
+
+square : extended_text squared (Ite ∷ []) 1 (codes "((define-fun p () Bool false) (define-fun x () Int 3))") ≡ Ok (codes "(\n(define-fun p () Bool false)\n(define-fun x () Int 3)\n(define-fun FV0 () Int 0)\n)\n")
+unfolding operator_kind is_ite_operator is_syntax_word is_command_word supported is_theory_name is_theory_sort is_reserved_for_declaring is_reserved_for_let is_reserved_for_sorts operator_named written_rank build rank op_eq op_value operator_form
+square = refl
+
+abbrev beyond_range : List ℕ
+beyond_range = codes "(\n(define-fun p () Bool true)\n(define-fun x () Int 18446744073709551616)\n(define-fun FV0 () Int 340282366920938463463374607431768211456)\n)\n"
+
+great_square : extended_text squared (Ite ∷ []) 1 (codes "((define-fun p () Bool true) (define-fun x () Int 18446744073709551616))") ≡ Ok beyond_range
+unfolding operator_kind is_ite_operator is_syntax_word is_command_word supported is_theory_name is_theory_sort is_reserved_for_declaring is_reserved_for_let is_reserved_for_sorts operator_named written_rank build rank op_eq op_value operator_form
+great_square = refl
+
+great_square_refused : model_of beyond_range (signature_behind squared (Ite ∷ []) 1) ≡ Err (refused (record { cause = model_number; line = 4; byte = 96 }))
+unfolding operator_kind is_ite_operator is_syntax_word is_command_word supported is_theory_name is_theory_sort is_reserved_for_declaring is_reserved_for_let is_reserved_for_sorts operator_named written_rank build rank op_eq op_value operator_form
+great_square_refused = refl

@@ -5,10 +5,11 @@ use Rattle.smt_terms.specs.Connectives.{operator_kind}
 use Rattle.smt_terms.specs.Equal.{op_eq}
 use Rattle.smt_terms.specs.Operators.{op_value}
 use Rattle.smt_terms.specs.Rank.{rank}
+use Rattle.smt_terms.specs.Shapes.{is_ite_operator}
 use Rattle.smt_terms.specs.Written.{operator_named, written_rank, build}
 use Rattle.script_read.specs.Outlines.{supported}
 use Rattle.smt_print.specs.TermForms.{operator_form}
-use Rattle.passes.specs.declared.names.Pass.TheVariants.{Cnf, Ackermann}
+use Rattle.passes.specs.declared.names.Pass.TheVariants.{Ite, Cnf, Ackermann}
 use Rattle.smtrw_answers.specs.declared.status.Why.TheVariants.{NoSuchCheck}
 use Rattle.smtrw_answers.specs.declared.status.Status.{Status}
 use Rattle.smtrw_answers.specs.declared.status.Status.TheVariants.{Refused, Usage, ModelRefused, Beyond128, PassRefused}
@@ -88,3 +89,15 @@ given_twice = refl
 too_many_bits : extend_end (codes "(declare-fun p () Bool)\n(assert (or (not (and p (forall ((v (_ BitVec 17))) (= v v)))) p))\n(check-sat)\n") (Cnf ∷ []) 1 (codes "((define-fun p () Bool true))") ≡ Some (PassRefused 71 1)
 unfolding operator_kind is_syntax_word is_command_word supported is_theory_name is_theory_sort is_reserved_for_declaring is_reserved_for_let is_reserved_for_sorts operator_named written_rank build rank op_eq operator_form
 too_many_bits = refl
+
+abbrev squared : List ℕ
+squared = codes "(declare-fun p () Bool)\n(declare-fun x () Int)\n(assert (= (ite p (* x x) 0) 0))\n(check-sat)\n"
+
+-- the value that isn't chosen counts too
+square_beyond_range : extend_end squared (Ite ∷ []) 1 (codes "((define-fun p () Bool false) (define-fun x () Int 18446744073709551616))") ≡ Some (Beyond128 1)
+unfolding operator_kind is_ite_operator is_syntax_word is_command_word supported is_theory_name is_theory_sort is_reserved_for_declaring is_reserved_for_let is_reserved_for_sorts operator_named written_rank build rank op_eq op_value operator_form
+square_beyond_range = refl
+
+square_within_range : extend_end squared (Ite ∷ []) 1 (codes "((define-fun p () Bool false) (define-fun x () Int 3))") ≡ None
+unfolding operator_kind is_ite_operator is_syntax_word is_command_word supported is_theory_name is_theory_sort is_reserved_for_declaring is_reserved_for_let is_reserved_for_sorts operator_named written_rank build rank op_eq op_value operator_form
+square_within_range = refl

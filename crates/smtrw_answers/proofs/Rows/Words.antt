@@ -220,8 +220,18 @@ groups_in_wrong_order : so_far ("rewrite" ∷ "--passes" ∷ "rules,cnf" ∷ "-"
 unfolding pass_named
 groups_in_wrong_order = refl
 
-a_command_to_come : so_far ("translate" ∷ "-" ∷ "-" ∷ []) ≡ fault 1 UnknownCommand
+a_command_to_come : so_far ("demo" ∷ "1" ∷ "2" ∷ []) ≡ fault 1 UnknownCommand
 a_command_to_come = refl
+
+standing_translate : so_far ("translate" ∷ "--check=3" ∷ "-" ∷ "--passes" ∷ "ite,rules" ∷ "m" ∷ []) ≡ Ok (translate (Ite ∷ Rules ∷ []) 3 (word 3 "-") (word 6 "m"))
+unfolding pass_named
+standing_translate = refl
+
+standing_extend : so_far ("extend" ∷ "a" ∷ "-" ∷ []) ≡ Ok (extend [] 1 (word 2 "a") (word 3 "-"))
+standing_extend = refl
+
+standing_inputs : so_far ("translate" ∷ "-" ∷ "-" ∷ []) ≡ fault 3 TwoInputs
+standing_inputs = refl
 
 standing_stats : so_far ("stats" ∷ "-" ∷ []) ≡ Ok (stats (word 2 "-"))
 standing_stats = refl

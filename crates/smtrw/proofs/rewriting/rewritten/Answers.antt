@@ -6,8 +6,9 @@ use Rattle.passes.specs.Laws.{IsReady}
 use Rattle.script_read.specs.CommandLists.{commands_of}
 use Rattle.script_read.specs.Commands.{Command}
 use Rattle.term_table.specs.Formulas.{Formulas}
-use Rattle.smtrw_answers.specs.Endings.{script_end}
-use Rattle.smtrw.proofs.Endings.{accepted_ends, memory_ends}
+use Rattle.smtrw_answers.specs.Endings.{rewrite_end, script_end}
+use Rattle.smtrw_answers.specs.Faults.{status_of_reading}
+use Rattle.smtrw.proofs.Endings.{accepted_ends, memory_ends, rewriting_accepted, rewriting_ends, unread_ends, writes_so}
 use Rattle.smtrw.proofs.Texts.{may_be_written, promised}
 use Rattle.smtrw.proofs.rewriting.rewritten.Goals as goal
 
@@ -21,8 +22,18 @@ run_passes-requires-clause-ready g c =
     } in
     ready
 
+pub returns-in_err-script-clause-text : goal.returns-in_err-script-clause-text
+returns-in_err-script-clause-text g c =
+    let b = c.args.forest.bytes in
+    let fault = c.in_err-script.field-0.0 in
+    writes_so (rewrite_end b c.args.passes.now) _ c.from_residual.result (status_of_reading fault) c.from_residual.ensures.1
+    (rewriting_ends b c.args.passes.now (status_of_reading fault) (unread_ends b c.requires.short c.read_script.new.table fault c.in_err-script.ensures.script))
+
+pub returns-in_err-script-2-clause-text : goal.returns-in_err-script-2-clause-text
+returns-in_err-script-2-clause-text g c = memory_ends (rewrite_end c.args.forest.bytes c.args.passes.now) _ c.from_residual-in_err-script-2.result c.from_residual-in_err-script-2.ensures.1
+
 pub returns-in_err-script_into-clause-text : goal.returns-in_err-script_into-clause-text
-returns-in_err-script_into-clause-text g c = memory_ends c.args.forest.bytes _ c.from_residual-in_err-script_into.result c.from_residual-in_err-script_into.ensures.1
+returns-in_err-script_into-clause-text g c = memory_ends (rewrite_end c.args.forest.bytes c.args.passes.now) _ c.from_residual-in_err-script_into.result c.from_residual-in_err-script_into.ensures.1
 
 pub returns-clause-text : goal.returns-clause-text
 returns-clause-text g c =
@@ -35,7 +46,7 @@ returns-clause-text g c =
     ∙ ap (λ (t : Formulas). c.over-text.result ++ lines c.args.layout (commands_of t c.in_ok-script-2.script.commands)) (c.deref.ensures ∙ c.new-table-2.ensures)
     ∙ ap (λ (old : List ℕ). old ++ lines c.args.layout ds) c.over-text.ensures in
     let accepted : script_end b ≡ None = accepted_ends b c.requires.short read is in
-    (accepted, may_be_written b read is c.args.passes.now _ c.args.layout ds c.run_passes.new.fresh c.in_ok-script-2.ensures.leads c.script_into.new.out text)
+    (rewriting_accepted b c.args.passes.now c.passes_can_run.ensures.run accepted, may_be_written b read is c.args.passes.now _ c.args.layout ds c.run_passes.new.fresh c.in_ok-script-2.ensures.leads c.script_into.new.out text)
 
 pub returns-clause-promise : goal.returns-clause-promise
 returns-clause-promise g c =

@@ -36,10 +36,10 @@ returns-clause-run g c =
     (eight_added _ _ _ _ _ _ _ _ _ _ _ _ _ _ _ _ _ c.new-book.ensures c.in_ok-add.ensures.added c.in_ok-add-2.ensures.added c.in_ok-add-3.ensures.added c.in_ok-add-4.ensures.added c.in_ok-add-5.ensures.added c.in_ok-add-6.ensures.added c.in_ok-add-7.ensures.added c.in_ok-add-8.ensures.added c.new-2.ensures c.new-4.ensures c.new-6.ensures c.new-8.ensures c.new-10.ensures c.new-12.ensures c.new-14.ensures c.new-16.ensures)
     (record {
       words = e.words;
-      stands = e.stands;
+      ends = e.ends;
       read = e.read;
       write = e.write;
-      script = e.script;
+      texts = e.texts;
       out = e.out;
       quiet = e.quiet;
       promise = e.promise;

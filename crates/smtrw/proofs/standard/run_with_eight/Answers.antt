@@ -10,4 +10,4 @@ returns-in-Err g c =
     unbegun_by eight_names _ _ _ _ _ _ _ (record { sent = g.E.Sink.sent begun; flushed = g.E.Sink.flushed begun; faults = g.E.Sink.faults begun }) _ _
     (λ i. record { sent = g.O.Sink.sent (unsent i); flushed = g.O.Sink.flushed (unsent i); faults = g.O.Sink.faults (unsent i) })
     (λ i. record { sent = g.E.Sink.sent (unsaid i); flushed = g.E.Sink.flushed (unsaid i); faults = g.E.Sink.faults (unsaid i) })
-    c.unbegun-status.ensures.words c.unbegun-status.ensures.unbegun c.complain.ensures.silent c.complain.ensures.prefix c.complain.ensures.whole
+    c.unbegun-status.ensures c.complain.ensures.silent c.complain.ensures.prefix c.complain.ensures.whole

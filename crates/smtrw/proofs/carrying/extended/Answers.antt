@@ -1,0 +1,34 @@
+use Rattle.std.proofs.Common.{sym, subst, ◌∙◌}
+use Rattle.smtrw_answers.specs.Asked.{numbered}
+use Rattle.smtrw.specs.declared.carrying.Way.{Way}
+use Rattle.smtrw.specs.Carrying.{IsWay, extension}
+use Rattle.smtrw.specs.Prepared.{EndsBefore, texts_beside}
+use Rattle.smtrw.proofs.CarriedModels.{if_refused, extending_way}
+use Rattle.smtrw.proofs.carrying.extended.Goals as goal
+
+pub carried_forth-requires : goal.carried_forth-requires
+carried_forth-requires g c =
+    let asked = c.args.asked.now in
+    let b = c.args.forest.now.bytes in
+    (b, subst (λ (w : Way). IsWay b asked.passes.now asked.check w) (sym (c.deref.ensures ∙ c.new-way.ensures)) c.in_ok-way.ensures.way)
+
+pub returns-in_err-way-clause-before : goal.returns-in_err-way-clause-before
+returns-in_err-way-clause-before g c = λ script.
+    let asked = c.args.asked.now in
+    let b = c.args.forest.now.bytes in
+    let told = g.I.Inputs.text c.args.inputs.now asked.model.name.now in
+    let faults = g.I.Inputs.faults c.args.inputs.now in
+    if_refused _ (EndsBefore (texts_beside b (g.I.Inputs.text c.args.inputs.now) (extension script asked)) faults faults (extension script asked)) c.in_err-way.field-0.0 c.from_residual.ensures.1
+    (extending_way b asked.passes.now asked.check told script (numbered asked.model) faults faults c.in_err-way.field-0.0 c.in_err-way.ensures.ends)
+
+pub returns-clause-before : goal.returns-clause-before
+returns-clause-before g c = λ script.
+    let asked = c.args.asked.now in
+    let b = c.args.forest.now.bytes in
+    c.carried_forth.ensures.before b script (subst (λ (w : Way). IsWay b asked.passes.now asked.check w) (sym (c.deref.ensures ∙ c.new-way.ensures)) c.in_ok-way.ensures.way)
+
+pub returns-clause-text : goal.returns-clause-text
+returns-clause-text g c = λ script.
+    let asked = c.args.asked.now in
+    let b = c.args.forest.now.bytes in
+    c.carried_forth.ensures.text b script _ (subst (λ (w : Way). IsWay b asked.passes.now asked.check w) (sym (c.deref.ensures ∙ c.new-way.ensures)) c.in_ok-way.ensures.way)

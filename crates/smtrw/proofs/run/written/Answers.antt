@@ -1,0 +1,117 @@
+use Rattle.std.proofs.Common.{◌≡◌, ℕ, ◌≤◌, List, length, Option, Result, subst, sym}
+use Rattle.std.specs.Prelude.{IfErr, IfOk}
+use Rattle.smt_terms.specs.Sorts.{Name}
+use Rattle.smtrw_answers.specs.declared.status.Status.{Status}
+use Rattle.smtrw_answers.specs.declared.words.Asked.{Asked}
+use Rattle.smtrw_answers.specs.declared.words.Asked.TheVariants.{Rewrite, Translate, Extend, Stats}
+use Rattle.smtrw_answers.specs.Asked.{asked_seen, numbered}
+use Rattle.smtrw_answers.specs.Endings.{longest_text}
+use Rattle.smtrw_answers.specs.Faults.{status_of_lexing}
+use Rattle.smtrw_answers.specs.Words.{Word, model_file_of}
+use Rattle.smtrw.specs.Carrying.{CountsFromOne}
+use Rattle.smtrw.specs.Prepared.{EndsBefore, IsPrepared, texts_beside}
+use Rattle.smtrw.specs.Run.{model_text_of}
+use Rattle.smtrw.proofs.CarriedModels.{if_refused}
+use Rattle.smtrw.proofs.Endings.{lexing_ends}
+use Rattle.smtrw.proofs.ReadTexts.{counting_before, counting_prepared, read_before, read_prepared, refused_before, rewriting_before, rewriting_prepared}
+use Rattle.smtrw.proofs.run.written.Goals as goal
+
+-- what holds of the command that was found holds of what was asked
+before_asked : (b : List ℕ) (text : Word → Option (List ℕ)) (before now : Word → ℕ) (r : Result (List ℕ) Status) (asked found : Asked) → asked ≡ found
+    → IfErr r (EndsBefore (texts_beside b text (asked_seen found)) before now (asked_seen found)) → IfErr r (EndsBefore (texts_beside b text (asked_seen asked)) before now (asked_seen asked))
+before_asked b text before now r asked found is ends = subst (λ (a : Asked). IfErr r (EndsBefore (texts_beside b text (asked_seen a)) before now (asked_seen a))) (sym is) ends
+
+prepared_asked : (rules : List Name) (b : List ℕ) (text : Word → Option (List ℕ)) (r : Result (List ℕ) Status) (asked found : Asked) → asked ≡ found
+    → IfOk r (IsPrepared rules (texts_beside b text (asked_seen found)) (asked_seen found)) → IfOk r (IsPrepared rules (texts_beside b text (asked_seen asked)) (asked_seen asked))
+prepared_asked rules b text r asked found is prepared = subst (λ (a : Asked). IfOk r (IsPrepared rules (texts_beside b text (asked_seen a)) (asked_seen a))) (sym is) prepared
+
+pub returns-in_err-forest-clause-before : goal.returns-in_err-forest-clause-before
+returns-in_err-forest-clause-before g c =
+    let a = asked_seen c.args.asked.now in
+    let b = c.args.bytes.items in
+    let text = g.I.Inputs.text c.args.inputs.now in
+    let faults = g.I.Inputs.faults c.args.inputs.now in
+    let fault = c.in_err-forest.field-0.0 in
+    let short : length b ≤ longest_text = subst (λ (n : ℕ). n ≤ longest_text) c.args.bytes.ok.0 c.requires.short in
+    if_refused _ (EndsBefore (texts_beside b text a) faults faults a) (status_of_lexing fault) c.from_residual.ensures.1
+    (refused_before c.args.asked.now b (model_text_of (model_file_of a) text) faults faults (status_of_lexing fault) (lexing_ends b short fault c.in_err-forest.ensures.fault))
+
+pub returns-in-Rewrite-clause-before : goal.returns-in-Rewrite-clause-before
+returns-in-Rewrite-clause-before g c =
+    let b = c.args.bytes.items in
+    let text = g.I.Inputs.text c.args.inputs.now in
+    let faults = g.I.Inputs.faults c.args.inputs.now in
+    let found : Asked = Rewrite c.in-Rewrite.passes c.in-Rewrite.layout c.in-Rewrite.file in
+    before_asked b text faults faults c.rewritten.result c.args.asked.now found c.in-Rewrite.is
+    (rewriting_before b c.in_ok-forest.forest.bytes c.in_ok-forest.ensures.bytes text faults faults c.in-Rewrite.passes c.in-Rewrite.layout (numbered c.in-Rewrite.file) _ c.rewritten.result c.rewritten.ensures.text)
+
+pub returns-in-Rewrite-clause-text : goal.returns-in-Rewrite-clause-text
+returns-in-Rewrite-clause-text g c =
+    let b = c.args.bytes.items in
+    let text = g.I.Inputs.text c.args.inputs.now in
+    let found : Asked = Rewrite c.in-Rewrite.passes c.in-Rewrite.layout c.in-Rewrite.file in
+    prepared_asked _ b text c.rewritten.result c.args.asked.now found c.in-Rewrite.is
+    (rewriting_prepared b c.in_ok-forest.forest.bytes c.in_ok-forest.ensures.bytes text c.in-Rewrite.passes c.in-Rewrite.layout (numbered c.in-Rewrite.file) _ c.rewritten.result c.rewritten.ensures.text c.rewritten.ensures.promise)
+
+pub returns-in-Translate-clause-before : goal.returns-in-Translate-clause-before
+returns-in-Translate-clause-before g c =
+    let b = c.args.bytes.items in
+    let text = g.I.Inputs.text c.args.inputs.now in
+    let faults = g.I.Inputs.faults c.args.inputs.now in
+    let later = g.I.Inputs.faults c.translated.new.inputs in
+    let found : Asked = Translate c.in-Translate.passes c.in-Translate.check c.in-Translate.script c.in-Translate.model in
+    before_asked b text faults later c.translated.result c.args.asked.now found c.in-Translate.is
+    (read_before b c.in_ok-forest.forest.bytes c.in_ok-forest.ensures.bytes text faults later (asked_seen found) c.translated.result (c.translated.ensures.before (numbered c.in-Translate.script)))
+
+pub returns-in-Translate-clause-text : goal.returns-in-Translate-clause-text
+returns-in-Translate-clause-text g c =
+    let b = c.args.bytes.items in
+    let text = g.I.Inputs.text c.args.inputs.now in
+    let found : Asked = Translate c.in-Translate.passes c.in-Translate.check c.in-Translate.script c.in-Translate.model in
+    prepared_asked _ b text c.translated.result c.args.asked.now found c.in-Translate.is
+    (read_prepared b c.in_ok-forest.forest.bytes c.in_ok-forest.ensures.bytes text _ (asked_seen found) c.translated.result (c.translated.ensures.text (numbered c.in-Translate.script)))
+
+pub returns-in-Extend-clause-before : goal.returns-in-Extend-clause-before
+returns-in-Extend-clause-before g c =
+    let b = c.args.bytes.items in
+    let text = g.I.Inputs.text c.args.inputs.now in
+    let faults = g.I.Inputs.faults c.args.inputs.now in
+    let later = g.I.Inputs.faults c.extended.new.inputs in
+    let found : Asked = Extend c.in-Extend.passes c.in-Extend.check c.in-Extend.script c.in-Extend.model in
+    before_asked b text faults later c.extended.result c.args.asked.now found c.in-Extend.is
+    (read_before b c.in_ok-forest.forest.bytes c.in_ok-forest.ensures.bytes text faults later (asked_seen found) c.extended.result (c.extended.ensures.before (numbered c.in-Extend.script)))
+
+pub returns-in-Extend-clause-text : goal.returns-in-Extend-clause-text
+returns-in-Extend-clause-text g c =
+    let b = c.args.bytes.items in
+    let text = g.I.Inputs.text c.args.inputs.now in
+    let found : Asked = Extend c.in-Extend.passes c.in-Extend.check c.in-Extend.script c.in-Extend.model in
+    prepared_asked _ b text c.extended.result c.args.asked.now found c.in-Extend.is
+    (read_prepared b c.in_ok-forest.forest.bytes c.in_ok-forest.ensures.bytes text _ (asked_seen found) c.extended.result (c.extended.ensures.text (numbered c.in-Extend.script)))
+
+pub returns-in-Stats-clause-before : goal.returns-in-Stats-clause-before
+returns-in-Stats-clause-before g c =
+    let b = c.args.bytes.items in
+    let text = g.I.Inputs.text c.args.inputs.now in
+    let faults = g.I.Inputs.faults c.args.inputs.now in
+    before_asked b text faults faults c.counted.result c.args.asked.now (Stats c.in-Stats.file) c.in-Stats.is
+    (counting_before b c.in_ok-forest.forest.bytes c.in_ok-forest.ensures.bytes text faults faults (numbered c.in-Stats.file) c.counted.result c.counted.ensures)
+
+pub returns-in-Stats-clause-text : goal.returns-in-Stats-clause-text
+returns-in-Stats-clause-text g c =
+    let b = c.args.bytes.items in
+    let text = g.I.Inputs.text c.args.inputs.now in
+    prepared_asked _ b text c.counted.result c.args.asked.now (Stats c.in-Stats.file) c.in-Stats.is
+    (counting_prepared b c.in_ok-forest.forest.bytes c.in_ok-forest.ensures.bytes text (numbered c.in-Stats.file) _ c.counted.result c.counted.ensures)
+
+pub translated-requires-clause-first : goal.translated-requires-clause-first
+translated-requires-clause-first g c =
+    let found : Asked = Translate c.in-Translate.passes c.in-Translate.check c.in-Translate.script c.in-Translate.model in
+    let is : c.args.asked.now ≡ found = c.in-Translate.is in
+    subst (λ (a : Asked). CountsFromOne (asked_seen a)) is c.requires.first
+
+pub extended-requires-clause-first : goal.extended-requires-clause-first
+extended-requires-clause-first g c =
+    let found : Asked = Extend c.in-Extend.passes c.in-Extend.check c.in-Extend.script c.in-Extend.model in
+    let is : c.args.asked.now ≡ found = c.in-Extend.is in
+    subst (λ (a : Asked). CountsFromOne (asked_seen a)) is c.requires.first
