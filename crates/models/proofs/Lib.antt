@@ -7,3 +7,4 @@ mod NumberedGraphs
 mod RowsOfGraphs
 mod ModelsGrown
 mod RowsOfNumbers
+mod FunctionsForgotten

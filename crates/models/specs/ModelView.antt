@@ -7,6 +7,7 @@ use Rattle.smt_terms.specs.declared.ids.SortId.{SortId}
 use Rattle.smt_terms.specs.declared.ids.SymId.{SymId}
 use Rattle.smt_terms.specs.Equal.{name_eq, symbol_eq}
 use Rattle.smt_terms.specs.Models.{Graph, NumberGraph, Model}
+use Rattle.smt_terms.specs.Rank.{is_empty}
 use Rattle.smt_terms.specs.Sorts.{Name, Symbol}
 use Rattle.smt_terms.specs.Values.{Value, Sizes}
 use Rattle.smt_values.specs.SizeTable.{size_at, sizes_by}
@@ -79,6 +80,10 @@ default_model sig = default_model_of (λ _. 1) sig
 -- the model with this function for a symbol, or without the symbol
 abbrev pub with_graph : Symbol → Option Graph → Model → Model
 with_graph f g m = record { sizes = m.sizes; graphs = λ h. cond (symbol_eq h f) g (m.graphs h); div_by_zero = m.div_by_zero; mod_by_zero = m.mod_by_zero }
+
+-- the model without the symbols that have arguments
+abbrev pub without_functions : Model → Model
+without_functions m = record { sizes = m.sizes; graphs = λ h. cond (is_empty h.args) (m.graphs h) None; div_by_zero = m.div_by_zero; mod_by_zero = m.mod_by_zero }
 
 -- the model with a row more for a symbol, unless the symbol has one with the same keys
 abbrev pub with_row_for : Symbol → List Value → Value → Model → Model

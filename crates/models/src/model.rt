@@ -10,7 +10,7 @@ ghost use Rattle.smt_values.specs.Valid.{IsValue};
 ghost use Rattle.term_table.specs.Formulas.{Formulas, symbol_at, IsSymbol, IsTable};
 ghost use Rattle.models.specs.GraphRows.{meanings, constant_graph, has_row, with_row, AreValues};
 ghost use Rattle.models.specs.LiveNumbers.{signature_of, AreLiveNumbersOf};
-ghost use Rattle.models.specs.ModelView.{graph_in, model_at, IsModelOf, AreSizesOf, no_numbers, default_model, default_model_of, with_graph, with_row_for};
+ghost use Rattle.models.specs.ModelView.{graph_in, model_at, IsModelOf, AreSizesOf, no_numbers, default_model, default_model_of, with_graph, with_row_for, without_functions};
 ghost use Rattle.models.specs.Division.{numbers_of, with_numbers};
 
 use crate::graph::Graph;
@@ -177,6 +177,18 @@ impl Model {
         ensures numbers { (t : Formulas) → IsModelOf t self.old → IsModelOf t self.new }
     {
         self.graphs.swap_remove(&s);
+    }
+
+    /// Takes all symbols that have arguments out of the model. It takes no memory.
+    pub fn forget_functions(&mut self, table: &Table)
+        requires numbers { IsModelOf table.now self.old }
+        ensures model { model_at table.now self.new ≡ without_functions (model_at table.now self.old) }
+        ensures valid { IsModel (model_at table.now self.old) → IsModel (model_at table.now self.new) }
+        ensures sizes { self.new.sizes ≡ self.old.sizes }
+        ensures numbers { IsModelOf table.now self.new }
+    {
+        self.graphs
+            .retain(|symbol, _| table.symbol_rank(*symbol).0.is_empty());
     }
 
     /// Gives a symbol, which may be new to the model, this value everywhere. Where it is refused, the model is as before.
