@@ -31,7 +31,7 @@ use smt_lex::Forest;
 use smt_terms::SortId;
 use smt_values::{Scalar, Value};
 use std::alloc::{AllocError, Global};
-use term_table::Table;
+use term_table::{Table, know_table};
 
 /// What a parameter is equal to: a truth value, or the value that the form at a token is.
 #[derive(Clone, Copy)]
@@ -66,8 +66,7 @@ pub(crate) fn read_condition<'a>(
     ensures valid { IfOk result (λ vs. AreMetValues table.now elements.new sorts.now vs.items) }
     ensures gains { Gains elements.old elements.new }
 {
-    // `len` is called for its clause on the table
-    let _ = table.len();
+    know_table(table);
     let Some(equations) = equations_of(alloc, forest, at, parameters, sorts)? else {
         return Err(refused(forest, at, Cause::NotATable));
     };

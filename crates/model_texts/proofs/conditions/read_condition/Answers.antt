@@ -25,7 +25,7 @@ returns-clause-values c es known =
     let ps = c.args.parameters.now in
     let f = form_from ts c.args.at in
     let xs = variables_at t ts args ps in
-    let sorts : AreSortsOf t args = record { table = c.len.ensures.table.sorts; within = c.requires.sorts } in
+    let sorts : AreSortsOf t args = record { table = c.know_table.ensures.sorts; within = c.requires.sorts } in
     let distinct : are_distinct (map (λ p. p.0) ps) ≡ true = subst (λ o. IfSome o (λ _. are_distinct (map (λ p. p.0) ps) ≡ true)) c.in-Some.is c.in_ok-equations.ensures.distinct in
     let gives : GivesEquations ts args ps (λ ys. equations ys f) (Some c.in-Some.equations.items) =
     subst (λ o. GivesEquations ts args ps (λ ys. equations ys f) (option_map (λ v. v.items) o)) c.in-Some.is c.in_ok-equations.ensures.equations in
