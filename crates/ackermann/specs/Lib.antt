@@ -1,1 +1,9 @@
 pub mod Ackermann
+pub mod KeptUses
+pub mod Laws
+pub mod LevelsAt
+pub mod LiveUses
+pub mod Marking
+pub mod Removals
+pub mod Replacing
+pub mod Tables

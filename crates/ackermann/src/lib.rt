@@ -2,3 +2,18 @@
 //! where the arguments are. Constants live on the levels of a script.
 
 #![tactic(auto)]
+
+mod applications;
+mod entering;
+pub mod fault;
+pub mod laws;
+pub mod live;
+mod pairs;
+mod quantified;
+mod removal;
+mod replacing;
+mod uses;
+
+pub use fault::AckFault;
+pub use live::Ack;
+pub use quantified::has_quantified_use;
