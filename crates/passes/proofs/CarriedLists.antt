@@ -10,7 +10,7 @@ use Rattle.passes.specs.declared.names.Pass.{Pass}
 use Rattle.passes.specs.declared.names.Pass.TheVariants.{Simplify, Nnf, Aig, Prenex, Reads, Shannon, SelfSub, Rules, Ite, Cnf, Ackermann}
 use Rattle.passes.specs.Carry.{back_over, back, forth_over, forth}
 use Rattle.passes.specs.Laws.{keeps_values, IsReady, AreEquivalent, IsModelOf, PassesLeaveModels, IsCarried, AreCarried}
-use Rattle.passes.specs.Lists.{makes_groups, groups_after_rules, can_run}
+use Rattle.passes.specs.Lists.{makes_groups, groups_after_rules}
 use Rattle.passes.specs.Passed.{apply_pass, passed}
 use Rattle.passes.proofs.InForm.{asks_rules}
 use Rattle.passes.proofs.ModelsCarried.{IsOver}
@@ -44,18 +44,18 @@ no_rules_before (Rules ∷ ps) p in_order makes = contrary (makes_groups p) make
 no_rules_before (q ∷ ps) p in_order makes = no_rules_before ps p in_order makes
 
 -- another one leaves models as they are
-pub other_keeps : (p : Pass) → can_run p ≡ true → makes_groups p ≡ false → keeps_values p ≡ true
-other_keeps Simplify run other = refl
-other_keeps Nnf run other = refl
-other_keeps Aig run other = refl
-other_keeps Prenex run other = refl
-other_keeps Reads run other = refl
-other_keeps Shannon run other = refl
-other_keeps SelfSub run other = refl
-other_keeps Rules run other = refl
-other_keeps Ite run other = absurd cc
-other_keeps Cnf run other = absurd cc
-other_keeps Ackermann run other = absurd cc
+pub other_keeps : (p : Pass) → makes_groups p ≡ false → keeps_values p ≡ true
+other_keeps Simplify other = refl
+other_keeps Nnf other = refl
+other_keeps Aig other = refl
+other_keeps Prenex other = refl
+other_keeps Reads other = refl
+other_keeps Shannon other = refl
+other_keeps SelfSub other = refl
+other_keeps Rules other = refl
+other_keeps Ite other = absurd cc
+other_keeps Cnf other = absurd cc
+other_keeps Ackermann other = absurd cc
 
 -- ---- models over a pass
 
@@ -79,13 +79,13 @@ alike_same p ds r made same = record {
   forth = λ k m. ap (λ q. forth_over p q.0 q.1 k m) (sym same);
 }
 
-carries_alike : PassesLeaveModels → (ps : List Pass) (p : Pass) (cs ds : List (Command Term)) (s r : Supply) → can_run p ≡ true → groups_after_rules (ps ++ p ∷ []) ≡ false
+carries_alike : PassesLeaveModels → (ps : List Pass) (p : Pass) (cs ds : List (Command Term)) (s r : Supply) → groups_after_rules (ps ++ p ∷ []) ≡ false
     → (list_any asks_rules ps ≡ false → (ds, r) ≡ passed ps cs s) → CarriesAlike p (passed ps cs s).0 ds (passed ps cs s).1 r
-carries_alike leave ps p cs ds s r run in_order reached = go (true_or_false (makes_groups p))
+carries_alike leave ps p cs ds s r in_order reached = go (true_or_false (makes_groups p))
   where
     go : (makes_groups p ≡ true) ⊎ (makes_groups p ≡ false) → CarriesAlike p (passed ps cs s).0 ds (passed ps cs s).1 r
     go (inl makes) = alike_same p ds r (passed ps cs s) (reached (no_rules_before ps p in_order makes))
-    go (inr other) = alike_kept leave p (passed ps cs s).0 ds (passed ps cs s).1 r (other_keeps p run other)
+    go (inr other) = alike_kept leave p (passed ps cs s).0 ds (passed ps cs s).1 r (other_keeps p other)
 
 -- ---- lists
 
@@ -99,11 +99,11 @@ carried-none cs s ready same = record {
 
 pub carried-more : PassesLeaveModels → ((cs ds es : List (Command Term)) → AreEquivalent cs ds → AreEquivalent ds es → AreEquivalent cs es)
     → (ps : List Pass) (p : Pass) (cs ds es : List (Command Term)) (s r q : Supply)
-    → can_run p ≡ true → groups_after_rules (ps ++ p ∷ []) ≡ false
+    → groups_after_rules (ps ++ p ∷ []) ≡ false
     → (list_any asks_rules ps ≡ false → (ds, r) ≡ passed ps cs s)
     → AreCarried ps cs ds s r → IsCarried p ds es r q → AreCarried (ps ++ p ∷ []) cs es s q
-carried-more leave then ps p cs ds es s r q run in_order reached before last =
-    let over : CarriesAlike p (passed ps cs s).0 ds (passed ps cs s).1 r = carries_alike leave ps p cs ds s r run in_order reached in
+carried-more leave then ps p cs ds es s r q in_order reached before last =
+    let over : CarriesAlike p (passed ps cs s).0 ds (passed ps cs s).1 r = carries_alike leave ps p cs ds s r in_order reached in
     record {
       ready = last.ready;
       equivalent = λ none.

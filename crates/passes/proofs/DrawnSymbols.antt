@@ -52,7 +52,7 @@ times f fs = count_by (symbol_eq f) fs
 times_more : (f g : Symbol) (fs : List Symbol) (b : Bool) → symbol_eq f g ≡ b → times f (g ∷ fs) ≡ cond b 1 0 + times f fs
 times_more f g fs b is = sum_by-cons (λ h. cond (symbol_eq f h) 1 0) g fs ∙ ap (λ c. cond c 1 0 + times f fs) is
 
-other_way : (f g : Symbol) → symbol_eq g f ≡ false → symbol_eq f g ≡ false
+pub other_way : (f g : Symbol) → symbol_eq g f ≡ false → symbol_eq f g ≡ false
 other_way f g apart = go (true_or_false (symbol_eq f g))
   where
     go : (symbol_eq f g ≡ true) ⊎ (symbol_eq f g ≡ false) → symbol_eq f g ≡ false
@@ -90,19 +90,30 @@ once_of_distinct (g ∷ fs) h f =
         omega (arith, all, none)
     go (inr apart) other rest = let all = times_more f g fs false apart in omega (arith, all, rest)
 
+-- of two lists that have no symbol in common
+pub once_of_both : (xs ys : Named) (f : Symbol) → count_by (symbol_eq f) (symbols_of xs) ≤ 1 → count_by (symbol_eq f) (symbols_of ys) ≤ 1 → (is_among (symbols_of xs) f ≡ true → is_among (symbols_of ys) f ≡ false) → count_by (symbol_eq f) (symbols_of (xs ++ ys)) ≤ 1
+once_of_both xs ys f first second apart = go (true_or_false (is_among (symbols_of xs) f))
+  where
+    both : times f (symbols_of (xs ++ ys)) ≡ times f (symbols_of xs) + times f (symbols_of ys)
+    both = ap (times f) (both_symbols xs ys) ∙ sum_by-append (λ g. cond (symbol_eq f g) 1 0) (symbols_of xs) (symbols_of ys)
+
+    go : (is_among (symbols_of xs) f ≡ true) ⊎ (is_among (symbols_of xs) f ≡ false) → times f (symbols_of (xs ++ ys)) ≤ 1
+    go (inl among) = let none = never_there f (symbols_of ys) (apart among) in omega (arith, both, first, none)
+    go (inr out) = let none = never_there f (symbols_of xs) out in omega (arith, both, second, none)
+
 -- ---- one group
 
 abbrev pub HasSortOf : Symbol → Term → Type 0
 HasSortOf f t = (to : Sort) → sort_of t ≡ Some to → f.result ≡ to
 
 -- symbols that were drawn from s, where q is left
-record AreDrawn (ns : Named) (s q : Supply) : Type 0 where
-  new : (f : Symbol) → NeverGives s f.name → is_among (symbols_of ns) f ≡ false
-  own : HaveOwn ns ns
-  gone : (f : Symbol) → is_among (symbols_of ns) f ≡ true → NeverGives q f.name
-  later : Later s q
-  sorts : All (λ n. HasSortOf n.0 n.1) ns
-  once : (f : Symbol) → times f (symbols_of ns) ≤ 1
+pub record AreDrawn (ns : Named) (s q : Supply) : Type 0 where
+  pub new : (f : Symbol) → NeverGives s f.name → is_among (symbols_of ns) f ≡ false
+  pub own : HaveOwn ns ns
+  pub gone : (f : Symbol) → is_among (symbols_of ns) f ≡ true → NeverGives q f.name
+  pub later : Later s q
+  pub sorts : All (λ n. HasSortOf n.0 n.1) ns
+  pub once : (f : Symbol) → times f (symbols_of ns) ≤ 1
 
 unnamed : (fs : List Symbol) (f : Symbol) → name_among (names_of fs) f.name ≡ false → is_among fs f ≡ false
 unnamed fs f other = go (true_or_false (is_among fs f))
@@ -111,7 +122,7 @@ unnamed fs f other = go (true_or_false (is_among fs f))
     go (inl among) = contrary (name_among (names_of fs) f.name) (among-name fs f among) other
     go (inr apart) = apart
 
-by_drawing : ConstantsAreNew → (ts : List Term) (s : Supply) → AreDrawn (draw_each ts s).symbols s (draw_each ts s).names
+pub by_drawing : ConstantsAreNew → (ts : List Term) (s : Supply) → AreDrawn (draw_each ts s).symbols s (draw_each ts s).names
 by_drawing law ts s = record {
   new = λ f never. unnamed (symbols_of (draw_each ts s).symbols) f (law.new ts s f.name never);
   own = own_of_distinct (draw_each ts s).symbols (law.apart ts s);
@@ -150,22 +161,9 @@ have_own law (c ∷ rs) s r grouped = have_own law rs s r grouped
 -- each symbol is drawn once
 pub drawn_once : ConstantsAreNew → (rs : List (Command Replacement)) (s r : Supply) → AreGrouped rs s r → (f : Symbol) → count_by (symbol_eq f) (symbols_of (pairs_in rs)) ≤ 1
 drawn_once law [] s r grouped f = let none : times f [] ≡ 0 = refl in omega (arith, none)
-drawn_once law (assert i a ∷ rs) s r grouped f = go (true_or_false (is_among (symbols_of a.group.symbols) f)) (drawn_once law rs grouped.0 r grouped.1.1 f)
-  where
-    here : AreDrawn a.group.symbols s grouped.0
-    here = group_drawn law a s grouped.0 grouped.1.0
-
-    both : times f (symbols_of (a.group.symbols ++ pairs_in rs)) ≡ times f (symbols_of a.group.symbols) + times f (symbols_of (pairs_in rs))
-    both = ap (times f) (both_symbols a.group.symbols (pairs_in rs)) ∙ sum_by-append (λ g. cond (symbol_eq f g) 1 0) (symbols_of a.group.symbols) (symbols_of (pairs_in rs))
-
-    go : (is_among (symbols_of a.group.symbols) f ≡ true) ⊎ (is_among (symbols_of a.group.symbols) f ≡ false) → times f (symbols_of (pairs_in rs)) ≤ 1 → times f (symbols_of (a.group.symbols ++ pairs_in rs)) ≤ 1
-    go (inl among) rest =
-        let first : times f (symbols_of a.group.symbols) ≤ 1 = here.once f in
-        let none = never_there f (symbols_of (pairs_in rs)) (not_drawn law rs grouped.0 r grouped.1.1 f (here.gone f among)) in
-        omega (arith, both, first, none)
-    go (inr apart) rest =
-        let none = never_there f (symbols_of a.group.symbols) apart in
-        omega (arith, both, none, rest)
+drawn_once law (assert i a ∷ rs) s r grouped f =
+    let here : AreDrawn a.group.symbols s grouped.0 = group_drawn law a s grouped.0 grouped.1.0 in
+    once_of_both a.group.symbols (pairs_in rs) f (here.once f) (drawn_once law rs grouped.0 r grouped.1.1 f) (λ among. not_drawn law rs grouped.0 r grouped.1.1 f (here.gone f among))
 drawn_once law (c ∷ rs) s r grouped f = drawn_once law rs s r grouped f
 
 -- a group for its assertion, whose symbols have their own terms among these

@@ -18,12 +18,12 @@ use Rattle.passes.proofs.GroupsAtPoints.{IsApart, IsLiveGroup, GroupsAt}
 use Rattle.passes.proofs.KeptValues.{truth_kept, any_is_among, AreTrue, are_true, all_true}
 use Rattle.passes.proofs.NamedTerms.{all_apart}
 
-dropped_valid : (f : Symbol) (sizes : Sizes) (b : Bool) (o : Option Graph) → IfSome o (λ g. IsTrue (is_graph f sizes g)) → IfSome (cond b None o) (λ g. IsTrue (is_graph f sizes g))
+pub dropped_valid : (f : Symbol) (sizes : Sizes) (b : Bool) (o : Option Graph) → IfSome o (λ g. IsTrue (is_graph f sizes g)) → IfSome (cond b None o) (λ g. IsTrue (is_graph f sizes g))
 dropped_valid f sizes true o h = tt
 dropped_valid f sizes false o h = h
 
 -- whether a symbol has a graph, where b says whether it is new
-dropped_some : (b before after : Bool) (o : Option Graph) → is_some o ≡ after → (before ≡ true → b ≡ false) → (before ≡ true → after ≡ true) → (after ≡ true → (before || b) ≡ true) → is_some (cond b None o) ≡ before
+pub dropped_some : (b before after : Bool) (o : Option Graph) → is_some o ≡ after → (before ≡ true → b ≡ false) → (before ≡ true → after ≡ true) → (after ≡ true → (before || b) ≡ true) → is_some (cond b None o) ≡ before
 dropped_some true true after o has apart stays comes = contrary true refl (apart refl)
 dropped_some true false after o has apart stays comes = refl
 dropped_some false true after o has apart stays comes = has ∙ stays refl

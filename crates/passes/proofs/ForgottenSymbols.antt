@@ -1,5 +1,5 @@
 -- Models from which the symbols that were drawn are dropped, one after the other.
-use Rattle.std.proofs.Common.{◌≡◌, ◌∙◌, sym, ap, refl, ℕ, ◌+◌, ◌-◌, ◌<◌, ◌≤◌, List, [], ◌∷◌, ◌++◌, map, take, drop, length, slice_get, Some, None}
+use Rattle.std.proofs.Common.{◌≡◌, ◌∙◌, sym, ap, refl, ℕ, ◌+◌, List, [], ◌∷◌, ◌++◌, map, take, slice_get, Some, None}
 use Rattle.std.proofs.lemmas.List.{map-append, append-nil}
 use Rattle.std.proofs.lemmas.Grind.{flat_map-append}
 use Rattle.smt_terms.specs.declared.ids.NodeId.{NodeId}
@@ -10,14 +10,13 @@ use Rattle.term_table.specs.Formulas.{Formulas, symbol_at, tree}
 use Rattle.script_read.specs.Commands.{Command}
 use Rattle.models.specs.ModelView.{with_graph}
 use Rattle.passes.specs.declared.plan.Step.{Step}
-use Rattle.passes.specs.declared.plan.Step.TheVariants.{Group, Check, Push, Pop, Reset, ResetAssertions, Globals}
+use Rattle.passes.specs.declared.plan.Step.TheVariants.{Declare, Group, Check, Push, Pop, Reset, ResetAssertions, Globals}
 use Rattle.passes.specs.Carry.{with_graphs, graph_dropped}
-use Rattle.passes.specs.LiveGroups.{Drawn, symbols_in, drawn_in_command, all_drawn, without_drawn, back_by}
+use Rattle.passes.specs.LiveGroups.{Drawn, symbols_in, drawn_in_command, all_drawn, without_drawn}
 use Rattle.passes.specs.LiveSymbols.{dropped_at}
 use Rattle.passes.specs.Plans.{step_of}
 use Rattle.passes.proofs.GivenModels.{drop-more, drop-append}
 use Rattle.passes.proofs.GroupingSteps.{taken_more}
-use Rattle.passes.proofs.ListPlaces.{drop-front}
 
 -- ---- the symbols of one group
 
@@ -48,12 +47,6 @@ without-more cs i c at m =
     ∙ ap symbols_in (flat_map-append drawn_in_command (take i cs) (c ∷ []))
     ∙ symbols-append (all_drawn (take i cs)) (all_drawn (c ∷ []))))
 
--- ---- stages
-
-pub back-more : (css : List (List (Command Drawn))) (place : ℕ) (cs : List (Command Drawn)) → 0 < place → place ≤ length css → slice_get css (place - 1) ≡ Some cs → (m : Model)
-    → without_drawn cs (back_by (drop place css) m) ≡ back_by (drop (place - 1) css) m
-back-more css place cs some within at m = ap (λ ds. back_by ds m) (sym (drop-front css place cs some within at))
-
 -- ---- one step
 
 module _ (t : Formulas) (m : Model) where
@@ -64,6 +57,7 @@ module _ (t : Formulas) (m : Model) where
 
   pub other_alone : (s : Step) → ((number : ℕ) (ps : List (SymId × NodeId)) → s ≡ Group number ps → ⊥) → without_drawn (step_of t s ∷ []) m ≡ m
   other_alone (Group number ps) other = absurd (other number ps refl)
+  other_alone (Declare f) other = refl
   other_alone Check other = refl
   other_alone (Push n) other = refl
   other_alone (Pop n) other = refl

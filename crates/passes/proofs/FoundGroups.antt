@@ -11,7 +11,7 @@ use Rattle.passes.proofs.LevelsBelow.{below, below_bare, below_changed, below_ke
 
 -- ---- lengths
 
-latest_length : {A : Type 0} (change : Level A → Level A) (ls : List (Level A)) (d : ℕ) → length ls ≡ suc d → length (on_latest change ls) ≡ suc d
+pub latest_length : {A : Type 0} (change : Level A → Level A) (ls : List (Level A)) (d : ℕ) → length ls ≡ suc d → length (on_latest change ls) ≡ suc d
 latest_length change [] d h = absurd cc
 latest_length change (l ∷ ls) d h = h
 
@@ -23,15 +23,15 @@ folded_length (suc n) (above ∷ l ∷ ls) d few h =
     let same : suc (d - 1 - n) ≡ suc (d - suc n) = omega arith in
     folded_length n (with_declarations above l ∷ ls) (d - 1) (omega (arith, few)) (omega (arith, few, h)) ∙ same
 
-popped_length : {A : Type 0} (b : Bool) (n : ℕ) (ls : List (Level A)) (d : ℕ) → n ≤ d → length ls ≡ suc d → length (levels_popped b n ls) ≡ suc (d - n)
+pub popped_length : {A : Type 0} (b : Bool) (n : ℕ) (ls : List (Level A)) (d : ℕ) → n ≤ d → length ls ≡ suc d → length (levels_popped b n ls) ≡ suc (d - n)
 popped_length true n ls d few h = folded_length n ls d few h
 popped_length false n ls d few h = let same : suc d - n ≡ suc (d - n) = omega (arith, few) in length-drop n ls ∙ ap (λ k. k - n) h ∙ same
 
-emptied_length : {A : Type 0} (b : Bool) (ls : List (Level A)) → length (levels_emptied b ls) ≡ 1
+pub emptied_length : {A : Type 0} (b : Bool) (ls : List (Level A)) → length (levels_emptied b ls) ≡ 1
 emptied_length true ls = refl
 emptied_length false ls = refl
 
-pushed_length : {A : Type 0} (n : ℕ) (ls : List (Level A)) (d : ℕ) → length ls ≡ suc d → length (replicate n empty_level ++ ls) ≡ suc (d + n)
+pub pushed_length : {A : Type 0} (n : ℕ) (ls : List (Level A)) (d : ℕ) → length ls ≡ suc d → length (replicate n empty_level ++ ls) ≡ suc (d + n)
 pushed_length n ls d h =
     let same : n + suc d ≡ suc (d + n) = omega arith in
     length-append (replicate n empty_level) ls ∙ ap (λ k. k + length ls) (length-replicate n empty_level) ∙ ap (λ k. n + k) h ∙ same

@@ -12,7 +12,7 @@ use Rattle.smt_terms.proofs.Equal.{Decides-symbol_eq, symbol_itself}
 use Rattle.smt_terms.proofs.Tests.{alike_from}
 use Rattle.models.specs.ModelView.{with_graph}
 use Rattle.passes.specs.Carry.{with_graphs, graph_dropped, graph_given, term_for, constant_graph}
-use Rattle.passes.specs.LiveSymbols.{Given, named_in, with_live, with_defaults, with_each, values_in}
+use Rattle.passes.specs.LiveSymbols.{Given, named_in, with_defaults, with_each, values_in}
 
 turned : (f g : Symbol) → symbol_eq f g ≡ true → symbol_eq g f ≡ true
 turned f g h = subst (λ x. symbol_eq x f ≡ true) ((Decides-symbol_eq f g).0 h) (symbol_itself f)
@@ -92,21 +92,22 @@ each_by_graphs : (ps : List (Symbol × Value)) (m : Model) → with_each ps m �
 each_by_graphs [] m = refl
 each_by_graphs (p ∷ ps) m = ap (with_graph p.0 (Some (constant_graph p.1))) (each_by_graphs ps m)
 
-module _ (m : Model) (fs : List Symbol) where
-  first_given : (b : Bool) (g : Given) (h : Symbol) (o : Option Term) (rest : Option Graph) → rest ≡ graph_given m o (is_among fs h) h (m.graphs h)
-      → cond b (Some (constant_graph (val m g.term no_variables))) rest ≡ graph_given m (cond b (Some g.term) o) (is_among fs h) h (m.graphs h)
+-- values in a model m, given in a model n
+module _ (m n : Model) (fs : List Symbol) where
+  first_given : (b : Bool) (g : Given) (h : Symbol) (o : Option Term) (rest : Option Graph) → rest ≡ graph_given m o (is_among fs h) h (n.graphs h)
+      → cond b (Some (constant_graph (val m g.term no_variables))) rest ≡ graph_given m (cond b (Some g.term) o) (is_among fs h) h (n.graphs h)
   first_given true g h o rest later = refl
   first_given false g h o rest later = later
 
-  none_given : (b : Bool) (h : Symbol) → cond b (default_of h) (m.graphs h) ≡ graph_given m None b h (m.graphs h)
+  none_given : (b : Bool) (h : Symbol) → cond b (default_of h) (n.graphs h) ≡ graph_given m None b h (n.graphs h)
   none_given true h = refl
   none_given false h = refl
 
-  given_each : (gs : List Given) (h : Symbol) → graph_of_each (values_in m gs) (with_defaults fs m).graphs h ≡ graph_given m (term_for (named_in gs) h) (is_among fs h) h (m.graphs h)
+  given_each : (gs : List Given) (h : Symbol) → graph_of_each (values_in m gs) (with_defaults fs n).graphs h ≡ graph_given m (term_for (named_in gs) h) (is_among fs h) h (n.graphs h)
   given_each [] h = none_given (is_among fs h) h
   given_each (g ∷ gs) h =
-      ap (λ b. cond b (Some (constant_graph (val m g.term no_variables))) (graph_of_each (values_in m gs) (with_defaults fs m).graphs h)) (flip h g.symbol)
-      ∙ first_given (symbol_eq g.symbol h) g h (term_for (named_in gs) h) (graph_of_each (values_in m gs) (with_defaults fs m).graphs h) (given_each gs h)
+      ap (λ b. cond b (Some (constant_graph (val m g.term no_variables))) (graph_of_each (values_in m gs) (with_defaults fs n).graphs h)) (flip h g.symbol)
+      ∙ first_given (symbol_eq g.symbol h) g h (term_for (named_in gs) h) (graph_of_each (values_in m gs) (with_defaults fs n).graphs h) (given_each gs h)
 
-  pub given_live : (gs : List Given) → with_each (values_in m gs) (with_defaults fs m) ≡ with_live (record { given = gs; idle = fs }) m
-  given_live gs = each_by_graphs (values_in m gs) (with_defaults fs m) ∙ (λ i. with_graphs m (λ h. given_each gs h i))
+  pub given_live : (gs : List Given) → with_each (values_in m gs) (with_defaults fs n) ≡ with_graphs n (λ h. graph_given m (term_for (named_in gs) h) (is_among fs h) h (n.graphs h))
+  given_live gs = each_by_graphs (values_in m gs) (with_defaults fs n) ∙ (λ i. with_graphs n (λ h. given_each gs h i))

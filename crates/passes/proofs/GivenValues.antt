@@ -27,11 +27,11 @@ use Rattle.passes.proofs.NamedTerms.{all_joined, all_apart, HaveOwn, term_fits, 
 
 -- ---- graphs
 
-constant_valid : (f : Symbol) (sizes : Sizes) (v : Value) → is_value f.result sizes v ≡ true → is_graph f sizes (constant_graph v) ≡ true
+pub constant_valid : (f : Symbol) (sizes : Sizes) (v : Value) → is_value f.result sizes v ≡ true → is_graph f sizes (constant_graph v) ≡ true
 constant_valid f sizes v h = and_true (is_value f.result sizes v) true h refl
 
 -- whether a symbol has a graph, where o is its term, and b says whether it is a new one that is declared
-given_some : (m : Model) (f : Symbol) (o : Option Term) (g : Option Graph) (b before after drawn : Bool) → (is_some o ≡ true → after ≡ true) → b ≡ (after && drawn) → is_some g ≡ before → (before ≡ true → after ≡ true) → (after ≡ true → (before || drawn) ≡ true)
+pub given_some : (m : Model) (f : Symbol) (o : Option Term) (g : Option Graph) (b before after drawn : Bool) → (is_some o ≡ true → after ≡ true) → b ≡ (after && drawn) → is_some g ≡ before → (before ≡ true → after ≡ true) → (after ≡ true → (before || drawn) ≡ true)
     → is_some (graph_given m o b f g) ≡ after
 given_some m f (Some t) g b before after drawn declared new has stays comes = sym (declared refl)
 given_some m f None g true before true drawn declared new has stays comes = refl

@@ -1,6 +1,6 @@
 -- Levels behind a pass that puts groups in the place of assertions: the same sorts, the groups' assertions, and the symbols
 -- that were declared before with those that are new.
-use Rattle.std.proofs.Common.{◌≡◌, ◌∙◌, sym, ap, refl, subst, ℕ, zero, suc, Bool, true, false, ◌||◌, ◌⊎◌, inl, inr, List, [], ◌∷◌, ◌++◌, flat_map, replicate, drop, append-nil}
+use Rattle.std.proofs.Common.{◌≡◌, ◌∙◌, sym, ap, refl, subst, ℕ, zero, suc, Bool, true, false, ◌||◌, ◌⊎◌, inl, inr, List, [], ◌∷◌, ◌++◌, flat_map, length, replicate, drop, append-nil}
 use Rattle.std.proofs.lemmas.List.{map-append}
 use Rattle.std.proofs.lemmas.List.Concat.{flat_map-append}
 use Rattle.smt_terms.specs.Free.{is_among}
@@ -138,6 +138,12 @@ module _ (new : List Symbol) where
   declared_grouped (k ∷ ks) (l ∷ ls) h =
       subst (λ fs. AllAmong fs (throughout (λ l. l.symbols) ls ++ l.symbols)) (sym (symbols_for-append (throughout (λ l. l.asserted) ks) k.asserted))
       (all_among_more (symbols_for (throughout (λ l. l.asserted) ks)) (symbols_for k.asserted) (throughout (λ l. l.symbols) ls) l.symbols (declared_grouped ks ls h.1) h.0.declared)
+
+  pub length_grouped : (ks : List (Level Replacement)) (ls : List (Level Term)) → GroupLevels ks ls → length ks ≡ length ls
+  length_grouped [] [] h = refl
+  length_grouped [] (l ∷ ls) h = absurd h
+  length_grouped (k ∷ ks) [] h = absurd h
+  length_grouped (k ∷ ks) (l ∷ ls) h = ap suc (length_grouped ks ls h.1)
 
   -- ---- the latest level changed
 

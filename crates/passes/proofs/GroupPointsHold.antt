@@ -2,16 +2,15 @@
 -- such a pass.
 use Rattle.std.proofs.Common.{◌≡◌, ◌∙◌, sym, ap, ◌||◌, ℕ, List, [], ◌∷◌, map, refl}
 use Rattle.smt_terms.specs.Free.{is_among}
-use Rattle.smt_terms.specs.Fresh.{Supply}
 use Rattle.smt_terms.specs.Sorts.{Symbol}
 use Rattle.smt_terms.specs.Term.{Term}
 use Rattle.script_read.specs.Commands.{Command, passed, declare_sort, declare, assert, check, check_assuming, push, pop, reset, reset_assertions, globals, exit, start, points, nth_point, live, literals, signature}
 use Rattle.smt_print.specs.Laws.{Each}
 use Rattle.smt_print.proofs.LikePoints.{like_passed, like_sort, like_symbol, like_assert, like_check, like_assuming, like_push, like_pop, like_reset, like_emptying, like_globals, like_exit, LikeCommands, Alike, alike}
-use Rattle.passes.specs.GroupPoints.{inputs, outputs, drawn_in, PointsOfGroups, AreGrouped, GroupsHavePoints, ReadyCommandsAreGrouped}
+use Rattle.passes.specs.GroupPoints.{inputs, outputs, drawn_in, PointsOfGroups, GroupsHavePoints, ReadyCommandsAreGrouped}
 use Rattle.passes.specs.Passed.{Replacement}
 use Rattle.passes.proofs.GroupCommands.{ready-commands-are-grouped as commands-are-grouped}
-use Rattle.passes.proofs.GroupWalks.{GroupPoints, GroupSeen, grouped_given, start_grouped, walk_grouped, kinds_grouped, nth_seen}
+use Rattle.passes.proofs.GroupWalks.{AreGiven, GroupPoints, GroupSeen, grouped_given, start_grouped, walk_grouped, kinds_grouped, nth_seen}
 
 -- ---- the commands before the pass
 
@@ -43,14 +42,17 @@ inputs_like (reset_assertions ∷ rs) = (like_emptying, inputs_like rs)
 inputs_like (globals b ∷ rs) = (like_globals b, inputs_like rs)
 inputs_like (exit ∷ rs) = (like_exit, inputs_like rs)
 
+pub signatures_before : (rs : List (Command Replacement)) (k : ℕ) → signature (inputs rs) k ≡ signature rs k
+signatures_before rs k = sym ((alike Replacement Term IsTermOf rs (inputs rs) (inputs_like rs)).signatures k)
+
 -- ---- the points
 
-module _ (rs : List (Command Replacement)) (s r : Supply) (grouped : AreGrouped rs s r) where
+module _ (rs : List (Command Replacement)) (given : AreGiven (drawn_in rs) rs) where
   before : Alike Replacement Term IsTermOf rs (inputs rs)
   before = alike Replacement Term IsTermOf rs (inputs rs) (inputs_like rs)
 
   behind : GroupPoints (drawn_in rs) (points rs) (points (outputs rs))
-  behind = walk_grouped (drawn_in rs) rs (grouped_given (drawn_in rs) rs s r grouped (λ f among. among)) start start (start_grouped (drawn_in rs))
+  behind = walk_grouped (drawn_in rs) rs given start start (start_grouped (drawn_in rs))
 
   seen : (k : ℕ) → GroupSeen (drawn_in rs) (nth_point (points rs) k) (nth_point (points (outputs rs)) k)
   seen k = nth_seen (drawn_in rs) (points rs) (points (outputs rs)) k behind
@@ -58,7 +60,7 @@ module _ (rs : List (Command Replacement)) (s r : Supply) (grouped : AreGrouped 
   symbols_before : (k : ℕ) (f : Symbol) → is_among (signature (inputs rs) k).symbols f ≡ is_among (signature rs k).symbols f
   symbols_before k f = ap (λ g. is_among g.symbols f) (sym (before.signatures k))
 
-  points_of_groups : PointsOfGroups rs
+  pub points_of_groups : PointsOfGroups rs
   points_of_groups = record {
     kinds = kinds_grouped (drawn_in rs) (points rs) (points (outputs rs)) behind ∙ before.kinds;
     live_before = λ k. terms_of_each (live rs k) (live (inputs rs) k) (before.live k);
@@ -71,7 +73,7 @@ module _ (rs : List (Command Replacement)) (s r : Supply) (grouped : AreGrouped 
   }
 
 pub groups-have-points : GroupsHavePoints
-groups-have-points rs s r grouped = points_of_groups rs s r grouped
+groups-have-points rs s r grouped = points_of_groups rs (grouped_given (drawn_in rs) rs s r grouped (λ f among. among))
 
 pub ready-commands-are-grouped : ReadyCommandsAreGrouped
 ready-commands-are-grouped = commands-are-grouped

@@ -9,11 +9,11 @@ use Rattle.passes.specs.Passed.{group_commands}
 use Rattle.passes.proofs.GroupLevels.{with_group}
 
 -- levels behind declarations, and behind assertions
-declared_on : Named → List (Level Term) → List (Level Term)
+unfoldable pub declared_on : Named → List (Level Term) → List (Level Term)
 declared_on [] ls = ls
 declared_on (n ∷ ns) ls = declared_on ns (on_latest (with_symbol n.0) ls)
 
-asserted_on : List Term → List (Level Term) → List (Level Term)
+unfoldable pub asserted_on : List Term → List (Level Term) → List (Level Term)
 asserted_on [] ls = ls
 asserted_on (t ∷ ts) ls = asserted_on ts (on_latest (with_assertion t) ls)
 
@@ -53,7 +53,7 @@ both_level : (ns : Named) (ts : List Term) (l : Level Term) (ls : List (Level Te
 both_level ns ts l ls = ap (asserted_on ts) (declared_level ns l ls) ∙ asserted_level ts (with_symbols (symbols_of ns) l) ls
 
 -- where there is no level, the first of them opens one: some assertion is among them
-group_levels : (g : Group) → 0 < length g.asserts → (ls : List (Level Term)) → asserted_on g.asserts (declared_on g.symbols ls) ≡ on_latest (with_group g) ls
+pub group_levels : (g : Group) → 0 < length g.asserts → (ls : List (Level Term)) → asserted_on g.asserts (declared_on g.symbols ls) ≡ on_latest (with_group g) ls
 unfolding declared_on asserted_on
 group_levels g some (l ∷ ls) = both_level g.symbols g.asserts l ls
 group_levels g some [] = opened g.symbols g.asserts some

@@ -5,11 +5,16 @@ use Rattle.smt_terms.specs.Fresh.{Supply}
 use Rattle.smt_terms.specs.Sorts.{Symbol}
 use Rattle.smt_terms.specs.Term.{Term}
 use Rattle.term_groups.specs.Grouping.{symbols_of}
-use Rattle.script_read.specs.Commands.{Command, passed, declare_sort, declare, assert, check, check_assuming, push, pop, reset, reset_assertions, globals, exit, Level, State, start, on_latest, levels_popped, levels_emptied, with_levels, after, Point, points_from, nth_point, at_point, live_in, sorts_of_state, symbols_of_state}
+use Rattle.script_read.specs.Commands.{Command, passed, declare_sort, declare, assert, check, check_assuming, push, pop, reset, reset_assertions, globals, exit, with_asserted, Level, State, start, on_latest, levels_popped, levels_emptied, with_levels, after, Point, points_from, nth_point, at_point, live_in, sorts_of_state, symbols_of_state}
 use Rattle.passes.specs.GroupPoints.{outputs, drawn_in, AreGrouped}
 use Rattle.passes.specs.Passed.{Replacement}
 use Rattle.passes.proofs.GroupLevels.{AllAmong, Widened, symbols_for, with_group, among_first, among_second, GroupLevels, empty_grouped, sorts_grouped, symbols_grouped, asserted_grouped, declared_grouped, latest_sort, latest_symbol, latest_group, pushed_grouped, popped_grouped, emptied_grouped}
 use Rattle.passes.proofs.GroupRuns.{points_grouped}
+
+-- a command that asserts nothing
+abbrev pub AssertsNothing : Command Replacement → Type 0
+AssertsNothing (assert i r) = ⊥
+AssertsNothing _ = Unit {0}
 
 module _ (new : List Symbol) where
   -- ---- what is asked of each group
@@ -52,6 +57,24 @@ module _ (new : List Symbol) where
     after_emptying = changed_grouped (levels_emptied s.global s.levels) (levels_emptied t.global t.levels)
         (subst (λ g. GroupLevels new (levels_emptied s.global s.levels) (levels_emptied g t.levels)) h.global (emptied_grouped new s.global s.levels t.levels h.levels))
 
+  pub after_grouped : (c : Command Replacement) → AssertsNothing c → (s : State Replacement) (t : State Term) → GroupState s t → GroupState (after c s) (after (with_asserted (λ r. r.term) c) t)
+  after_grouped (passed text) nothing s t h = h
+  after_grouped (declare_sort n) nothing s t h = record { levels = latest_sort new n s.levels t.levels h.levels; global = h.global }
+  after_grouped (declare f) nothing s t h = record { levels = latest_symbol new f s.levels t.levels h.levels; global = h.global }
+  after_grouped (assert i r) nothing s t h = absurd nothing
+  after_grouped check nothing s t h = h
+  after_grouped (check_assuming ls) nothing s t h = h
+  after_grouped (push n) nothing s t h = record { levels = pushed_grouped new n s.levels t.levels h.levels; global = h.global }
+  after_grouped (pop n) nothing s t h = after_pop s t h n
+  after_grouped reset nothing s t h = start_grouped
+  after_grouped reset_assertions nothing s t h = after_emptying s t h
+  after_grouped (globals b) nothing s t h = record { levels = h.levels; global = refl }
+  after_grouped exit nothing s t h = h
+
+  -- and the group of an assertion
+  pub group_grouped : (i : ℕ) (r : Replacement) → AllAmong (symbols_of r.group.symbols) new → (s : State Replacement) (t : State Term) → GroupState s t → GroupState (after (assert i r) s) (with_levels t (on_latest (with_group r.group) t.levels))
+  group_grouped i r among s t h = record { levels = latest_group new r among s.levels t.levels h.levels; global = h.global }
+
   -- ---- points
 
   pub record GroupPoint (p : Point Replacement) (q : Point Term) : Type 0 where
@@ -66,24 +89,12 @@ module _ (new : List Symbol) where
 
   pub walk_grouped : (rs : List (Command Replacement)) → AreGiven rs → (s : State Replacement) (t : State Term) → GroupState s t → GroupPoints (points_from s rs) (points_from t (outputs rs))
   walk_grouped [] given s t h = (record { kind = refl; state = h; literals = refl }, tt)
-  walk_grouped (passed text ∷ rs) given s t h = walk_grouped rs given.1 s t h
-  walk_grouped (declare_sort n ∷ rs) given s t h =
-      walk_grouped rs given.1 (after (declare_sort n) s) (after (declare_sort n) t) (record { levels = latest_sort new n s.levels t.levels h.levels; global = h.global })
-  walk_grouped (declare f ∷ rs) given s t h =
-      walk_grouped rs given.1 (after (declare f) s) (after (declare f) t) (record { levels = latest_symbol new f s.levels t.levels h.levels; global = h.global })
   walk_grouped (assert i r ∷ rs) given s t h =
       subst (λ ps. GroupPoints (points_from (after (assert i r) s) rs) ps) (sym (points_grouped i r.group given.0.0 t (outputs rs)))
-      (walk_grouped rs given.1 (after (assert i r) s) (with_levels t (on_latest (with_group r.group) t.levels))
-      (record { levels = latest_group new r given.0.1 s.levels t.levels h.levels; global = h.global }))
+      (walk_grouped rs given.1 (after (assert i r) s) (with_levels t (on_latest (with_group r.group) t.levels)) (group_grouped i r given.0.1 s t h))
   walk_grouped (check ∷ rs) given s t h = (record { kind = refl; state = h; literals = refl }, walk_grouped rs given.1 s t h)
   walk_grouped (check_assuming ls ∷ rs) given s t h = (record { kind = refl; state = h; literals = refl }, walk_grouped rs given.1 s t h)
-  walk_grouped (push n ∷ rs) given s t h =
-      walk_grouped rs given.1 (after (push n) s) (after (push n) t) (record { levels = pushed_grouped new n s.levels t.levels h.levels; global = h.global })
-  walk_grouped (pop n ∷ rs) given s t h = walk_grouped rs given.1 (after (pop n) s) (after (pop n) t) (after_pop s t h n)
-  walk_grouped (reset ∷ rs) given s t h = walk_grouped rs given.1 start start start_grouped
-  walk_grouped (reset_assertions ∷ rs) given s t h = walk_grouped rs given.1 (after reset_assertions s) (after reset_assertions t) (after_emptying s t h)
-  walk_grouped (globals b ∷ rs) given s t h = walk_grouped rs given.1 (after (globals b) s) (after (globals b) t) (record { levels = h.levels; global = refl })
-  walk_grouped (exit ∷ rs) given s t h = walk_grouped rs given.1 s t h
+  walk_grouped (c ∷ rs) given s t h = walk_grouped rs given.1 (after c s) (after (with_asserted (λ r. r.term) c) t) (after_grouped c tt s t h)
 
   -- ---- one point
 

@@ -39,7 +39,7 @@ pub all_unmapped : {A B : Type 0} (P : B → Type 0) (f : A → B) (xs : List A)
 all_unmapped P f [] all = All-nil (λ x. P (f x))
 all_unmapped P f (x ∷ xs) all = All-cons (λ y. P (f y)) x xs (All-head P (f x) (map f xs) all) (all_unmapped P f xs (All-tail P (f x) (map f xs) all))
 
-of_each_symbol : (Q : Symbol → Type 0) (fs : List Symbol) (f : Symbol) → All Q fs → is_among fs f ≡ true → Q f
+pub of_each_symbol : (Q : Symbol → Type 0) (fs : List Symbol) (f : Symbol) → All Q fs → is_among fs f ≡ true → Q f
 of_each_symbol Q [] f all among = absurd cc
 of_each_symbol Q (g ∷ fs) f all among = go (either_true (symbol_eq g f) (is_among fs f) among) (of_each_symbol Q fs f (All-tail Q g fs all))
   where

@@ -25,12 +25,13 @@ followed_by exit [] h = refl
 followed_by exit (r ∷ rs) h = absurd cc
 followed_by _ rs h = refl
 
-record First (begun : Bool) (a : State Term) (c : Command Term) (cs : List (Command Term)) : Type 0 where
-  may : may_stand begun a c ≡ true
-  followed : may_be_followed c cs ≡ true
-  rest : printable_from (fixes begun c) (after c a) cs ≡ true
+-- what is known of the first of commands that can be printed, and of the others
+pub record First (begun : Bool) (a : State Term) (c : Command Term) (cs : List (Command Term)) : Type 0 where
+  pub may : may_stand begun a c ≡ true
+  pub followed : may_be_followed c cs ≡ true
+  pub rest : printable_from (fixes begun c) (after c a) cs ≡ true
 
-first_of_all : (begun : Bool) (a : State Term) (c : Command Term) (cs : List (Command Term)) → printable_from begun a (c ∷ cs) ≡ true → First begun a c cs
+pub first_of_all : (begun : Bool) (a : State Term) (c : Command Term) (cs : List (Command Term)) → printable_from begun a (c ∷ cs) ≡ true → First begun a c cs
 first_of_all begun a c cs h =
     let here = both_true (may_stand begun a c) (may_be_followed c cs && printable_from (fixes begun c) (after c a) cs) h in
     let there = both_true (may_be_followed c cs) (printable_from (fixes begun c) (after c a) cs) here.1 in

@@ -26,13 +26,13 @@ asserted_names q i t ns (u ∷ us) given made =
     (λ n among. given n (names_within_made t u ns (All-head (IsMadeOf t ns) u us made) n among))
     (asserted_names q i t ns us given (All-tail (IsMadeOf t ns) u us made))
 
-spared_behind : (q : Supply) (cs ds : List (Command Term)) → GivesNoNameOf q cs → GivesNoNameOf q ds → GivesNoNameOf q (cs ++ ds)
+pub spared_behind : (q : Supply) (cs ds : List (Command Term)) → GivesNoNameOf q cs → GivesNoNameOf q ds → GivesNoNameOf q (cs ++ ds)
 spared_behind q [] ds first second = second
 spared_behind q (c ∷ cs) ds first second =
     given_both q (names_in_command c) (flat_map names_in_command (cs ++ ds)) (given_left q (names_in_command c) (flat_map names_in_command cs) first)
     (spared_behind q cs ds (given_right q (names_in_command c) (flat_map names_in_command cs) first) second)
 
-declared_names : (q : Supply) (ns : Named) → GivesNone q (names_of (symbols_of ns)) → GivesNoNameOf q (map (λ n. declare n.0) ns)
+pub declared_names : (q : Supply) (ns : Named) → GivesNone q (names_of (symbols_of ns)) → GivesNoNameOf q (map (λ n. declare n.0) ns)
 declared_names q [] given = given
 declared_names q (n ∷ ns) given =
     given_both q (n.0.name ∷ []) (flat_map names_in_command (map (λ m. declare m.0) ns)) (given_left q (n.0.name ∷ []) (names_of (symbols_of ns)) given)
@@ -54,7 +54,7 @@ grouped_later constants (assert i a ∷ rs) s r is =
 grouped_later constants (c ∷ rs) s r is = grouped_later constants rs s r is
 
 -- a command that stays, and what is left behind it
-command_spared : (s r : Supply) (c : Command Term) (cs ds : List (Command Term)) → Later s r → GivesNoNameOf s (c ∷ cs) → GivesNoNameOf r ds → GivesNoNameOf r (c ∷ ds)
+pub command_spared : (s r : Supply) (c : Command Term) (cs ds : List (Command Term)) → Later s r → GivesNoNameOf s (c ∷ cs) → GivesNoNameOf r ds → GivesNoNameOf r (c ∷ ds)
 command_spared s r c cs ds later given rest =
     given_both r (names_in_command c) (flat_map names_in_command ds)
     (given_later s r (names_in_command c) later (given_left s (names_in_command c) (flat_map names_in_command cs) given)) rest

@@ -1,12 +1,12 @@
 -- A list of names, taken one after the other.
-use Rattle.std.proofs.Common.{◌≡◌, ℕ, suc, ◌+◌, ◌<◌, ◌≤◌, ◌&&◌, Bool, true, false, cond, eqb, nat_lt, List, [], ◌∷◌, ◌++◌, map, drop, length, get_or, Option, Some, None, Err, refl, sym, ap, ◌∙◌, arith, add-one, append-nil, append_assoc, true≢false}
+use Rattle.std.proofs.Common.{◌≡◌, ℕ, suc, ◌+◌, ◌<◌, ◌≤◌, Bool, true, false, cond, eqb, nat_lt, List, [], ◌∷◌, ◌++◌, map, drop, length, get_or, Option, Some, None, Err, refl, sym, ap, ◌∙◌, arith, add-one, append-nil, append_assoc}
 use Rattle.std.specs.Str.{bytes_eq}
 use Rattle.std.specs.List.{list_all, list_any, prefix_len, slice_split, onto_first as first_onto}
 use Rattle.std.proofs.Math.Seq.{drop-cons}
 use Rattle.std.proofs.lemmas.Bool.Decides.{nat_tests}
 use Rattle.std.proofs.lemmas.List.{drop_all, get_or-map, length-append, length-map}
 use Rattle.smt_terms.specs.Sorts.{Name}
-use Rattle.passes.specs.Lists.{all_known, between_commas, can_run, groups_after_rules, in_order, listed, makes_groups, onto_first, pass_among, pass_named, passes_named, with_pass}
+use Rattle.passes.specs.Lists.{all_known, any_pass, between_commas, groups_after_rules, in_order, listed, makes_groups, onto_first, pass_among, pass_named, passes_named, with_pass}
 use Rattle.passes.specs.declared.names.Pass.{Pass}
 use Rattle.passes.specs.declared.names.Pass.TheVariants.{Rules}
 use Rattle.passes.specs.declared.names.ListFault.TheVariants.{BadPass}
@@ -29,46 +29,32 @@ abbrev pub joined : List Pass → Option (List Pass) → Option (List Pass)
 joined ps None = None
 joined ps (Some qs) = Some (ps ++ qs)
 
--- the first k names are those of these passes, each of which can be run
+-- the first k names are those of these passes
 pub record Taken (ns : List Name) (k : ℕ) (ps : List Pass) : Type 0 where
   pub count : length ps ≡ k
   pub few : k ≤ 32
   pub rest : passes_named ns ≡ joined ps (passes_named (drop k ns))
-  pub run : list_all can_run ps ≡ true
 
 joined-none : (o : Option (List Pass)) → o ≡ joined [] o
 joined-none None = refl
 joined-none (Some qs) = refl
 
 pub none_taken : (ns : List Name) → Taken ns 0 []
-none_taken ns = record { count = refl; few = omega arith; rest = joined-none (passes_named ns); run = refl }
+none_taken ns = record { count = refl; few = omega arith; rest = joined-none (passes_named ns) }
 
 joined-with : (p : Pass) (ps : List Pass) (o : Option (List Pass)) → joined ps (with_pass (Some p) o) ≡ joined (ps ++ p ∷ []) o
 joined-with p ps None = refl
 joined-with p ps (Some qs) = ap Some (sym (append_assoc ps (p ∷ []) qs))
 
-all_run : (ps : List Pass) (p : Pass) → list_all can_run ps ≡ true → can_run p ≡ true → list_all can_run (ps ++ p ∷ []) ≡ true
-all_run [] p run here = rw here refl
-all_run (q ∷ ps) p run here = go (can_run q) (λ e. all_run ps p e here) run
-  where
-    go : (b : Bool) → (list_all can_run ps ≡ true → list_all can_run (ps ++ p ∷ []) ≡ true)
-        → (b && list_all can_run ps) ≡ true → (b && list_all can_run (ps ++ p ∷ [])) ≡ true
-    go true rest e = rest e
-    go false rest e = absurd (true≢false (sym e))
-
-one_not_run : (ps qs : List Pass) (p : Pass) → can_run p ≡ false → list_all can_run (ps ++ p ∷ qs) ≡ false
-one_not_run [] qs p not_run = rw not_run refl
-one_not_run (q ∷ ps) qs p not_run = go (can_run q) (one_not_run ps qs p not_run)
-  where
-    go : (b : Bool) → list_all can_run (ps ++ p ∷ qs) ≡ false → (b && list_all can_run (ps ++ p ∷ qs)) ≡ false
-    go true rest = rest
-    go false rest = refl
+any_listed : (ps : List Pass) → list_all any_pass ps ≡ true
+any_listed [] = refl
+any_listed (p ∷ ps) = any_listed ps
 
 -- whatever their number
-refused : (ns : List Name) → all_known can_run (passes_named ns) ≡ Err BadPass → listed can_run ns ≡ Err BadPass
+refused : (ns : List Name) → all_known any_pass (passes_named ns) ≡ Err BadPass → listed any_pass ns ≡ Err BadPass
 refused ns e = go (nat_lt 32 (length ns))
   where
-    go : (b : Bool) → cond b (Err BadPass) (all_known can_run (passes_named ns)) ≡ Err BadPass
+    go : (b : Bool) → cond b (Err BadPass) (all_known any_pass (passes_named ns)) ≡ Err BadPass
     go true = refl
     go false = e
 
@@ -78,38 +64,32 @@ module _ (ns : List Name) (k : ℕ) (ps : List Pass) (name : Name) (lt : k < len
       t.rest ∙ ap (λ xs. joined ps (passes_named xs)) (drop-cons ns k name lt)
       ∙ ap (λ n. joined ps (with_pass (pass_named n) (passes_named (drop (suc k) ns)))) (sym at)
 
-  pub one_taken : (p : Pass) → pass_named name ≡ Some p → can_run p ≡ true → k < 32 → Taken ns (k + 1) (ps ++ p ∷ [])
-  one_taken p named run room = record {
+  pub one_taken : (p : Pass) → pass_named name ≡ Some p → k < 32 → Taken ns (k + 1) (ps ++ p ∷ [])
+  one_taken p named room = record {
     count = let n = length-append ps (p ∷ []) in omega (arith, n, t.count);
     few = omega arith;
     rest = from_here ∙ ap (λ o. joined ps (with_pass o (passes_named (drop (suc k) ns)))) named
         ∙ joined-with p ps (passes_named (drop (suc k) ns))
         ∙ ap (λ j. joined (ps ++ p ∷ []) (passes_named (drop j ns))) (sym (add-one k));
-    run = all_run ps p t.run run;
   }
 
-  pub no_such_pass : ((p : Pass) → pass_named name ≡ Some p → can_run p ≡ false) → Err BadPass ≡ listed can_run ns
-  no_such_pass none = sym (refused ns (ap (all_known can_run) from_here ∙ go (pass_named name) (passes_named (drop (suc k) ns)) none))
-    where
-      go : (n : Option Pass) (o : Option (List Pass)) → ((p : Pass) → n ≡ Some p → can_run p ≡ false)
-          → all_known can_run (joined ps (with_pass n o)) ≡ Err BadPass
-      go None o not_run = refl
-      go (Some p) None not_run = refl
-      go (Some p) (Some qs) not_run = ap (λ b. cond b (in_order (ps ++ p ∷ qs)) (Err BadPass)) (one_not_run ps qs p (not_run p refl))
+  pub no_such_pass : pass_named name ≡ None → Err BadPass ≡ listed any_pass ns
+  no_such_pass none =
+      sym (refused ns (ap (all_known any_pass) (from_here ∙ ap (λ o. joined ps (with_pass o (passes_named (drop (suc k) ns)))) none)))
 
-  pub too_many_names : k ≡ 32 → Err BadPass ≡ listed can_run ns
+  pub too_many_names : k ≡ 32 → Err BadPass ≡ listed any_pass ns
   too_many_names full =
       let more : nat_lt 32 (length ns) ≡ true = grind (arith, nat_tests) in
-      sym (ap (λ b. cond b (Err BadPass) (all_known can_run (passes_named ns))) more)
+      sym (ap (λ b. cond b (Err BadPass) (all_known any_pass (passes_named ns))) more)
 
-pub all_taken : (ns : List Name) (k : ℕ) (ps : List Pass) → k ≡ length ns → Taken ns k ps → in_order ps ≡ listed can_run ns
+pub all_taken : (ns : List Name) (k : ℕ) (ps : List Pass) → k ≡ length ns → Taken ns k ps → in_order ps ≡ listed any_pass ns
 all_taken ns k ps end t =
     let few : nat_lt 32 (length ns) ≡ false = let most = t.few in grind (arith, nat_tests) in
     let none : drop k ns ≡ [] = drop_all k ns (omega arith) in
     let known : passes_named ns ≡ Some ps = t.rest ∙ ap (λ xs. joined ps (passes_named xs)) none ∙ ap Some (append-nil ps) in
-    sym (ap (λ b. cond b (Err BadPass) (all_known can_run (passes_named ns))) few
-    ∙ ap (all_known can_run) known
-    ∙ ap (λ b. cond b (in_order ps) (Err BadPass)) t.run)
+    sym (ap (λ b. cond b (Err BadPass) (all_known any_pass (passes_named ns))) few
+    ∙ ap (all_known any_pass) known
+    ∙ ap (λ b. cond b (in_order ps) (Err BadPass)) (any_listed ps))
 
 -- ---- what stands behind stored rules
 
@@ -150,5 +130,5 @@ pub turn_at : (text : List ℕ) (k : ℕ) (name : Name) → (k < length (slice_s
 turn_at text k name h = rw between_commas-split h
 
 pub all_taken_at : (text : List ℕ) (k : ℕ) (ps : List Pass) → k ≡ length (slice_split (λ b. eqb b 44) text) → Taken (between_commas text) k ps
-    → in_order ps ≡ listed can_run (between_commas text)
+    → in_order ps ≡ listed any_pass (between_commas text)
 all_taken_at text k ps end t = all_taken (between_commas text) k ps (end ∙ sym (ap length (between_commas-split text))) t

@@ -76,7 +76,7 @@ bool_sort : (s : Sort) → is_bool s ≡ true → s ≡ bool
 bool_sort bool h = refl
 bool_sort _ h = absurd cc
 
-no_arguments : (ss : List Sort) → eqb (length ss) 0 ≡ true → ss ≡ []
+pub no_arguments : (ss : List Sort) → eqb (length ss) 0 ≡ true → ss ≡ []
 no_arguments [] h = refl
 no_arguments (s ∷ ss) h = let more : eqb (suc (length ss)) 0 ≡ false = ne_eqb (suc (length ss)) 0 (λ none. omega (arith, none)) in absurd cc
 

@@ -151,7 +151,7 @@ module _ (new : List Symbol) where
     abbrev before : List (Command Replacement)
     before = up_to Replacement k rs
 
-    first_may : GroupsMay before
+    pub first_may : GroupsMay (up_to Replacement k rs)
     first_may = may_up_to Replacement IsOld IsGroupGiven rs k false 0 may
 
     pub live_found : (global : Bool) → (behind_by Replacement Replacement asserts_itself start before).global ≡ global → live rs k ≡ (found_in Replacement false before).found
@@ -160,6 +160,11 @@ module _ (new : List Symbol) where
         (state_at Replacement Replacement asserts_itself IsOld IsGroupGiven points_from asserted_lead rs k false 0 start may some few)
         ∙ all_is_found Replacement Replacement asserts_itself IsOld IsGroupGiven false global asserted_in (λ r. r ∷ []) (asserted_part global) before first_may last
         ∙ alone (found_in Replacement false before).found
+
+    pub symbols_there : (signature rs k).symbols ≡ symbols_of_state (behind_by Replacement Replacement asserts_itself start (up_to Replacement k rs))
+    symbols_there =
+        part_at symbols_of_state (nth_point (points rs) k) (behind_by Replacement Replacement asserts_itself start before)
+        (state_at Replacement Replacement asserts_itself IsOld IsGroupGiven points_from asserted_lead rs k false 0 start may some few)
 
     pub declared_found : (global : Bool) → (behind_by Replacement Term with_its_group start before).global ≡ global
         → filter (is_among new) (signature (outputs rs) k).symbols ≡ symbols_for (found_in Replacement global before).found

@@ -1,5 +1,6 @@
--- The live symbols of each pass, one by one, stage by stage: the terms to be evaluated, the models and the refusals.
-use Rattle.std.proofs.Common.{◌≡◌, ◌∙◌, sym, ap, refl, subst, ℕ, ◌+◌, ◌≤◌, Bool, true, false, cond, List, [], ◌∷◌, ◌++◌, map, filter, flat_map, take, drop, slice_get, Err, Some, None, All, append_assoc}
+-- The live symbols of each pass, one by one, stage by stage: the terms to be evaluated, the models and the refusals on the way
+-- forth.
+use Rattle.std.proofs.Common.{◌≡◌, ◌∙◌, sym, ap, refl, subst, ℕ, ◌+◌, ◌≤◌, Bool, true, false, cond, List, [], ◌∷◌, ◌++◌, map, filter, flat_map, take, drop, slice_get, Err, Option, Some, None, is_some, option_map, All, append_assoc}
 use Rattle.std.proofs.lemmas.Bool.{ltb-false, le-ltb}
 use Rattle.std.proofs.lemmas.List.{map-append, append-nil}
 use Rattle.std.proofs.lemmas.List.Elements.{All-nil, All-cons, All-head, All-tail}
@@ -8,7 +9,8 @@ use Rattle.std.proofs.lemmas.Option.{slice_get_within, get_or_from_slice_get}
 use Rattle.smt_terms.specs.declared.ids.NodeId.{NodeId}
 use Rattle.smt_terms.specs.Groups.{Named}
 use Rattle.smt_terms.specs.Free.{is_among}
-use Rattle.smt_terms.specs.Models.{Model}
+use Rattle.smt_terms.specs.Models.{Graph, Model}
+use Rattle.smt_terms.specs.Sorts.{Symbol}
 use Rattle.smt_terms.specs.Val.{bits_bound}
 use Rattle.smt_terms.proofs.Tests.{left_true, right_true}
 use Rattle.smt_terms.specs.declared.ids.SymId.{SymId}
@@ -18,16 +20,18 @@ use Rattle.smt_values.specs.SizeTable.{sizes_by}
 use Rattle.smt_values.specs.Valid.{IsValue}
 use Rattle.smt_values.specs.declared.value.Value.{Value}
 use Rattle.term_table.specs.Formulas.{Formulas, symbol_at, tree, IsSymbol}
-use Rattle.models.specs.ModelView.{ModelLists, model_at, with_graph}
+use Rattle.models.specs.ModelView.{ModelLists, model_at, with_graph, without_functions}
 use Rattle.passes.specs.declared.carrying.CarryFault.{CarryFault}
 use Rattle.passes.specs.declared.carrying.CarryFault.TheVariants.{NoSuchCheck, EvalWidth, Beyond128, Memory}
 use Rattle.passes.specs.declared.carrying.Live.{Live as FoundLive}
 use Rattle.passes.specs.declared.carrying.LiveSymbol.{LiveSymbol}
-use Rattle.passes.specs.Carry.{Asked, asked_for, beyond, constant_graph, with_graphs, graph_given, term_for, numbers, most_bits, too_wide, bits_of_assertion, all_asked}
+use Rattle.passes.specs.declared.plan.Stage.{Stage as PlanStage}
+use Rattle.passes.specs.Carry.{Asked, Stage, asked_for, beyond, constant_graph, with_graphs, graph_given, term_for, numbers, most_bits, all_asked}
 use Rattle.passes.specs.Carrying.{breaks_in}
-use Rattle.passes.specs.LiveGroups.{Drawn, Met, asked_of, symbols_in, with_met, forth_by, stages_by}
-use Rattle.passes.specs.LiveSymbols.{Given, Live, given_by, live_of, live_at, lives_at, given_at, named_in, asked_in, all_asked_in, with_live, forth_over_live, stages_over_live, beyond_of, breaks_among, widest_of, bits_among, with_defaults, with_each, valued_at, AreValues, IsValueFor, IsBeyondAmong, GivesAll}
+use Rattle.passes.specs.LiveGroups.{Drawn, Operands, Met, Told, met_of, asked_of, symbols_in, forth_over_by, forth_by, forth_stages_by}
+use Rattle.passes.specs.LiveSymbols.{Given, Live, given_by, live_of, live_at, lives_at, given_at, named_in, asked_in, all_asked_in, kept_over, with_live, beyond_of, breaks_among, widest_of, with_defaults, with_each, valued_at, AreLiveAt, AreValues, IsValueFor, IsBeyondAmong, Answers}
 use Rattle.passes.specs.Passed.{least, or_later}
+use Rattle.passes.specs.Plans.{Uses, uses_of, told_operands}
 use Rattle.passes.proofs.GivenModels.{given_live, each-more, default-more}
 use Rattle.passes.proofs.GroupingSteps.{taken_more}
 use Rattle.passes.proofs.LeastAsked.{is_wide}
@@ -88,31 +92,6 @@ narrow_term t ls i a at none =
     all_at IsNarrow (asked_in (map (given_at t) ls)) i (asked_of_given (given_at t a)) (map_at asked_of_given (map (given_at t) ls) i (given_at t a) (map_at (given_at t) ls i a at))
     (all_narrow (asked_in (map (given_at t) ls)) none)
 
--- ---- one stage after the other
-
-module _ (t : Formulas) (rs : List Live) (i : ℕ) (r : Live) (at : slice_get rs i ≡ Some r) (m : Model) where
-  pub forth-step : forth_over_live (drop i rs) m ≡ forth_over_live (drop (i + 1) rs) (with_live r m)
-  forth-step = ap (λ xs. forth_over_live xs m) (front rs i r at)
-
-  stages_front : stages_over_live (drop i rs) m ≡ record { model = m; asked = asked_in r.given } ∷ stages_over_live (drop (i + 1) rs) (with_live r m)
-  stages_front = ap (λ xs. stages_over_live xs m) (front rs i r at)
-
-  pub beyond-step : beyond_of m (asked_in r.given) ≡ None → beyond (stages_over_live (drop i rs) m) ≡ beyond (stages_over_live (drop (i + 1) rs) (with_live r m))
-  beyond-step none = ap beyond stages_front ∙ ap (λ o. or_later o (beyond (stages_over_live (drop (i + 1) rs) (with_live r m)))) none
-
-  pub beyond-here : (a : ℕ) → beyond_of m (asked_in r.given) ≡ Some a → beyond (stages_over_live (drop i rs) m) ≡ Some a
-  beyond-here a some = ap beyond stages_front ∙ ap (λ o. or_later o (beyond (stages_over_live (drop (i + 1) rs) (with_live r m)))) some
-
-  pub breaks-step : (a : ℕ) (k : NodeId) → breaks_in t (stages_over_live (drop (i + 1) rs) (with_live r m)) a k ≡ true → breaks_in t (stages_over_live (drop i rs) m) a k ≡ true
-  breaks-step a k h =
-      ap (λ sts. breaks_in t sts a k) stages_front
-      ∙ right_true (breaks_among m (asked_in r.given) a (tree t k)) (breaks_in t (stages_over_live (drop (i + 1) rs) (with_live r m)) a k) h
-
-  pub breaks-here : (a : ℕ) (k : NodeId) → breaks_among m (asked_in r.given) a (tree t k) ≡ true → breaks_in t (stages_over_live (drop i rs) m) a k ≡ true
-  breaks-here a k h =
-      ap (λ sts. breaks_in t sts a k) stages_front
-      ∙ left_true (breaks_among m (asked_in r.given) a (tree t k)) (breaks_in t (stages_over_live (drop (i + 1) rs) (with_live r m)) a k) h
-
 -- ---- as groups
 
 named_by : (i : ℕ) (ns : Named) → named_in (given_by i ns) ≡ ns
@@ -135,39 +114,100 @@ asked_all (d ∷ ds) =
     map-append asked_of_given (given_by d.number d.symbols) (flat_map (λ e. given_by e.number e.symbols) ds)
     ∙ (λ i. asked_by d.number d.symbols i ++ asked_all ds i)
 
-live_met : (g : Met) (m : Model) → with_live (live_of g) m ≡ with_met g m
-live_met g m = ap (λ ns. with_graphs m (λ f. graph_given m (term_for ns f) (is_among (symbols_in g.idle) f) f (m.graphs f))) (named_all g.live)
+pub named_met : (g : Met) → named_in (live_of g).given ≡ flat_map (λ d. d.symbols) g.live
+named_met g = named_all g.live
 
-pub forth_met : (gs : List Met) (m : Model) → forth_over_live (map live_of gs) m ≡ forth_by gs m
-forth_met [] m = refl
-forth_met (g ∷ gs) m = ap (forth_over_live (map live_of gs)) (live_met g m) ∙ forth_met gs (with_met g m)
+live_met : (ops : Option Operands) (g : Met) (m : Model) → with_live (is_some ops) (live_of g) m ≡ forth_over_by ops g m
+live_met None g m = ap (λ ns. with_graphs m (λ f. graph_given m (term_for ns f) (is_among (symbols_in g.idle) f) f (m.graphs f))) (named_all g.live)
+live_met (Some ops) g m = ap (λ ns. with_graphs m (λ f. graph_given m (term_for ns f) (is_among (symbols_in g.idle) f) f ((without_functions m).graphs f))) (named_all g.live)
 
-pub stages_met : (gs : List Met) (m : Model) → stages_over_live (map live_of gs) m ≡ stages_by gs m
-stages_met [] m = refl
-stages_met (g ∷ gs) m =
-    (λ i. record { model = m; asked = asked_all g.live i } ∷ stages_over_live (map live_of gs) (live_met g m i))
-    ∙ ap (λ sts. record { model = m; asked = asked_of g } ∷ sts) (stages_met gs (with_met g m))
+-- a stage removes applications where it has operands
+some_operands : {A : Type 0} (t : Formulas) (o : Option A) (entries : A → Uses) → is_some o ≡ is_some (told_operands t (option_map entries o))
+some_operands t (Some u) entries = refl
+some_operands t None entries = refl
 
--- ---- all terms of the stages
+pub removes_operands : (t : Formulas) (st : PlanStage) → is_some st.uses ≡ is_some (told_operands t (uses_of st))
+removes_operands t st = some_operands t st.uses (λ u. u.entries)
 
-pub asked_over : (rs : List Live) (m : Model) → all_asked (stages_over_live rs m) ≡ all_asked_in rs
-asked_over [] m = refl
-asked_over (r ∷ rs) m = ap (λ qs. asked_in r.given ++ qs) (asked_over rs (with_live r m))
+-- all terms of the stages
+pub asked_forth_by : (k : ℕ) (sts : List Told) (m : Model) → all_asked (forth_stages_by k sts m) ≡ all_asked_in (map (λ st. live_of (met_of k st)) sts)
+asked_forth_by k [] m = refl
+asked_forth_by k (st ∷ sts) m = λ i. sym (asked_all (met_of k st).live) i ++ asked_forth_by k sts (forth_over_by st.operands (met_of k st) m) i
 
-pub too_wide_over : (rs : List Live) (m : Model) → too_wide (stages_over_live rs m) ≡ widest_of (all_asked_in rs)
-too_wide_over rs m = ap widest_of (asked_over rs m)
+-- what is live of one stage
+pub live_there : (t : Formulas) (k : ℕ) (sts : List Told) (rs : List FoundLive) → AreLiveAt t k sts rs → (i : ℕ) (st : Told) (r : FoundLive) → slice_get sts i ≡ Some st → slice_get rs i ≡ Some r → live_at t r ≡ live_of (met_of k st)
+live_there t k sts rs are i st r at here =
+    let first : slice_get (lives_at t rs) i ≡ Some (live_at t r) = map_at (live_at t) rs i r here in
+    let second : slice_get (map (λ (x : Told). live_of (met_of k x)) sts) i ≡ Some (live_of (met_of k st)) = map_at (λ (x : Told). live_of (met_of k x)) sts i st at in
+    let same : slice_get (lives_at t rs) i ≡ slice_get (map (λ (x : Told). live_of (met_of k x)) sts) i = ap (λ xs. slice_get xs i) are in
+    let both : Some (live_at t r) ≡ Some (live_of (met_of k st)) = sym first ∙ same ∙ second in
+    cc
 
-pub bits_over : (rs : List Live) (m : Model) (a : ℕ) → bits_of_assertion a (stages_over_live rs m) ≡ bits_among a (all_asked_in rs)
-bits_over rs m a = ap (bits_among a) (asked_over rs m)
+-- ---- one stage after the other
+
+module _ (t : Formulas) (k : ℕ) (sts : List Told) (i : ℕ) (st : Told) (at : slice_get sts i ≡ Some st) (m : Model) where
+  abbrev next : Model
+  next = forth_over_by st.operands (met_of k st) m
+
+  abbrev rest : List Stage
+  rest = forth_stages_by k (drop (i + 1) sts) next
+
+  pub forth-step : forth_by k (drop i sts) m ≡ forth_by k (drop (i + 1) sts) next
+  forth-step = ap (λ xs. forth_by k xs m) (front sts i st at)
+
+  stages_front : forth_stages_by k (drop i sts) m ≡ record { model = m; asked = asked_of (met_of k st) } ∷ rest
+  stages_front = ap (λ xs. forth_stages_by k xs m) (front sts i st at)
+
+  pub beyond-step : beyond_of m (asked_of (met_of k st)) ≡ None → beyond (forth_stages_by k (drop i sts) m) ≡ beyond rest
+  beyond-step none = ap beyond stages_front ∙ ap (λ o. or_later o (beyond rest)) none
+
+  pub beyond-here : (a : ℕ) → beyond_of m (asked_of (met_of k st)) ≡ Some a → beyond (forth_stages_by k (drop i sts) m) ≡ Some a
+  beyond-here a some = ap beyond stages_front ∙ ap (λ o. or_later o (beyond rest)) some
+
+  pub breaks-step : (a : ℕ) (n : NodeId) → breaks_in t rest a n ≡ true → breaks_in t (forth_stages_by k (drop i sts) m) a n ≡ true
+  breaks-step a n h =
+      ap (λ xs. breaks_in t xs a n) stages_front
+      ∙ right_true (breaks_among m (asked_of (met_of k st)) a (tree t n)) (breaks_in t rest a n) h
+
+  pub breaks-here : (a : ℕ) (n : NodeId) → breaks_among m (asked_of (met_of k st)) a (tree t n) ≡ true → breaks_in t (forth_stages_by k (drop i sts) m) a n ≡ true
+  breaks-here a n h =
+      ap (λ xs. breaks_in t xs a n) stages_front
+      ∙ left_true (breaks_among m (asked_of (met_of k st)) a (tree t n)) (breaks_in t rest a n) h
+
+  -- what a stage gives
+  module _ (r : FoundLive) (removes : Bool) (is : removes ≡ is_some st.operands) (live : live_at t r ≡ live_of (met_of k st)) where
+    asked_here : asked_in (live_at t r).given ≡ asked_of (met_of k st)
+    asked_here = ap (λ (x : Live). asked_in x.given) live ∙ asked_all (met_of k st).live
+
+    pub given-within : beyond_of m (asked_in (live_at t r).given) ≡ None → beyond_of m (asked_of (met_of k st)) ≡ None
+    given-within none = ap (beyond_of m) (sym asked_here) ∙ none
+
+    pub given-next : (n : Model) → n ≡ with_live removes (live_at t r) m → n ≡ next
+    given-next n gives = gives ∙ (λ j. with_live (is j) (live j) m) ∙ live_met st.operands (met_of k st) m
+
+    pub given_refused : (first n : Model) → beyond (forth_stages_by k sts first) ≡ beyond (forth_stages_by k (drop i sts) m)
+        → ((a : ℕ) (b : NodeId) → breaks_in t (forth_stages_by k (drop i sts) m) a b ≡ true → breaks_in t (forth_stages_by k sts first) a b ≡ true)
+        → (e : CarryFault) → IsBeyondAmong t m (asked_in (live_at t r).given) e → Answers t (forth_stages_by k sts first) n (Err e)
+    given_refused first n so breaks (NoSuchCheck c count) h = absurd h
+    given_refused first n so breaks (EvalWidth a bits) h = absurd h
+    given_refused first n so breaks (Beyond128 a b) h =
+        (so ∙ beyond-here a (ap (beyond_of m) (sym asked_here) ∙ h.0), h.1, breaks a b (breaks-here a b (ap (λ qs. breaks_among m qs a (tree t b)) (sym asked_here) ∙ h.2)))
+    given_refused first n so breaks Memory h = tt
 
 -- ---- the model behind one stage
 
-module _ (t : Formulas) (r : Live) (old mid new : ModelLists) (vs : List (SymId × Value)) (are : AreValues t old r.given vs) where
-  pub values_later : mid.sizes ≡ old.sizes → All (IsValueFor t mid) vs
-  values_later same = subst (λ ss. All (λ p. IsSymbol t p.0 × IsValue (symbol_at t p.0).result (sizes_by t.sorts ss) p.1) vs) (sym same) are.each
+graphs_kept : (removes : Bool) (m : Model) (graphs : Symbol → Option Graph) → with_graphs (kept_over removes m) graphs ≡ with_graphs m graphs
+graphs_kept true m graphs = refl
+graphs_kept false m graphs = refl
 
-  pub live_given : model_at t mid ≡ with_defaults r.idle (model_at t old) → model_at t new ≡ with_each (map (valued_at t) vs) (model_at t mid) → model_at t new ≡ with_live r (model_at t old)
-  live_given defaults values = values ∙ (λ i. with_each (are.values i) (defaults i)) ∙ given_live (model_at t old) r.idle r.given
+module _ (t : Formulas) (r : Live) (removes : Bool) (old kept mid new : ModelLists) (vs : List (SymId × Value)) (are : AreValues t old r.given vs) where
+  pub live_given : model_at t kept ≡ kept_over removes (model_at t old) → model_at t mid ≡ with_defaults r.idle (model_at t kept) → model_at t new ≡ with_each (map (valued_at t) vs) (model_at t mid)
+      → model_at t new ≡ with_live removes r (model_at t old)
+  live_given keeps defaults values =
+      values
+      ∙ (λ i. with_each (are.values i) ((defaults ∙ ap (with_defaults r.idle) keeps) i))
+      ∙ given_live (model_at t old) (kept_over removes (model_at t old)) r.idle r.given
+      ∙ graphs_kept removes (model_at t old) (λ f. graph_given (model_at t old) (term_for (named_in r.given) f) (is_among r.idle f) f ((kept_over removes (model_at t old)).graphs f))
 
 -- ---- values, one after the other
 
@@ -188,14 +228,3 @@ default-defined t fs i f at v is m n o before defined =
     ∙ (λ j. with_graph (symbol_at t f) (Some (constant_graph (is j))) (before j))
     ∙ default-more (symbol_at t f) m (map (symbol_at t) (take i fs))
     ∙ ap (λ gs. with_defaults gs m) (sym (ap (map (symbol_at t)) (taken_more fs i f at) ∙ map-append (symbol_at t) (take i fs) (f ∷ [])))
-
--- ---- a refusal at a stage
-
-pub given_refused : (t : Formulas) (rs : List Live) (i : ℕ) (r : Live) → slice_get rs i ≡ Some r → (first m : Model)
-    → beyond (stages_over_live rs first) ≡ beyond (stages_over_live (drop i rs) m)
-    → ((a : ℕ) (k : NodeId) → breaks_in t (stages_over_live (drop i rs) m) a k ≡ true → breaks_in t (stages_over_live rs first) a k ≡ true)
-    → (e : CarryFault) → IsBeyondAmong t m (asked_in r.given) e → GivesAll t rs first (Err e)
-given_refused t rs i r at first m so breaks (NoSuchCheck c n) h = absurd h
-given_refused t rs i r at first m so breaks (EvalWidth a bits) h = absurd h
-given_refused t rs i r at first m so breaks (Beyond128 a k) h = (so ∙ beyond-here t rs i r at m a h.0, h.1, breaks a k (breaks-here t rs i r at m a k h.2))
-given_refused t rs i r at first m so breaks Memory h = tt

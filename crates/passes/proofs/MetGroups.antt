@@ -1,54 +1,14 @@
 -- What is met among commands, going back, is what is found among those that they are told of.
-use Rattle.std.proofs.Common.{◌≡◌, ◌∙◌, sym, ap, refl, ℕ, ◌+◌, ◌-◌, ◌==◌, Bool, true, false, true≢false, not, cond, ◌&&◌, ◌||◌, if◌then◌else◌, List, [], ◌∷◌, ◌++◌, map, flat_map, count_by}
-use Rattle.std.proofs.lemmas.List.Sums.{sum_by-append, sum_by-cons}
+use Rattle.std.proofs.Common.{◌≡◌, ◌∙◌, sym, ap, refl, ◌+◌, ◌-◌, ◌==◌, Bool, true, false, true≢false, not, ◌&&◌, ◌||◌, if◌then◌else◌, List, [], ◌∷◌, ◌++◌, map, flat_map}
 use Rattle.smt_terms.specs.Free.{is_among}
 use Rattle.smt_terms.specs.Sorts.{Symbol}
 use Rattle.smt_terms.proofs.Among.{is_among-append}
 use Rattle.term_groups.specs.Grouping.{symbols_of}
-use Rattle.script_read.specs.Commands.{Command, assert, check, check_assuming, push, pop, reset, reset_assertions, globals, Level, State, start, is_check}
-use Rattle.passes.specs.GroupPoints.{drawn_in}
-use Rattle.passes.specs.LiveGroups.{Drawn, drawn_of, told, all_told, before_check, global_behind, Met, met_in, symbols_in, all_drawn}
+use Rattle.script_read.specs.Commands.{Command, declare, assert, push, pop, reset, reset_assertions}
+use Rattle.passes.specs.LiveGroups.{Drawn, drawn_of, all_told, Met, met_in, symbols_in}
 use Rattle.passes.specs.Passed.{Replacement}
-use Rattle.passes.proofs.FoundGroups.{up_to, Found, found_in, none_closed, after_by, behind_by}
-
--- ---- what is told of commands
-
-told_checked : (k : ℕ) (b : Bool) (c : Command Replacement) (rs : List (Command Replacement)) → told c ≡ check ∷ [] → ((j : ℕ) → all_told (up_to Replacement j rs) ≡ before_check j (all_told rs))
-    → all_told (if b then [] else c ∷ up_to Replacement (k - 1) rs) ≡ (if b then [] else check ∷ before_check (k - 1) (all_told rs))
-told_checked k true c rs is rest = refl
-told_checked k false c rs is rest = λ i. is i ++ rest (k - 1) i
-
-pub told_up_to : (rs : List (Command Replacement)) (k : ℕ) → all_told (up_to Replacement k rs) ≡ before_check k (all_told rs)
-told_up_to [] k = refl
-told_up_to (assert n r ∷ rs) k = ap (λ cs. assert n (drawn_of r) ∷ cs) (told_up_to rs k)
-told_up_to (check ∷ rs) k = told_checked k (k == 1) check rs refl (told_up_to rs)
-told_up_to (check_assuming ls ∷ rs) k = told_checked k (k == 1) (check_assuming ls) rs refl (told_up_to rs)
-told_up_to (push n ∷ rs) k = ap (λ cs. push n ∷ cs) (told_up_to rs k)
-told_up_to (pop n ∷ rs) k = ap (λ cs. pop n ∷ cs) (told_up_to rs k)
-told_up_to (reset ∷ rs) k = ap (λ cs. reset ∷ cs) (told_up_to rs k)
-told_up_to (reset_assertions ∷ rs) k = ap (λ cs. reset_assertions ∷ cs) (told_up_to rs k)
-told_up_to (globals b ∷ rs) k = ap (λ cs. globals b ∷ cs) (told_up_to rs k)
-told_up_to (c ∷ rs) k = told_up_to rs k
-
-pub told_global : (A : Type 0) (change : Replacement → Level A → Level A) (rs : List (Command Replacement)) (s : State A) → global_behind s.global (all_told rs) ≡ (behind_by Replacement A change s rs).global
-told_global A change [] s = refl
-told_global A change (reset ∷ rs) s = told_global A change rs start
-told_global A change (globals b ∷ rs) s = told_global A change rs (record { levels = s.levels; global = b })
-told_global A change (c ∷ rs) s = told_global A change rs (after_by Replacement A change c s)
-
-told_one : (c : Command Replacement) → count_by is_check (told c) ≡ cond (is_check c) 1 0
-told_one (assert i r) = refl
-told_one _ = refl
-
-pub told_checks : (rs : List (Command Replacement)) → count_by is_check (all_told rs) ≡ count_by is_check rs
-told_checks [] = refl
-told_checks (c ∷ rs) =
-    sum_by-append (λ d. cond (is_check d) 1 0) (told c) (all_told rs) ∙ (λ i. told_one c i + told_checks rs i) ∙ sym (sum_by-cons (λ d. cond (is_check d) 1 0) c rs)
-
-pub told_drawn : (rs : List (Command Replacement)) → symbols_in (all_drawn (all_told rs)) ≡ drawn_in rs
-told_drawn [] = refl
-told_drawn (assert i r ∷ rs) = ap (λ fs. symbols_of r.group.symbols ++ fs) (told_drawn rs)
-told_drawn (c ∷ rs) = told_drawn rs
+use Rattle.passes.proofs.FoundGroups.{Found, found_in, none_closed}
+use Rattle.passes.proofs.ToldCommands.{told_declared}
 
 -- ---- what is met of one assertion
 
@@ -80,6 +40,11 @@ module _ (d : Drawn) (m : Met) where
   chosen_idle true = refl
   chosen_idle false = refl
 
+-- a function more, or none
+pub noted : (P : Met → Type 0) (b : Bool) (f : Symbol) (m : Met) → P m → P (record m { functions = f ∷ m.functions }) → P (if b then record m { functions = f ∷ m.functions } else m)
+noted P true f m without one_more = one_more
+noted P false f m without one_more = without
+
 -- ---- the live ones
 
 pub record IsMet (m : Met) (w : Found Replacement) : Type 0 where
@@ -98,6 +63,12 @@ or_not_false false = refl
 module _ (global : Bool) where
   pub is_met : (rs : List (Command Replacement)) → IsMet (met_in global (all_told rs)) (found_in Replacement false rs)
   is_met [] = record { anew = refl; closed = refl; live = refl }
+  is_met (declare f ∷ rs) =
+      let m : Met = met_in global (all_told rs) in
+      let w : Found Replacement = found_in Replacement false rs in
+      let h : IsMet m w = is_met rs in
+      told_declared (λ cs. IsMet (met_in global cs) w) f (all_told rs) h
+      (noted (λ n. IsMet n w) (not m.gone && (global || m.closed == 0)) f m h (record { anew = h.anew; closed = h.closed; live = h.live }))
   is_met (assert i r ∷ rs) =
       let m : Met = met_in global (all_told rs) in
       let w : Found Replacement = found_in Replacement false rs in
@@ -136,6 +107,10 @@ or_nothing false = refl
 -- where declarations aren't global, those of the live ones alone
 none_idle : (rs : List (Command Replacement)) → (met_in false (all_told rs)).idle ≡ []
 none_idle [] = refl
+none_idle (declare f ∷ rs) =
+    let m : Met = met_in false (all_told rs) in
+    told_declared (λ cs. (met_in false cs).idle ≡ []) f (all_told rs) (none_idle rs)
+    (noted (λ n. n.idle ≡ []) (not m.gone && (false || m.closed == 0)) f m (none_idle rs) (none_idle rs))
 none_idle (assert i r ∷ rs) = let m : Met = met_in false (all_told rs) in chosen_idle (drawn_of r) m (not m.anew && m.closed == 0) ∙ none_idle rs
 none_idle (c ∷ rs) = none_idle rs
 
@@ -180,6 +155,12 @@ module _ (r : Replacement) (m : Met) (w : Found Replacement) (h : AllMet m w) (n
 
 all_met : (rs : List (Command Replacement)) → AllMet (met_in true (all_told rs)) (found_in Replacement true rs)
 all_met [] = record { gone = refl; anew = λ no. absurd (true≢false (sym no)); among = λ f. refl }
+all_met (declare f ∷ rs) =
+    let m : Met = met_in true (all_told rs) in
+    let w : Found Replacement = found_in Replacement true rs in
+    let h : AllMet m w = all_met rs in
+    told_declared (λ cs. AllMet (met_in true cs) w) f (all_told rs) h
+    (noted (λ n. AllMet n w) (not m.gone && (true || m.closed == 0)) f m h (record { gone = h.gone; anew = h.anew; among = h.among }))
 all_met (assert i r ∷ rs) =
     let m : Met = met_in true (all_told rs) in
     let w : Found Replacement = found_in Replacement true rs in

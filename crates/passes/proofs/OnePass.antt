@@ -1,5 +1,5 @@
 -- One pass leads to commands that can be printed, and carries models between them and those before it.
-use Rattle.std.proofs.Common.{◌≡◌, ◌∙◌, sym, ap, subst, refl, not, ◌&&◌, true, false, true≢false, List, [], ◌∷◌, Result, Ok, Err}
+use Rattle.std.proofs.Common.{◌≡◌, ◌∙◌, sym, ap, subst, refl, not, ◌&&◌, true, false, true≢false, List, [], ◌∷◌, Result, Ok, Err, None}
 use Rattle.std.specs.Prelude.{OnOk}
 use Rattle.smt_terms.specs.Fresh.{Supply}
 use Rattle.smt_terms.specs.Sorts.{Name}
@@ -10,10 +10,10 @@ use Rattle.passes.specs.declared.names.Pass.TheVariants.{Simplify, Nnf, Aig, Pre
 use Rattle.passes.specs.Behind.{Form, in_form}
 use Rattle.passes.specs.Carry.{back_over, forth_over}
 use Rattle.passes.specs.Groups.{making, in_groups}
-use Rattle.passes.specs.Laws.{keeps_values, puts_groups, IsReady, IsModelOf, CarriesModels, CarriesSignatures, KeepsCommands, PassKeepsCommands, RulesKeepCommands, EquivalentsHaveOneModel, PassesLeaveModels, PutsGroups, GroupsCarryModels, IsCarried}
+use Rattle.passes.specs.Laws.{keeps_values, puts_groups, IsReady, IsModelOf, CarriesModels, CarriesSignatures, KeepsCommands, PassKeepsCommands, RulesKeepCommands, EquivalentsHaveOneModel, PassesLeaveModels, PutsGroups, GroupsCarryModels, RemovalsCarryModels, IsCarried}
 use Rattle.passes.specs.Led.{EachMayBecome, LeadsTo}
 use Rattle.passes.specs.Lists.{makes_groups}
-use Rattle.passes.specs.Passed.{apply_pass}
+use Rattle.passes.specs.Passed.{apply_pass, refused_by}
 use Rattle.passes.specs.Ruling.{RewritesCommands}
 use Rattle.passes.proofs.GroupPasses.{applied-group}
 use Rattle.passes.proofs.InForm.{IsForm, asks_rules, applied}
@@ -106,6 +106,14 @@ module _ (p : Pass) (cs : List (Command Term)) (s : Supply) (rules : List Name) 
         leads = subst (λ x. LeadsTo (x ∷ []) cs s rules ds s) (sym e) (ds, (kept.1, (refl, refl)));
         carried = carried_kept one_model leave p cs ds s s (ap keeps_values e) ready kept.0;
       }
+
+  pub led_by_removal : RemovalsCarryModels → p ≡ Ackermann → refused_by Ackermann cs ≡ None → (ds : List (Command Term)) (r : Supply)
+      → ds ≡ (apply_pass Ackermann cs s).0 → r ≡ (apply_pass Ackermann cs s).1 → IsLed p cs s rules ds r
+  led_by_removal law e taken ds r commands left =
+      subst (λ q. IsLed q cs s rules ds r) (sym e) (record {
+        leads = leads_itself Ackermann cs s rules ds r refl commands left;
+        carried = carried_groups Ackermann cs ds s r refl commands left (law cs s ready taken);
+      })
 
   pub led_in_groups : GroupsCarryModels → (q : Pass) → p ≡ q → puts_groups q ≡ true → (ds : List (Command Term)) (r : Supply)
       → ds ≡ (in_groups (making q) cs s).0 → r ≡ (in_groups (making q) cs s).1 → IsLed p cs s rules ds r

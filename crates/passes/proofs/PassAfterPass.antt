@@ -13,7 +13,7 @@ use Rattle.passes.specs.declared.names.Pass.{Pass}
 use Rattle.passes.specs.declared.names.Pass.TheVariants.{Rules}
 use Rattle.passes.specs.Laws.{IsReady, PassesLeaveModels, IsCarried, AreCarried}
 use Rattle.passes.specs.Led.{LeadsTo}
-use Rattle.passes.specs.Lists.{makes_groups, groups_after_rules, can_run}
+use Rattle.passes.specs.Lists.{makes_groups, groups_after_rules}
 use Rattle.passes.specs.Passed.{apply_pass, passed}
 use Rattle.passes.proofs.CarriedLists.{any_more, carried-more, carried-none, passed-more}
 use Rattle.passes.proofs.InForm.{asks_rules}
@@ -79,13 +79,13 @@ module _ (ps : List Pass) (cs : List (Command Term)) (s : Supply) (rules : List 
         let none_of = any_more asks_rules (take i ps) p none in
         led_itself p ds r rules es q none_of.1 leads ∙ ap (λ made. apply_pass p made.0 made.1) (is.reached none_of.0) ∙ sym (passed-more (take i ps) p cs s)
 
-    more_carried : PassesLeaveModels → can_run p ≡ true → groups_after_rules ps ≡ false → IsCarried p ds es r q → AreCarried (take i ps ++ p ∷ []) cs es s q
-    more_carried leave run order last =
-        carried-more leave equivalent_then (take i ps) p cs ds es s r q run (subst (λ qs. groups_after_rules qs ≡ false) one_more (first_in_order (i + 1) ps order)) is.reached is.carried last
+    more_carried : PassesLeaveModels → groups_after_rules ps ≡ false → IsCarried p ds es r q → AreCarried (take i ps ++ p ∷ []) cs es s q
+    more_carried leave order last =
+        carried-more leave equivalent_then (take i ps) p cs ds es s r q (subst (λ qs. groups_after_rules qs ≡ false) one_more (first_in_order (i + 1) ps order)) is.reached is.carried last
 
-    pub behind_one : PassesLeaveModels → can_run p ≡ true → groups_after_rules ps ≡ false → IsCarried p ds es r q → IsBehind (i + 1) es q
-    behind_one leave run order last = record {
-      carried = subst (λ qs. AreCarried qs cs es s q) (sym one_more) (more_carried leave run order last);
+    pub behind_one : PassesLeaveModels → groups_after_rules ps ≡ false → IsCarried p ds es r q → IsBehind (i + 1) es q
+    behind_one leave order last = record {
+      carried = subst (λ qs. AreCarried qs cs es s q) (sym one_more) (more_carried leave order last);
       reached = subst (λ qs. list_any asks_rules qs ≡ false → (es, q) ≡ passed qs cs s) (sym one_more) more_reached;
       rest = λ fs o further.
           is.rest fs o (subst (λ qs. LeadsTo qs ds r rules fs o) (sym next_first)

@@ -15,11 +15,11 @@ use Rattle.term_groups.specs.Drawing.{ConstantsAreNew}
 use Rattle.term_groups.specs.Grouping.{IsGroupOf, MakesGroups, terms_of}
 use Rattle.term_groups.specs.Seen.{named_at, ArePairs}
 use Rattle.term_table.specs.Formulas.{Formulas, tree, symbol_at, sort_or_bool, IsNode, IsSymbol}
-use Rattle.script_read.specs.Commands.{Command, assert}
+use Rattle.script_read.specs.Commands.{Command, declare, assert}
 use Rattle.passes.specs.declared.names.Pass.{Pass}
 use Rattle.passes.specs.declared.names.Pass.TheVariants.{Simplify, Nnf, Aig, Prenex, Reads, Shannon, SelfSub, Rules, Ite, Cnf, Ackermann}
 use Rattle.passes.specs.declared.plan.Step.{Step}
-use Rattle.passes.specs.declared.plan.Step.TheVariants.{Group}
+use Rattle.passes.specs.declared.plan.Step.TheVariants.{Declare, Group}
 use Rattle.passes.specs.GroupPoints.{AreGrouped}
 use Rattle.passes.specs.Groups.{Making, groups_from}
 use Rattle.passes.specs.Laws.{IsReady, HaveSorts, DrawnHaveSorts}
@@ -28,6 +28,7 @@ use Rattle.passes.specs.Passed.{Replacement, replacements}
 use Rattle.passes.specs.Plans.{steps_of, IsStepOf, IsPairOver, IsStepOver}
 use Rattle.passes.proofs.GroupPasses.{IsMaking, ite_is_making, cnf_is_making, replaced}
 use Rattle.passes.proofs.GroupPointsHold.{ready-commands-are-grouped}
+use Rattle.passes.proofs.ToldCommands.{told_declared}
 
 -- ---- what is drawn
 
@@ -38,12 +39,13 @@ sort_or_truth : (o : Option Sort) → unwrap_or o bool ≡ sort_or_bool o
 sort_or_truth None = refl
 sort_or_truth (Some to) = refl
 
-drawn_sorts : (ts : List Term) (s : Supply) → All HasSort (draw_each ts s).symbols
+pub drawn_sorts : (ts : List Term) (s : Supply) → All HasSort (draw_each ts s).symbols
 drawn_sorts [] s = All-nil HasSort
 drawn_sorts (t ∷ ts) s = All-cons HasSort _ _ (sort_or_truth (sort_of t)) (drawn_sorts ts _)
 
 grouped_sorts : (rs : List (Command Replacement)) (s r : Supply) → AreGrouped rs s r → All HaveSorts (all_drawn (all_told rs))
 grouped_sorts [] s r are = All-nil HaveSorts
+grouped_sorts (declare f ∷ rs) s r are = told_declared (λ cs. All HaveSorts (all_drawn cs)) f (all_told rs) (grouped_sorts rs s r are) (grouped_sorts rs s r are)
 grouped_sorts (assert i a ∷ rs) s r are =
     let here : IsGroupOf a.term s (record { group = a.group; names = are.0 }) = are.1.0 in
     All-cons HaveSorts (drawn_of a) (all_drawn (all_told rs)) (subst (All HasSort) (sym here.symbols) (drawn_sorts (terms_of a.group.symbols) s)) (grouped_sorts rs are.0 r are.1.1)
@@ -82,6 +84,8 @@ module _ (t : Formulas) where
 
   pub steps_over : (ss : List Step) → All (IsStepOf t) ss → All HaveSorts (all_drawn (steps_of t ss)) → All (IsStepOver t) ss
   steps_over [] are sorts = All-nil (IsStepOver t)
+  steps_over (Declare f ∷ ss) are sorts =
+      All-cons (IsStepOver t) (Declare f) ss (All-head (IsStepOf t) (Declare f) ss are) (steps_over ss (All-tail (IsStepOf t) (Declare f) ss are) sorts)
   steps_over (Group number symbols ∷ ss) are sorts =
       All-cons (IsStepOver t) (Group number symbols) ss
       (pairs_over symbols (All-head (IsStepOf t) (Group number symbols) ss are) (All-head HaveSorts (record { number = number; symbols = named_at t symbols }) (all_drawn (steps_of t ss)) sorts))

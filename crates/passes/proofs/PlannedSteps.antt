@@ -1,5 +1,5 @@
 -- What the steps of a stage tell, command by command, in a table that only gains.
-use Rattle.std.proofs.Common.{◌≡◌, ◌∙◌, ap, sym, refl, subst, ℕ, ◌+◌, List, [], ◌∷◌, ◌++◌, take, slice_get, Option, Some, None, All}
+use Rattle.std.proofs.Common.{◌≡◌, ◌∙◌, ap, sym, refl, subst, ℕ, ◌+◌, List, [], ◌∷◌, ◌++◌, take, slice_get, Option, Some, None, All, append-nil}
 use Rattle.std.specs.Prelude.{option_to_list, IfSome}
 use Rattle.std.proofs.lemmas.List.{map-append}
 use Rattle.std.proofs.lemmas.List.Elements.{All-append, All-nil, All-cons, All-weaker}
@@ -18,9 +18,9 @@ use Rattle.script_terms.proofs.Grown.{same_map, symbol_within, symbol_stays, nod
 use Rattle.script_read.specs.declared.scripts.Command.{Command}
 use Rattle.script_read.specs.declared.scripts.Command.TheVariants.{Passed, DeclareSort, Declare, Assert, Check, CheckAssuming, Push, Pop, Reset, ResetAssertions, Globals, Exit}
 use Rattle.script_read.specs.CommandLists.{command_of}
-use Rattle.script_read.specs.Commands.{Command as CommandOf, assert}
+use Rattle.script_read.specs.Commands.{Command as CommandOf, declare, assert}
 use Rattle.passes.specs.declared.plan.Step.{Step}
-use Rattle.passes.specs.declared.plan.Step.TheVariants.{Group, Check as CheckStep, Push as PushStep, Pop as PopStep, Reset as ResetStep, ResetAssertions as ResetAssertionsStep, Globals as GlobalsStep}
+use Rattle.passes.specs.declared.plan.Step.TheVariants.{Declare as DeclareStep, Group, Check as CheckStep, Push as PushStep, Pop as PopStep, Reset as ResetStep, ResetAssertions as ResetAssertionsStep, Globals as GlobalsStep}
 use Rattle.passes.specs.Groups.{Making, groups_from}
 use Rattle.passes.specs.LiveGroups.{told, all_told}
 use Rattle.passes.specs.Passed.{Replacement}
@@ -36,6 +36,7 @@ module _ (t u : Formulas) (grows : GrowsTo t u) where
 
   pub step_within : (st : Step) → IsStepOf t st → IsStepOf u st
   step_within (Group number symbols) are = All-weaker (λ p. IsSymbol t p.0 × IsNode t p.1) (λ p. IsSymbol u p.0 × IsNode u p.1) pair_within symbols are
+  step_within (DeclareStep f) is = symbol_within t u grows f is
   step_within CheckStep are = tt
   step_within (PushStep n) are = tt
   step_within (PopStep n) are = tt
@@ -50,6 +51,7 @@ module _ (t u : Formulas) (grows : GrowsTo t u) where
 
   step_stays : (st : Step) → IsStepOf t st → step_of u st ≡ step_of t st
   step_stays (Group number symbols) are = ap (λ ns. assert number (record { number = number; symbols = ns })) (named_stay symbols are)
+  step_stays (DeclareStep f) is = ap declare (symbol_stays t u grows f is)
   step_stays CheckStep are = refl
   step_stays (PushStep n) are = refl
   step_stays (PopStep n) are = refl
@@ -73,6 +75,7 @@ module _ (t u : Formulas) (grows : GrowsTo t u) where
 
   step_over_still : (st : Step) → IsStepOver t st → IsStepOver u st
   step_over_still (Group number symbols) are = All-weaker (IsPairOver t) (IsPairOver u) pair_over symbols are
+  step_over_still (DeclareStep f) is = symbol_within t u grows f is
   step_over_still CheckStep are = tt
   step_over_still (PushStep n) are = tt
   step_over_still (PopStep n) are = tt
@@ -94,7 +97,7 @@ IsOther c = (id : NodeId) (number : ℕ) → c ≡ Assert id number → ⊥
 told_alone : (make : Making) (t : Formulas) (s : Supply) (c : Command) → IsOther c → all_told (groups_from make (command_of t c ∷ []) s).0 ≡ told_by t c
 told_alone make t s (Passed text) other = refl
 told_alone make t s (DeclareSort k) other = refl
-told_alone make t s (Declare f) other = refl
+told_alone make t s (Declare f) other = append-nil (told (declare (symbol_at t f)))
 told_alone make t s (Assert id number) other = absurd (other id number refl)
 told_alone make t s Check other = refl
 told_alone make t s (CheckAssuming ids) other = refl

@@ -19,9 +19,10 @@ use Rattle.smt_terms.proofs.Tests.{both_true, and_true, either_true, left_true, 
 use Rattle.term_groups.specs.Drawing.{ConstantsAreNew}
 use Rattle.term_groups.specs.Grouping.{IsGroupOf, IsMadeOf, symbols_of}
 use Rattle.script_terms.specs.Read.{is_of_sort}
-use Rattle.script_read.specs.Commands.{Command, declare, assert, State, with_assertion, after, sorts_of_state, symbols_of_state}
+use Rattle.script_read.specs.Commands.{Command, declare, assert, State, with_assertion, with_levels, after, sorts_of_state, symbols_of_state}
 use Rattle.script_read.specs.Printable.{is_usable, sort_is_live, all_within, is_new_symbol, may_stand, printable_from}
 use Rattle.passes.specs.Passed.{group_commands}
+use Rattle.passes.proofs.GroupRuns.{declared_on}
 use Rattle.passes.proofs.ReadyLevels.{among_left, among_right, among_either, among_one, latest_symbols, declared_symbols}
 use Rattle.passes.proofs.ReadyNames.{named_among}
 use Rattle.passes.proofs.ReadySorts.{heads_within, binders_within, every_within}
@@ -29,16 +30,16 @@ use Rattle.passes.proofs.ReadyStates.{unnamed, named, Grown, same_sorts, more_sy
 use Rattle.passes.proofs.ReadySymbols.{NamesOfGroup, names_of_group, MayCome, may_come}
 use Rattle.passes.proofs.Standing.{of_each, of_all, Stands, may}
 
-abbrev AreDeclared : Named → State Term → Type 0
+abbrev pub AreDeclared : Named → State Term → Type 0
 AreDeclared ns b = (f : Symbol) → is_among (symbols_of ns) f ≡ true → is_among (symbols_of_state b) f ≡ true
 
 -- no symbol of the state has the name of one of these
-abbrev HaveOtherNames : Named → State Term → Type 0
+abbrev pub HaveOtherNames : Named → State Term → Type 0
 HaveOtherNames ns b = (f : Symbol) → is_among (symbols_of ns) f ≡ true → (h : Symbol) → is_among (symbols_of_state b) h ≡ true → h.name ≡ f.name → ⊥
 
 -- s was there first, q is left behind the group, and a is the state before the pass
 module _ (s q : Supply) (a : State Term) where
-  abbrev AllMayCome : Named → Type 0
+  abbrev pub AllMayCome : Named → Type 0
   AllMayCome ns = All (λ p. MayCome s q (sorts_of_state a) p.0) ns
 
   new_live : (ns : Named) → AllMayCome ns → list_all (λ f. heads_within (sort_is_live (sorts_of_state a)) (symbol f)) (symbols_of ns) ≡ true
@@ -131,10 +132,11 @@ module _ (s q : Supply) (a : State Term) where
       go (inl old) = other f (right_true (symbol_eq n.0 f) (is_among (symbols_of ns) f) among) h old same
       go (inr new) = named (symbols_of ns) f among n.0.name (sym same ∙ sym (ap (λ (k : Symbol). k.name) new)) single
 
-  declares_print : (cs : List (Command Term)) (ns : Named) (begun : Bool) (b : State Term) → Grown s q a b → AllMayCome ns → are_distinct (names_of (symbols_of ns)) ≡ true → HaveOtherNames ns b
-      → ((later : Bool) (c : State Term) → Grown s q a c → ((h : Symbol) → is_among (symbols_of_state b) h ≡ true → is_among (symbols_of_state c) h ≡ true) → AreDeclared ns c → printable_from later c cs ≡ true)
+  pub declares_print : (cs : List (Command Term)) (ns : Named) (begun : Bool) (b : State Term) → Grown s q a b → AllMayCome ns → are_distinct (names_of (symbols_of ns)) ≡ true → HaveOtherNames ns b
+      → ((later : Bool) (c : State Term) → c ≡ with_levels b (declared_on ns b.levels) → Grown s q a c → ((h : Symbol) → is_among (symbols_of_state b) h ≡ true → is_among (symbols_of_state c) h ≡ true) → AreDeclared ns c → printable_from later c cs ≡ true)
       → printable_from begun b (map (λ n. declare n.0) ns ++ cs) ≡ true
-  declares_print cs [] begun b g come apart other rest = rest begun b g (λ h among. among) (λ f among. absurd cc)
+  unfolding declared_on
+  declares_print cs [] begun b g come apart other rest = rest begun b refl g (λ h among. among) (λ f among. absurd cc)
   declares_print cs (n ∷ ns) begun b g come apart other rest =
       let first : MayCome s q (sorts_of_state a) n.0 = All-head (λ (p : Symbol × Term). MayCome s q (sorts_of_state a) p.0) n ns come in
       let single = both_true (not (has_name n.0.name (names_of (symbols_of ns)))) (are_distinct (names_of (symbols_of ns))) apart in
@@ -144,7 +146,7 @@ module _ (s q : Supply) (a : State Term) where
       (declares_print cs ns true (after (declare n.0) b) (declared_behind s q a b g n.0 first.new first.gone unlike)
       (All-tail (λ (p : Symbol × Term). MayCome s q (sorts_of_state a) p.0) n ns come) single.1
       (others_then n ns b (not_true (has_name n.0.name (names_of (symbols_of ns))) single.0) other)
-      (λ later c grown kept declared. rest later c grown (λ h among. kept h (stays_then n.0 b h among)) (λ f among. all_declared c kept declared f (either_true (symbol_eq n.0 f) (is_among (symbols_of ns) f) among))))
+      (λ later c is grown kept declared. rest later c is grown (λ h among. kept h (stays_then n.0 b h among)) (λ f among. all_declared c kept declared f (either_true (symbol_eq n.0 f) (is_among (symbols_of ns) f) among))))
     where
       all_declared : (c : State Term) → ((h : Symbol) → is_among (symbols_of_state (after (declare n.0) b)) h ≡ true → is_among (symbols_of_state c) h ≡ true) → AreDeclared ns c → (f : Symbol) → (symbol_eq n.0 f ≡ true) ⊎ (is_among (symbols_of ns) f ≡ true) → is_among (symbols_of_state c) f ≡ true
       all_declared c kept declared f (inl same) = subst (λ k. is_among (symbols_of_state c) k ≡ true) (among_one n.0 f (left_true (symbol_eq n.0 f) false same)) (kept n.0 (itself_then n.0 b))
@@ -152,7 +154,7 @@ module _ (s q : Supply) (a : State Term) where
 
 -- ---- groups
 
-other_than_drawn : (s r q : Supply) (a b : State Term) (ns : Named) → Grown s r a b → NamesOfGroup r q ns → HaveOtherNames ns b
+pub other_than_drawn : (s r q : Supply) (a b : State Term) (ns : Named) → Grown s r a b → NamesOfGroup r q ns → HaveOtherNames ns b
 other_than_drawn s r q a b ns g names f among h there same =
     contrary {A = ⊥} (name_among (names_of (symbols_of ns)) h.name)
     (ap (λ n. name_among (names_of (symbols_of ns)) n) same ∙ named_among (symbols_of ns) f among) (names.new h.name (g.gone h there))
@@ -162,7 +164,7 @@ pub group_prints : ((i : ℕ) → is_usable (numbered_name i) ≡ true) → Cons
 group_prints usable constants s r q a b i t x ds is later g stand rest begun =
     ap (printable_from begun b) (append_assoc (map (λ n. declare n.0) x.symbols) (map (λ u. assert i u) x.asserts) ds)
     ∙ declares_print s q a (map (λ u. assert i u) x.asserts ++ ds) x.symbols begun b (later_grown s r a b g q names.later) come names.apart (other_than_drawn s r q a b x.symbols g names)
-    (λ then c grown kept declared. some_print s q a t x.symbols stand come i ds rest x.asserts is.some is.made then c grown declared)
+    (λ then c exactly grown kept declared. some_print s q a t x.symbols stand come i ds rest x.asserts is.some is.made then c grown declared)
   where
     names : NamesOfGroup r q x.symbols
     names = names_of_group constants t r q x is

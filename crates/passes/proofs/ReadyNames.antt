@@ -54,7 +54,7 @@ all_joined test (m ∷ ms) ns = ap (λ b. test m && b) (all_joined test ms ns) �
     grouped true b c = refl
     grouped false b c = refl
 
-name_passes : (test : Name → Bool) (ns : List Name) (n : Name) → list_all test ns ≡ true → name_among ns n ≡ true → test n ≡ true
+pub name_passes : (test : Name → Bool) (ns : List Name) (n : Name) → list_all test ns ≡ true → name_among ns n ≡ true → test n ≡ true
 name_passes test [] n all among = absurd cc
 name_passes test (m ∷ ns) n all among =
     let parts = both_true (test m) (list_all test ns) all in
@@ -63,7 +63,7 @@ name_passes test (m ∷ ns) n all among =
       | inr there ↦ name_passes test ns n parts.1 there
     ]
 
-names_pass : (test : Name → Bool) (ns : List Name) → ((n : Name) → name_among ns n ≡ true → test n ≡ true) → list_all test ns ≡ true
+pub names_pass : (test : Name → Bool) (ns : List Name) → ((n : Name) → name_among ns n ≡ true → test n ≡ true) → list_all test ns ≡ true
 names_pass test [] each = refl
 names_pass test (m ∷ ns) each =
     and_true (test m) (list_all test ns) (each m (left_true (name_eq m m) (name_among ns m) (name_itself m)))
@@ -71,15 +71,15 @@ names_pass test (m ∷ ns) each =
 
 -- ---- all names within a term
 
-abbrev head_passes : (Name → Bool) → Head → Bool
+abbrev pub head_passes : (Name → Bool) → Head → Bool
 head_passes test h = list_all test (names_of (head_symbols h))
 
-abbrev binders_pass : (Name → Bool) → List Variable → Bool
+abbrev pub binders_pass : (Name → Bool) → List Variable → Bool
 binders_pass test xs = list_all test (map (λ x. x.name) xs)
 
 module _ (test : Name → Bool) where
   mutual
-    every_name : (t : Term) → every (head_passes test) (binders_pass test) t ≡ list_all test (names_within t)
+    pub every_name : (t : Term) → every (head_passes test) (binders_pass test) t ≡ list_all test (names_within t)
     every_name (apply h ts) = ap (λ b. head_passes test h && b) (every_names ts) ∙ sym (all_joined test (names_of (head_symbols h)) (names_within_each ts))
     every_name (quantified q xs t) = ap (λ b. binders_pass test xs && b) (every_name t) ∙ sym (all_joined test (map (λ x. x.name) xs) (names_within t))
 
@@ -87,7 +87,7 @@ module _ (test : Name → Bool) where
     every_names none = refl
     every_names (t ⨾ ts) = (λ i. every_name t i && every_names ts i) ∙ sym (all_joined test (names_within t) (names_within_each ts))
 
-symbols_pass : (test : Name → Bool) (fs : List Symbol) → list_all test (names_of fs) ≡ true → list_all (λ f. head_passes test (symbol f)) fs ≡ true
+pub symbols_pass : (test : Name → Bool) (fs : List Symbol) → list_all test (names_of fs) ≡ true → list_all (λ f. head_passes test (symbol f)) fs ≡ true
 symbols_pass test [] all = refl
 symbols_pass test (f ∷ fs) all =
     let parts = both_true (test f.name) (list_all test (names_of fs)) all in

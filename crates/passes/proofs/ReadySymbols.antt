@@ -21,13 +21,13 @@ use Rattle.passes.proofs.ReadySorts.{every_within, heads_within, binders_within,
 
 -- ---- names
 
-drawn_usable : ((i : ℕ) → is_usable (numbered_name i) ≡ true) → (ts : List Term) (s : Supply) → All (λ p. is_usable p.0.name ≡ true) (draw_each ts s).symbols
+pub drawn_usable : ((i : ℕ) → is_usable (numbered_name i) ≡ true) → (ts : List Term) (s : Supply) → All (λ p. is_usable p.0.name ≡ true) (draw_each ts s).symbols
 drawn_usable usable [] s = All-nil (λ (p : Symbol × Term). is_usable p.0.name ≡ true)
 drawn_usable usable (t ∷ ts) s =
     All-cons (λ (p : Symbol × Term). is_usable p.0.name ≡ true) (fresh_constant (unwrap_or (sort_of t) bool) s, t) (draw_each ts (after_draw s)).symbols
     (usable (next_number s)) (drawn_usable usable ts (after_draw s))
 
-name_at : (ns : Named) (k : ℕ) (d : Symbol × Term) → k < length ns → name_among (names_of (symbols_of ns)) (get_or ns k d).0.name ≡ true
+pub name_at : (ns : Named) (k : ℕ) (d : Symbol × Term) → k < length ns → name_among (names_of (symbols_of ns)) (get_or ns k d).0.name ≡ true
 name_at [] k d lt = absurd (omega arith)
 name_at (n ∷ ns) zero d lt = left_true (name_eq n.0.name n.0.name) (name_among (names_of (symbols_of ns)) n.0.name) (name_itself n.0.name)
 name_at (n ∷ ns) (suc k) d lt = right_true (name_eq n.0.name (get_or ns k d).0.name) (name_among (names_of (symbols_of ns)) (get_or ns k d).0.name) (name_at ns k d (omega arith))
@@ -52,11 +52,11 @@ names_of_group constants t s q g is = record {
 
 -- ---- sorts
 
-record HasSort (t : Term) : Type 0 where
-  sort : Sort
-  has : sort_of t ≡ Some sort
+pub record HasSort (t : Term) : Type 0 where
+  pub sort : Sort
+  pub has : sort_of t ≡ Some sort
 
-has_sort_of : (t : Term) → IsWellSorted t → HasSort t
+pub has_sort_of : (t : Term) → IsWellSorted t → HasSort t
 has_sort_of t fine = go (sort_of t) refl (both_true (is_some (sort_of t)) (is_regular t) fine).0
   where
     go : (o : Option Sort) → sort_of t ≡ o → is_some o ≡ true → HasSort t

@@ -5,3 +5,4 @@ mod Scripts
 mod Carried
 mod Led
 mod LiveGroups
+mod LiveRemovals

@@ -16,7 +16,7 @@ use Rattle.passes.specs.declared.names.Pass.{Pass}
 use Rattle.passes.specs.declared.names.Pass.TheVariants.{Simplify, Nnf, Aig, Prenex, Reads, Shannon, SelfSub, Rules, Ite, Cnf, Ackermann}
 use Rattle.passes.specs.Laws.{keeps_values, SignaturesLedTo}
 use Rattle.passes.specs.Led.{MayBecome, EachMayBecome, LeadsTo}
-use Rattle.passes.specs.Lists.{makes_groups, groups_after_rules, can_run}
+use Rattle.passes.specs.Lists.{makes_groups, groups_after_rules}
 use Rattle.passes.specs.Passed.{Way, alone, in_place, Replacement, literal_kept, onward, replacements_from, group_commands, written, apply_pass, passed}
 use Rattle.passes.proofs.CarriedLists.{other_keeps}
 
@@ -129,21 +129,19 @@ module _ (rules : List Name) (ds : List (Command Term)) (r : Supply) (k : ℕ) w
 -- ---- all lists
 
 -- none of these makes groups
-none_makes : (ps : List Pass) → list_all can_run ps ≡ true → list_any makes_groups ps ≡ false → list_all keeps_values ps ≡ true
-none_makes [] run none = refl
-none_makes (p ∷ ps) run none =
-    let runs = both_true (can_run p) (list_all can_run ps) run in
+none_makes : (ps : List Pass) → list_any makes_groups ps ≡ false → list_all keeps_values ps ≡ true
+none_makes [] none = refl
+none_makes (p ∷ ps) none =
     let others = both_false (makes_groups p) (list_any makes_groups ps) none in
-    and_true (keeps_values p) (list_all keeps_values ps) (other_keeps p runs.0 others.0) (none_makes ps runs.1 others.1)
+    and_true (keeps_values p) (list_all keeps_values ps) (other_keeps p others.0) (none_makes ps others.1)
 
-led : (ps : List Pass) (cs : List (Command Term)) (s : Supply) (rules : List Name) (ds : List (Command Term)) (r : Supply) (k : ℕ) → list_all can_run ps ≡ true → groups_after_rules ps ≡ false
-    → LeadsTo ps cs s rules ds r → signature ds k ≡ signature (passed ps cs s).0 k
-led [] cs s rules ds r k run order leads = ap (λ es. signature es k) leads.0
-led (Rules ∷ ps) cs s rules ds r k run order leads =
-    let keeps : list_all keeps_values (Rules ∷ ps) ≡ true = none_makes (Rules ∷ ps) run order in
+led : (ps : List Pass) (cs : List (Command Term)) (s : Supply) (rules : List Name) (ds : List (Command Term)) (r : Supply) (k : ℕ) → groups_after_rules ps ≡ false → LeadsTo ps cs s rules ds r
+    → signature ds k ≡ signature (passed ps cs s).0 k
+led [] cs s rules ds r k order leads = ap (λ es. signature es k) leads.0
+led (Rules ∷ ps) cs s rules ds r k order leads =
+    let keeps : list_all keeps_values (Rules ∷ ps) ≡ true = none_makes (Rules ∷ ps) order in
     led_stays rules ds r k (Rules ∷ ps) keeps cs s leads ∙ sym (passes_stay (Rules ∷ ps) keeps cs s k)
-led (p ∷ ps) cs s rules ds r k run order leads =
-    led ps (apply_pass p cs s).0 (apply_pass p cs s).1 rules ds r k (both_true (can_run p) (list_all can_run ps) run).1 order leads
+led (p ∷ ps) cs s rules ds r k order leads = led ps (apply_pass p cs s).0 (apply_pass p cs s).1 rules ds r k order leads
 
 pub signatures_led : SignaturesLedTo
-signatures_led ps cs s rules ds r k ready run order leads = led ps cs s rules ds r k run order leads
+signatures_led ps cs s rules ds r k ready order leads = led ps cs s rules ds r k order leads

@@ -1,20 +1,24 @@
 -- The steps before a check, one after the other.
-use Rattle.std.proofs.Common.{◌≡◌, ◌∙◌, sym, ap, refl, ℕ, ◌+◌, ◌-◌, ◌≤◌, ◌==◌, false, inl, inr, if◌then◌else◌, List, [], ◌∷◌, ◌++◌, map, take, drop, length, slice_get, Some, append_assoc, arith}
+use Rattle.std.proofs.Common.{◌≡◌, ◌∙◌, sym, ap, refl, subst, ℕ, zero, suc, All, ◌+◌, ◌-◌, ◌≤◌, ◌==◌, false, inl, inr, if◌then◌else◌, List, [], ◌∷◌, ◌++◌, map, take, drop, length, slice_get, Some, append_assoc, arith}
 use Rattle.std.proofs.lemmas.Bool.Decides.{Decides-eqb}
+use Rattle.std.proofs.lemmas.List.Elements.{All-nil, All-cons}
 use Rattle.std.proofs.lemmas.List.{map-append, append-nil, length-map, at_drop_all}
 use Rattle.smt_terms.proofs.Tests.{true_or_false}
 use Rattle.term_table.specs.Formulas.{Formulas}
 use Rattle.script_read.specs.Commands.{Command, check}
 use Rattle.passes.specs.declared.carrying.Live.{Live as FoundLive}
+use Rattle.passes.specs.declared.plan.Stage.{Stage}
 use Rattle.passes.specs.declared.plan.Step.{Step}
-use Rattle.passes.specs.declared.plan.Step.TheVariants.{Group, Check, Push, Pop, Reset, ResetAssertions, Globals}
+use Rattle.passes.specs.declared.plan.Step.TheVariants.{Declare, Group, Check, Push, Pop, Reset, ResetAssertions, Globals}
 use Rattle.passes.specs.LiveGroups.{Drawn, before_check}
-use Rattle.passes.specs.LiveSymbols.{Live, live_at, lives_at}
+use Rattle.passes.specs.LiveRows.{IsLiveStage, AreLiveStages}
+use Rattle.passes.specs.LiveSymbols.{Live, live_at, lives_at, AreLiveOver}
 use Rattle.passes.specs.Plans.{step_of, steps_of}
 use Rattle.passes.proofs.GroupingSteps.{taken_more}
 use Rattle.passes.proofs.ListPlaces.{front, all_taken, map_at}
 
 other_before : (t : Formulas) (k : ℕ) (s : Step) (cs : List (Command Drawn)) → (s ≡ Check → ⊥) → before_check k (step_of t s ∷ cs) ≡ step_of t s ∷ before_check k cs
+other_before t k (Declare f) cs other = refl
 other_before t k (Group number ps) cs other = refl
 other_before t k Check cs other = absurd (other refl)
 other_before t k (Push n) cs other = refl
@@ -72,10 +76,45 @@ before_all t steps i past all left was =
 
 -- ---- stage by stage
 
-pub lives-more : (t : Formulas) (F : List (Command Drawn) → Live) (old new : List FoundLive) (r : FoundLive) (css : List (List (Command Drawn))) (i : ℕ) (cs : List (Command Drawn)) → slice_get css i ≡ Some cs
-    → lives_at t old ≡ map F (take i css) → live_at t r ≡ F cs → new ≡ old ++ r ∷ [] → lives_at t new ≡ map F (take (i + 1) css)
-lives-more t F old new r css i cs at before here is =
+pub lives-more : {A : Type 0} (t : Formulas) (F : A → Live) (old new : List FoundLive) (r : FoundLive) (sts : List A) (i : ℕ) (st : A) → slice_get sts i ≡ Some st
+    → lives_at t old ≡ map F (take i sts) → live_at t r ≡ F st → new ≡ old ++ r ∷ [] → lives_at t new ≡ map F (take (i + 1) sts)
+lives-more t F old new r sts i st at before here is =
     ap (lives_at t) is
     ∙ map-append (live_at t) old (r ∷ [])
     ∙ (λ j. before j ++ here j ∷ [])
-    ∙ sym (ap (map F) (taken_more css i cs at) ∙ map-append F (take i css) (cs ∷ []))
+    ∙ sym (ap (map F) (taken_more sts i st at) ∙ map-append F (take i sts) (st ∷ []))
+
+-- ---- what is live of each stage
+
+live_pushed : (t : Formulas) (sts : List Stage) (rs : List FoundLive) (st : Stage) (r : FoundLive) → AreLiveStages t sts rs → IsLiveStage t st r → AreLiveStages t (sts ++ st ∷ []) (rs ++ r ∷ [])
+live_pushed t [] [] st r are is = (is, tt)
+live_pushed t [] (x ∷ rs) st r are is = absurd are
+live_pushed t (x ∷ sts) [] st r are is = absurd are
+live_pushed t (x ∷ sts) (y ∷ rs) st r are is = (are.0, live_pushed t sts rs st r are.1 is)
+
+pub live_stage-more : (t : Formulas) (sts : List Stage) (i : ℕ) (st : Stage) → slice_get sts i ≡ Some st → (old new : List FoundLive) (r : FoundLive) → new ≡ old ++ r ∷ []
+    → AreLiveStages t (take i sts) old → IsLiveStage t st r → AreLiveStages t (take (i + 1) sts) new
+live_stage-more t sts i st at old new r pushed are is =
+    subst (λ xs. AreLiveStages t xs new) (sym (taken_more sts i st at))
+    (subst (λ xs. AreLiveStages t (take i sts ++ st ∷ []) xs) (sym pushed) (live_pushed t (take i sts) old st r are is))
+
+pub live_stage-at : (t : Formulas) (sts : List Stage) (rs : List FoundLive) → AreLiveStages t sts rs → (i : ℕ) (st : Stage) (r : FoundLive) → slice_get sts i ≡ Some st → slice_get rs i ≡ Some r → IsLiveStage t st r
+live_stage-at t [] rs are i st r at here = absurd cc
+live_stage-at t (x ∷ sts) [] are i st r at here = absurd are
+live_stage-at t (x ∷ sts) (y ∷ rs) are zero st r at here =
+    let first : x ≡ st = cc in
+    let second : y ≡ r = cc in
+    subst (λ z. IsLiveStage t z r) first (subst (IsLiveStage t x) second are.0)
+live_stage-at t (x ∷ sts) (y ∷ rs) are (suc i) st r at here = live_stage-at t sts rs are.1 i st r at here
+
+pub live_stages_count : (t : Formulas) (sts : List Stage) (rs : List FoundLive) → AreLiveStages t sts rs → length rs ≡ length sts
+live_stages_count t [] [] are = refl
+live_stages_count t [] (y ∷ rs) are = absurd are
+live_stages_count t (x ∷ sts) [] are = absurd are
+live_stages_count t (x ∷ sts) (y ∷ rs) are = ap suc (live_stages_count t sts rs are.1)
+
+pub live_stages_over : (t : Formulas) (sts : List Stage) (rs : List FoundLive) → AreLiveStages t sts rs → All (AreLiveOver t) rs
+live_stages_over t [] [] are = All-nil (AreLiveOver t)
+live_stages_over t [] (y ∷ rs) are = absurd are
+live_stages_over t (x ∷ sts) [] are = absurd are
+live_stages_over t (x ∷ sts) (y ∷ rs) are = All-cons (AreLiveOver t) y rs are.0.live (live_stages_over t sts rs are.1)

@@ -1,167 +1,54 @@
 -- The commands that are told of a pass that puts groups in the place of assertions, with the drawn symbols, tell how models are
 -- carried over it.
-use Rattle.std.proofs.Common.{◌≡◌, ◌∙◌, sym, ap, subst, refl, ℕ, suc, ◌+◌, ◌-◌, ◌≤◌, Bool, true, false, cond, ◌&&◌, ◌||◌, List, [], ◌∷◌, ◌++◌, map, filter, flat_map, length, count_by, nat_le, Option, Some, None, is_some, arith}
-use Rattle.std.proofs.lemmas.Bool.{leb-true}
-use Rattle.std.proofs.lemmas.List.{map-append}
-use Rattle.std.proofs.lemmas.List.Folds.{flat_map-map}
-use Rattle.std.proofs.lemmas.List.Sums.{sum_by-cons}
+use Rattle.std.proofs.Common.{◌≡◌, ◌∙◌, sym, ap, subst, refl, ℕ, ◌≤◌, List, [], ◌∷◌, map, filter, flat_map, count_by, None}
 use Rattle.smt_terms.specs.Equal.{symbol_eq}
 use Rattle.smt_terms.specs.Free.{is_among}
 use Rattle.smt_terms.specs.Fresh.{Supply}
-use Rattle.smt_terms.specs.Models.{Graph, Model}
+use Rattle.smt_terms.specs.Models.{Model}
 use Rattle.smt_terms.specs.Sorts.{Symbol}
 use Rattle.smt_terms.specs.SubstLaws.{GivesNone}
 use Rattle.smt_terms.specs.Term.{Term}
-use Rattle.smt_terms.proofs.Tests.{both_true, not_true}
 use Rattle.term_groups.specs.Drawing.{ConstantsAreNew}
-use Rattle.term_groups.specs.Grouping.{MakesGroups, symbols_of}
+use Rattle.term_groups.specs.Grouping.{MakesGroups}
 use Rattle.ite_free.specs.Ite.{ite}
 use Rattle.cnf_polarity.specs.Cnf.{cnf}
-use Rattle.script_read.specs.Commands.{Command, passed, declare, assert, pop, globals, with_asserted, Level, State, start, with_assertion, after, live, signature, is_check, checks}
-use Rattle.script_read.specs.Laws.{names_in_command}
-use Rattle.script_read.specs.Printable.{open_levels, may_stand, fixes, may_be_followed, printable_from}
-use Rattle.script_read.specs.Script.{most_levels}
+use Rattle.script_read.specs.Commands.{Command, live, signature, is_check, checks}
 use Rattle.passes.specs.declared.names.Pass.{Pass}
 use Rattle.passes.specs.declared.names.Pass.TheVariants.{Ite, Cnf}
-use Rattle.passes.specs.Carry.{asked_for, with_graphs, graph_dropped, graph_given, term_for}
+use Rattle.passes.specs.Carry.{asked_for, asked_back, with_graphs, graph_dropped, graph_given, term_for}
 use Rattle.passes.specs.GroupPoints.{inputs, outputs, drawn_in, live_pairs, AreGrouped, without_new, with_values, IsGrouping}
 use Rattle.passes.specs.Groups.{Making, groups_from}
 use Rattle.passes.specs.Laws.{IsReady, TellsModels, StepsTellModels}
-use Rattle.passes.specs.LiveGroups.{Drawn, drawn_of, all_told, global_behind, Met, met_in, met_at, symbols_in, all_drawn, without_drawn, with_met, asked_of}
+use Rattle.passes.specs.LiveGroups.{all_told, met_at, symbols_in, all_drawn, without_drawn, with_met, asked_of}
 use Rattle.passes.specs.Passed.{Replacement, replacements}
 use Rattle.passes.proofs.DrawnSymbols.{drawn_are, not_drawn, drawn_once}
-use Rattle.passes.proofs.FoundGroups.{begun_by, open_behind, May, AllMay, up_to, after_by, length_behind}
 use Rattle.passes.proofs.GroupPasses.{IsMaking, ite_is_making, cnf_is_making, replaced, back_so, forth_so}
 use Rattle.passes.proofs.GroupPointsHold.{ready-commands-are-grouped}
-use Rattle.passes.proofs.GroupWalks.{IsGiven, AreGiven, grouped_given}
-use Rattle.passes.proofs.LiveBehindGroups.{IsOld, IsGroupGiven, GroupsMay, asserts_itself, with_its_group, live_found, declared_found}
-use Rattle.passes.proofs.MetGroups.{told_up_to, told_global, told_checks, told_drawn, is_met, is_met_symbol, met_symbols}
-use Rattle.passes.proofs.NamedTerms.{some_term}
-use Rattle.passes.proofs.ReadyNames.{given_left, given_right, given_first}
-
--- ---- the commands before the pass
-
-input : Command Replacement → Command Term
-input c = with_asserted (λ r. r.term) c
-
-abbrev put_before : Replacement → Level Term → Level Term
-put_before r l = with_assertion r.term l
-
-same_after : (c : Command Replacement) (t : State Term) → after_by Replacement Term put_before c t ≡ after (input c) t
-unfolding input
-same_after (passed text) t = refl
-same_after _ t = refl
-
-same_fixes : (c : Command Replacement) (begun : Bool) → begun_by Replacement begun c ≡ fixes begun (input c)
-unfolding input
-same_fixes (passed text) begun = refl
-same_fixes _ begun = refl
-
-same_check : (c : Command Replacement) → is_check (input c) ≡ is_check c
-unfolding input
-same_check (passed text) = refl
-same_check _ = refl
-
-checks_before : (rs : List (Command Replacement)) → checks (inputs rs) ≡ count_by is_check rs
-unfolding input
-checks_before [] = refl
-checks_before (c ∷ rs) =
-    sum_by-cons (λ d. cond (is_check d) 1 0) (input c) (inputs rs) ∙ (λ i. cond (same_check c i) 1 0 + checks_before rs i) ∙ sym (sum_by-cons (λ d. cond (is_check d) 1 0) c rs)
-
--- ---- models, where a symbol without a term is told
-
-given_alike : (m : Model) (f : Symbol) (o : Option Term) (b c : Bool) (g : Option Graph) → (is_some o ≡ false → b ≡ c) → graph_given m o b f g ≡ graph_given m o c f g
-given_alike m f (Some t) b c g same = refl
-given_alike m f None b c g same = ap (λ d. graph_given m None d f g) (same refl)
-
-or_second : (a b : Bool) → a ≡ false → (a || b) ≡ b
-or_second true b h = absurd cc
-or_second false b h = refl
+use Rattle.passes.proofs.GroupWalks.{AreGiven, grouped_given}
+use Rattle.passes.proofs.LiveBehindGroups.{IsOld}
+use Rattle.passes.proofs.MetAtChecks.{checks_before, given_alike, pairs_met, idle_alike, asked_told}
+use Rattle.passes.proofs.ReadyNames.{given_first}
+use Rattle.passes.proofs.ToldCommands.{told_checks, told_drawn}
 
 module _ (law : ConstantsAreNew) (rs : List (Command Replacement)) (s r : Supply) (grouped : AreGrouped rs s r) where
   old : (f : Symbol) → GivesNone s (f.name ∷ []) → IsOld (drawn_in rs) f
   old f given = ap (λ fs. is_among fs f) (drawn_are rs) ∙ not_drawn law rs s r grouped f (given_first s f.name [] given)
 
-  abbrev MayHere : Bool → ℕ → Command Replacement → Type 0
-  MayHere begun d c = May Replacement (IsOld (drawn_in rs)) (IsGroupGiven (drawn_in rs)) begun d c
+  given : AreGiven (drawn_in rs) rs
+  given = grouped_given (drawn_in rs) rs s r grouped (λ f among. among)
 
-  may_here : (c : Command Replacement) (begun : Bool) (d : ℕ) (t : State Term) → may_stand begun t (input c) ≡ true → length t.levels ≡ suc d → GivesNone s (names_in_command (input c)) → IsGiven (drawn_in rs) c → MayHere begun d c
-  unfolding input
-  may_here (declare f) begun d t stands opened names given = old f names
-  may_here (assert i a) begun d t stands opened names given = given
-  may_here (pop n) begun d t stands opened names given =
-      let few : n ≤ length t.levels - 1 = leb-true n (open_levels t) (both_true (nat_le n most_levels) (nat_le n (open_levels t)) stands).1 in
-      omega (arith, few, opened)
-  may_here (globals b) begun d t stands opened names given = not_true begun stands
-  may_here _ begun d t stands opened names given = tt
+  -- ---- at a check
 
-  all_may : (qs : List (Command Replacement)) (begun : Bool) (d : ℕ) (t : State Term) → printable_from begun t (inputs qs) ≡ true → length t.levels ≡ suc d → GivesNone s (flat_map names_in_command (inputs qs)) → AreGiven (drawn_in rs) qs
-      → AllMay Replacement (IsOld (drawn_in rs)) (IsGroupGiven (drawn_in rs)) begun d qs
-  unfolding input
-  all_may [] begun d t printed opened names given = tt
-  all_may (c ∷ qs) begun d t printed opened names given =
-      let here = both_true (may_stand begun t (input c)) (may_be_followed (input c) (inputs qs) && printable_from (fixes begun (input c)) (after (input c) t) (inputs qs)) printed in
-      let there = both_true (may_be_followed (input c) (inputs qs)) (printable_from (fixes begun (input c)) (after (input c) t) (inputs qs)) here.1 in
-      let may : MayHere begun d c = may_here c begun d t here.0 opened (given_left s (names_in_command (input c)) (flat_map names_in_command (inputs qs)) names) given.0 in (
-        may,
-        all_may qs (begun_by Replacement begun c) (open_behind Replacement d c) (after (input c) t) (ap (λ b. printable_from b (after (input c) t) (inputs qs)) (same_fixes c begun) ∙ there.1)
-            (ap (λ (u : State Term). length u.levels) (sym (same_after c t)) ∙ length_behind Replacement Term put_before (IsOld (drawn_in rs)) (IsGroupGiven (drawn_in rs)) c begun d t may opened)
-            (given_right s (names_in_command (input c)) (flat_map names_in_command (inputs qs)) names) given.1,
-      )
+  module _ (ready : IsReady (inputs rs) s) (k : ℕ) (some : 1 ≤ k) (few : k ≤ count_by is_check rs) where
+    pub values_told : (m : Model) → with_values rs k m ≡ with_met (met_at k (all_told rs)) m
+    values_told m =
+        (λ i. with_graphs m (λ f.
+        given_alike m f (term_for (live_pairs rs k) f) (is_among (filter (is_among (drawn_in rs)) (signature (outputs rs) k).symbols) f) (is_among (symbols_in (met_at k (all_told rs)).idle) f) (m.graphs f)
+        (idle_alike rs s old given ready k some few f) i))
+        ∙ ap (λ ns. with_graphs m (λ f. graph_given m (term_for ns f) (is_among (symbols_in (met_at k (all_told rs)).idle) f) f (m.graphs f))) (sym (pairs_met rs s old given ready k some few))
 
-  module _ (ready : IsReady (inputs rs) s) where
-    may : GroupsMay (drawn_in rs) rs
-    may = all_may rs false 0 start ready.printable refl ready.names (grouped_given (drawn_in rs) rs s r grouped (λ f among. among))
-
-    -- ---- at a check
-
-    module _ (k : ℕ) (some : 1 ≤ k) (few : k ≤ count_by is_check rs) where
-      abbrev first : List (Command Replacement)
-      first = up_to Replacement k rs
-
-      abbrev global : Bool
-      global = global_behind false (all_told first)
-
-      abbrev met : Met
-      met = met_in global (all_told first)
-
-      met_here : met_at k (all_told rs) ≡ met
-      met_here = ap (λ cs. met_in (global_behind false cs) cs) (sym (told_up_to rs k))
-
-      live_met : met.live ≡ map drawn_of (live rs k)
-      live_met = (is_met global first).live ∙ ap (map drawn_of) (sym (live_found (drawn_in rs) rs may k some few global (sym (told_global Replacement asserts_itself first start))))
-
-      declared_met : (f : Symbol) → is_among (filter (is_among (drawn_in rs)) (signature (outputs rs) k).symbols) f ≡ is_met_symbol met f
-      declared_met f =
-          ap (λ fs. is_among fs f) (declared_found (drawn_in rs) rs may k some few global (sym (told_global Term with_its_group first start))) ∙ met_symbols global first f
-
-      pairs_met : flat_map (λ d. d.symbols) met.live ≡ live_pairs rs k
-      pairs_met = ap (flat_map (λ d. d.symbols)) live_met ∙ flat_map-map (λ (d : Drawn). d.symbols) drawn_of (live rs k)
-
-      symbols_met : (ds : List Drawn) → symbols_in ds ≡ symbols_of (flat_map (λ d. d.symbols) ds)
-      symbols_met [] = refl
-      symbols_met (d ∷ ds) = ap (λ fs. symbols_of d.symbols ++ fs) (symbols_met ds) ∙ sym (map-append (λ n. n.0) d.symbols (flat_map (λ d. d.symbols) ds))
-
-      -- a symbol without a term is no live assertion's
-      unlive : (f : Symbol) → is_some (term_for (live_pairs rs k) f) ≡ false → is_among (symbols_in met.live) f ≡ false
-      unlive f none = ap (λ fs. is_among fs f) (symbols_met met.live ∙ ap symbols_of pairs_met) ∙ sym (some_term (live_pairs rs k) f) ∙ none
-
-      idle_alike : (f : Symbol) → is_some (term_for (live_pairs rs k) f) ≡ false → is_among (filter (is_among (drawn_in rs)) (signature (outputs rs) k).symbols) f ≡ is_among (symbols_in met.idle) f
-      idle_alike f none = declared_met f ∙ or_second (is_among (symbols_in met.live) f) (is_among (symbols_in met.idle) f) (unlive f none)
-
-      values_met : (m : Model) → with_values rs k m ≡ with_met met m
-      values_met m =
-          (λ i. with_graphs m (λ f.
-          given_alike m f (term_for (live_pairs rs k) f) (is_among (filter (is_among (drawn_in rs)) (signature (outputs rs) k).symbols) f) (is_among (symbols_in met.idle) f) (m.graphs f) (idle_alike f) i))
-          ∙ ap (λ ns. with_graphs m (λ f. graph_given m (term_for ns f) (is_among (symbols_in met.idle) f) f (m.graphs f))) (sym pairs_met)
-
-      pub values_told : (m : Model) → with_values rs k m ≡ with_met (met_at k (all_told rs)) m
-      values_told m = values_met m ∙ ap (λ g. with_met g m) (sym met_here)
-
-      pub asked_told : flat_map (λ (a : Replacement). asked_for a.number (map (λ n. n.1) a.group.symbols)) (live rs k) ≡ asked_of (met_at k (all_told rs))
-      asked_told =
-          sym (flat_map-map (λ (d : Drawn). asked_for d.number (map (λ n. n.1) d.symbols)) drawn_of (live rs k))
-          ∙ ap (flat_map (λ d. asked_for d.number (map (λ n. n.1) d.symbols))) (sym live_met) ∙ ap asked_of (sym met_here)
+    pub asked_there : flat_map (λ (a : Replacement). asked_for a.number (map (λ n. n.1) a.group.symbols)) (live rs k) ≡ asked_of (met_at k (all_told rs))
+    asked_there = asked_told rs s old given ready k some few
 
   -- ---- all that was drawn
 
@@ -173,7 +60,7 @@ module _ (law : ConstantsAreNew) (rs : List (Command Replacement)) (s r : Supply
 
 -- ---- the passes
 
-module _ (p : Pass) (make : Making) (is : IsMaking p make) (makes : MakesGroups make) (law : ConstantsAreNew) (cs : List (Command Term)) (s : Supply) (ready : IsReady cs s) where
+module _ (p : Pass) (make : Making) (is : IsMaking p make) (nothing : (cs : List (Command Term)) (s : Supply) (k : ℕ) → asked_back p cs s k ≡ []) (makes : MakesGroups make) (law : ConstantsAreNew) (cs : List (Command Term)) (s : Supply) (ready : IsReady cs s) where
   abbrev rs : List (Command Replacement)
   rs = (groups_from make cs s).0
 
@@ -192,16 +79,18 @@ module _ (p : Pass) (make : Making) (is : IsMaking p make) (makes : MakesGroups 
   few_enough : (k : ℕ) → k ≤ checks cs → k ≤ count_by is_check rs
   few_enough k few = subst (λ n. k ≤ n) (sym as_many) few
 
-  tells : TellsModels p cs s
+  tells : TellsModels p cs s None
   tells = record {
     distinct = subst (λ qs. (f : Symbol) → count_by (symbol_eq f) (symbols_in (all_drawn (all_told qs))) ≤ 1) (sym same) (once_told law rs s (groups_from make cs s).1 grouping.grouped);
-    back = λ k m. back_so p make is cs s k m ∙ dropped_told law rs s (groups_from make cs s).1 grouping.grouped m ∙ ap (λ qs. without_drawn (all_told qs) m) (sym same);
+    back = λ k m some few.
+        back_so p make is cs s k m ∙ dropped_told law rs s (groups_from make cs s).1 grouping.grouped m ∙ ap (λ qs. without_drawn (all_told qs) m) (sym same);
+    asked_back = λ k some few. nothing cs s k;
     forth = λ k m some few.
         forth_so p make is cs s k m ∙ values_told law rs s (groups_from make cs s).1 grouping.grouped ready_before k some (few_enough k few) m
         ∙ ap (λ qs. with_met (met_at k (all_told qs)) m) (sym same);
     asked = λ k some few.
         ap (λ qs. flat_map (λ (a : Replacement). asked_for a.number (map (λ n. n.1) a.group.symbols)) (live qs k)) same
-        ∙ asked_told law rs s (groups_from make cs s).1 grouping.grouped ready_before k some (few_enough k few)
+        ∙ asked_there law rs s (groups_from make cs s).1 grouping.grouped ready_before k some (few_enough k few)
         ∙ ap (λ qs. asked_of (met_at k (all_told qs))) (sym same);
     checks = ap (λ qs. count_by is_check (all_told qs)) same ∙ told_checks rs ∙ as_many;
   }
@@ -210,6 +99,6 @@ pub steps-tell-models : ConstantsAreNew → MakesGroups ite → MakesGroups cnf 
 steps-tell-models constants ites cnfs = told
   where
     told : StepsTellModels
-    told Ite cs s is ready = tells Ite ite ite_is_making ites constants cs s ready
-    told Cnf cs s is ready = tells Cnf cnf cnf_is_making cnfs constants cs s ready
+    told Ite cs s is ready = tells Ite ite ite_is_making (λ ds q k. refl) ites constants cs s ready
+    told Cnf cs s is ready = tells Cnf cnf cnf_is_making (λ ds q k. refl) cnfs constants cs s ready
     told _ cs s is ready = absurd cc

@@ -25,7 +25,7 @@ use Rattle.passes.proofs.LeastAsked.{picked-passed, picked-other}
 -- ---- the least assertion beyond the range, with one term more
 
 module _ (t : Formulas) (m : Model) (qs : List Asked) (q : Asked) where
-  abbrev leaves : Asked → Bool
+  abbrev pub leaves : Asked → Bool
   leaves a = not (fits m a.term no_variables)
 
   breaks_still : (i : ℕ) (u : Term) → breaks_among m qs i u ≡ true → breaks_among m (qs ++ q ∷ []) i u ≡ true
@@ -40,23 +40,23 @@ module _ (t : Formulas) (m : Model) (qs : List Asked) (q : Asked) where
       (left_true ((q.number == q.number) && breaks m u q.term no_variables) false (and_true (q.number == q.number) (breaks m u q.term no_variables) (eq-eqb q.number q.number refl) h))
 
   -- one that fits changes nothing
-  beyond_fits : (o : Option Beyond) → fits m q.term no_variables ≡ true → IsLeastBeyond t m qs o → IsLeastBeyond t m (qs ++ q ∷ []) o
+  pub beyond_fits : (o : Option Beyond) → fits m q.term no_variables ≡ true → IsLeastBeyond t m qs o → IsLeastBeyond t m (qs ++ q ∷ []) o
   beyond_fits None fit is = picked-other leaves qs q None (ap not fit) is
   beyond_fits (Some b) fit is = (picked-other leaves qs q (Some b.assertion) (ap not fit) is.0, is.1, breaks_still b.assertion (tree t b.node) is.2)
 
-  settled_stays : (b : Beyond) → nat_le b.assertion q.number ≡ true → beyond_of m qs ≡ Some b.assertion → (f : Bool) → fits m q.term no_variables ≡ f → beyond_of m (qs ++ q ∷ []) ≡ Some b.assertion
+  pub settled_stays : (b : Beyond) → nat_le b.assertion q.number ≡ true → beyond_of m qs ≡ Some b.assertion → (f : Bool) → fits m q.term no_variables ≡ f → beyond_of m (qs ++ q ∷ []) ≡ Some b.assertion
   settled_stays b settled is true fit = picked-other leaves qs q (Some b.assertion) (ap not fit) is
   settled_stays b settled is false fit =
       let le : b.assertion ≤ q.number = leb-true b.assertion q.number settled in
       picked-passed leaves qs q (Some b.assertion) (ap not fit) is ∙ ap Some (let least : min b.assertion q.number ≡ b.assertion = omega arith in least)
 
   -- neither does one that needn't be valued
-  beyond_settled : (o : Option Beyond) → is_settled o q.number ≡ true → IsLeastBeyond t m qs o → IsLeastBeyond t m (qs ++ q ∷ []) o
+  pub beyond_settled : (o : Option Beyond) → is_settled o q.number ≡ true → IsLeastBeyond t m qs o → IsLeastBeyond t m (qs ++ q ∷ []) o
   beyond_settled None settled is = absurd cc
   beyond_settled (Some b) settled is =
       (settled_stays b settled is.0 (fits m q.term no_variables) refl, is.1, breaks_still b.assertion (tree t b.node) is.2)
 
-  beyond_least : (o : Option Beyond) → is_settled o q.number ≡ false → IsLeastBeyond t m qs o → fits m q.term no_variables ≡ false → beyond_of m (qs ++ q ∷ []) ≡ Some q.number
+  pub beyond_least : (o : Option Beyond) → is_settled o q.number ≡ false → IsLeastBeyond t m qs o → fits m q.term no_variables ≡ false → beyond_of m (qs ++ q ∷ []) ≡ Some q.number
   beyond_least None settled is fit = picked-passed leaves qs q None (ap not fit) is
   beyond_least (Some b) settled is fit =
       let more : q.number < b.assertion = leb-false b.assertion q.number settled in

@@ -2,16 +2,16 @@
 -- the first, and the other way, from the first to the last. Sizes of sorts and division by zero stay, and equivalence passes
 -- change nothing (SMT-LIB 2.6, section 5.3, for values of terms).
 use Rattle.std.specs.Prelude.{ℕ, ◌-◌, ◌^◌, ◌==◌, max, min, Bool, true, false, not, cond, nat_lt, List, [], ◌∷◌, ◌++◌, map, filter, flat_map, Option, Some, None}
-use Rattle.std.specs.List.{list_any}
 use Rattle.smt_terms.specs.Sorts.{Sort, Symbol}
-use Rattle.smt_terms.specs.Term.{Head, op, symbol, const_array, Term, apply, quantified, list, constant}
+use Rattle.smt_terms.specs.Term.{Term}
 use Rattle.smt_terms.specs.Equal.{symbol_eq}
 use Rattle.smt_terms.specs.Free.{is_among}
 use Rattle.smt_terms.specs.Fresh.{Supply}
-use Rattle.smt_terms.specs.Groups.{Named, with_constants_each}
-use Rattle.smt_terms.specs.Values.{Value, Sizes, all_same, default_value}
-use Rattle.smt_terms.specs.Models.{Row, Graph, Model}
-use Rattle.smt_terms.specs.Val.{no_variables, val, vals, fits, bits_bound}
+use Rattle.smt_terms.specs.Groups.{Named}
+use Rattle.smt_terms.specs.Values.{Value, default_value}
+use Rattle.smt_terms.specs.Models.{Graph, Model}
+use Rattle.smt_terms.specs.Val.{no_variables, val, fits, bits_bound}
+use Rattle.ackermann.specs.Tables.{operands_of, application_graph}
 use Rattle.script_read.specs.Commands.{Command, assert, live, signature}
 use Rattle.passes.specs.declared.names.Pass.{Pass}
 use Rattle.passes.specs.declared.names.Pass.TheVariants.{Ackermann}
@@ -52,33 +52,6 @@ abbrev pub has_arguments : Symbol → Bool
 has_arguments f = are_some f.args
 
 -- ---- from behind a pass to before it
-
-abbrev pub applies : Symbol → Head → Bool
-applies f (op o) = false
-applies f (symbol g) = symbol_eq f g
-applies f (const_array s) = false
-
--- the row of an application of f with its constant v: the values of its operands, in which applications gave way to their
--- constants, and the value of the constant
-abbrev pub application_row : Model → Named → Symbol → Symbol → Term → List Row
-application_row m ns f v (apply h ts) =
-    cond (applies f h)
-    (record { keys = vals m (with_constants_each ns ts) no_variables; result = val m (constant v) no_variables } ∷ [])
-    []
-application_row m ns f v (quantified q xs t) = []
-
--- the rows with one more, unless its keys are there already
-abbrev pub with_row : List Sort → Sizes → List Row → Row → List Row
-with_row args sizes rows r = cond (list_any (λ q. all_same args sizes q.keys r.keys) rows) rows (rows ++ r ∷ [])
-
-abbrev pub with_rows : List Sort → Sizes → List Row → List Row → List Row
-with_rows args sizes rows [] = rows
-with_rows args sizes rows (r ∷ rs) = with_rows args sizes (with_row args sizes rows r) rs
-
--- a row for each live application of the function, in the order drawn
-abbrev pub application_graph : Model → Named → Symbol → Graph
-application_graph m ns f =
-    record { rows = with_rows f.args m.sizes [] (flat_map (λ n. application_row m ns f n.0 n.1) ns); otherwise = default_value f.result }
 
 abbrev pub graph_dropped : List Symbol → (Symbol → Option Graph) → Symbol → Option Graph
 graph_dropped fs graphs f = cond (is_among fs f) None (graphs f)
@@ -148,10 +121,6 @@ pub record Stage : Type 0 where
 
 abbrev pub asked_for : ℕ → List Term → List Asked
 asked_for i ts = map (λ t. record { number = i; term = t }) ts
-
-abbrev pub operands_of : Named → Term → List Term
-operands_of ns (apply h ts) = list (with_constants_each ns ts)
-operands_of ns (quantified q xs t) = []
 
 -- the operands of the live applications, in which applications gave way to their constants
 abbrev pub asked_back : Pass → List (Command Term) → Supply → ℕ → List Asked

@@ -1,6 +1,6 @@
 -- Statements of the laws of passes that put one assertion in the place of each: what becomes of commands that can be printed,
 -- and of their models. SMT-LIB 2.6, section 4.2, for commands and section 5.3 for values.
-use Rattle.std.specs.Prelude.{◌≡◌, ◌≤◌, ℕ, Bool, true, false, not, List, count_by, All, IsTrue}
+use Rattle.std.specs.Prelude.{◌≡◌, ◌≤◌, ℕ, Bool, true, false, not, List, ◌∷◌, ◌++◌, count_by, Option, Some, None, All, IsTrue}
 use Rattle.std.specs.List.{list_all, list_any}
 use Rattle.smt_terms.specs.Equal.{symbol_eq}
 use Rattle.smt_terms.specs.Fresh.{Supply}
@@ -10,19 +10,19 @@ use Rattle.smt_terms.specs.Rank.{sort_of}
 use Rattle.smt_terms.specs.Sorts.{Name, Symbol}
 use Rattle.smt_terms.specs.Term.{Term}
 use Rattle.term_table.specs.Formulas.{sort_or_bool}
-use Rattle.script_read.specs.Commands.{Command, kinds, live, literals, signature, is_check, checks}
+use Rattle.script_read.specs.Commands.{Command, pop, kinds, live, literals, signature, is_check, checks}
 use Rattle.script_read.specs.Laws.{GivesNoNameOf}
 use Rattle.script_read.specs.Printable.{printable}
 use Rattle.script_read.specs.Satisfied.{sat}
 use Rattle.smt_print.specs.Laws.{Each}
 use Rattle.passes.specs.declared.names.Pass.{Pass}
-use Rattle.passes.specs.declared.names.Pass.TheVariants.{Simplify, Nnf, Aig, Prenex, Reads, Shannon, SelfSub, Rules, Ite, Cnf}
+use Rattle.passes.specs.declared.names.Pass.TheVariants.{Simplify, Nnf, Aig, Prenex, Reads, Shannon, SelfSub, Rules, Ite, Cnf, Ackermann}
 use Rattle.passes.specs.Led.{EachMayBecome, LeadsTo}
-use Rattle.passes.specs.Lists.{can_run, groups_after_rules, makes_groups}
-use Rattle.passes.specs.LiveGroups.{Drawn, all_told, all_drawn, symbols_in, without_drawn, with_met, met_at, asked_of}
-use Rattle.passes.specs.Passed.{apply_pass, passed, replacements}
+use Rattle.passes.specs.Lists.{groups_after_rules, makes_groups}
+use Rattle.passes.specs.LiveGroups.{Drawn, Operands, all_told, all_drawn, symbols_in, back_over_by, forth_over_by, asked_back_by, met_at, asked_of, removed_operands, AreApplied, levels_open}
+use Rattle.passes.specs.Passed.{apply_pass, passed, replacements, refused_by}
 use Rattle.passes.specs.Ruling.{RewritesCommands}
-use Rattle.passes.specs.Carry.{back, back_over, forth, forth_over, asked_forth}
+use Rattle.passes.specs.Carry.{back, back_over, forth, forth_over, asked_back, asked_forth}
 
 -- the passes of these laws: all that put one assertion in the place of each; stored rules count as changing nothing here
 abbrev pub keeps_values : Pass → Bool
@@ -114,6 +114,10 @@ pub record PutsGroups (p : Pass) (cs : List (Command Term)) (s : Supply) : Type 
 abbrev pub GroupsCarryModels : Type 0
 GroupsCarryModels = (p : Pass) (cs : List (Command Term)) (s : Supply) → IsTrue (puts_groups p) → IsReady cs s → PutsGroups p cs s
 
+-- so does the removal of applications, where none stands below a quantifier
+abbrev pub RemovalsCarryModels : Type 0
+RemovalsCarryModels = (cs : List (Command Term)) (s : Supply) → IsReady cs s → refused_by Ackermann cs ≡ None → PutsGroups Ackermann cs s
+
 -- ---- lists with any passes that can be run
 
 -- of commands and a supply of names, and those that a pass made of them
@@ -132,16 +136,18 @@ pub record AreCarried (ps : List Pass) (cs ds : List (Command Term)) (s r : Supp
 
 -- ---- what is kept of such a pass
 
--- what was drawn and where it is live tells what carried models are
-pub record TellsModels (p : Pass) (cs : List (Command Term)) (s : Supply) : Type 0 where
+-- what was drawn and where it is live tells what carried models are, with what took the places of operands where applications
+-- were removed
+pub record TellsModels (p : Pass) (cs : List (Command Term)) (s : Supply) (ops : Option Operands) : Type 0 where
   pub distinct : (f : Symbol) → count_by (symbol_eq f) (symbols_in (all_drawn (all_told (replacements p cs s).0))) ≤ 1
-  pub back : (k : ℕ) (m : Model) → back_over p cs s k m ≡ without_drawn (all_told (replacements p cs s).0) m
-  pub forth : (k : ℕ) (m : Model) → 1 ≤ k → k ≤ checks cs → forth_over p cs s k m ≡ with_met (met_at k (all_told (replacements p cs s).0)) m
+  pub back : (k : ℕ) (m : Model) → 1 ≤ k → k ≤ checks cs → back_over p cs s k m ≡ back_over_by ops (all_told (replacements p cs s).0) (met_at k (all_told (replacements p cs s).0)) m
+  pub asked_back : (k : ℕ) → 1 ≤ k → k ≤ checks cs → asked_back p cs s k ≡ asked_back_by ops (met_at k (all_told (replacements p cs s).0))
+  pub forth : (k : ℕ) (m : Model) → 1 ≤ k → k ≤ checks cs → forth_over p cs s k m ≡ forth_over_by ops (met_at k (all_told (replacements p cs s).0)) m
   pub asked : (k : ℕ) → 1 ≤ k → k ≤ checks cs → asked_forth p cs s k ≡ asked_of (met_at k (all_told (replacements p cs s).0))
   pub checks : count_by is_check (all_told (replacements p cs s).0) ≡ checks cs
 
 abbrev pub StepsTellModels : Type 0
-StepsTellModels = (p : Pass) (cs : List (Command Term)) (s : Supply) → IsTrue (puts_groups p) → IsReady cs s → TellsModels p cs s
+StepsTellModels = (p : Pass) (cs : List (Command Term)) (s : Supply) → IsTrue (puts_groups p) → IsReady cs s → TellsModels p cs s None
 
 -- each symbol that such a pass draws has the sort of the term that it stands for
 abbrev pub HaveSorts : Drawn → Type 0
@@ -150,11 +156,24 @@ HaveSorts d = All (λ n. n.0.result ≡ sort_or_bool (sort_of n.1)) d.symbols
 abbrev pub DrawnHaveSorts : Type 0
 DrawnHaveSorts = (p : Pass) (cs : List (Command Term)) (s : Supply) → IsTrue (puts_groups p) → IsReady cs s → All HaveSorts (all_drawn (all_told (replacements p cs s).0))
 
+-- the same of the removal of applications; the function of each live application is live
+pub record TellsRemovals (cs : List (Command Term)) (s : Supply) : Type 0 where
+  pub models : TellsModels Ackermann cs s (Some (removed_operands cs s))
+  pub sorts : All HaveSorts (all_drawn (all_told (replacements Ackermann cs s).0))
+  pub functions : (k : ℕ) → 1 ≤ k → k ≤ checks cs → AreApplied (met_at k (all_told (replacements Ackermann cs s).0))
+
+abbrev pub RemovalsTellModels : Type 0
+RemovalsTellModels = (cs : List (Command Term)) (s : Supply) → IsReady cs s → refused_by Ackermann cs ≡ None → TellsRemovals cs s
+
+-- levels are open where they are closed
+abbrev pub LevelsAreOpen : Type 0
+LevelsAreOpen = (before : List (Command Term)) (n : ℕ) (behind : List (Command Term)) (s : Supply) → IsReady (before ++ pop n ∷ behind) s → n ≤ levels_open before
+
 -- ---- what is declared behind a list
 
 -- commands that the passes may make declare at each point what the definition's do, though stored rules may have changed their
 -- assertions
 abbrev pub SignaturesLedTo : Type 0
 SignaturesLedTo =
-    (ps : List Pass) (cs : List (Command Term)) (s : Supply) (rules : List Name) (ds : List (Command Term)) (r : Supply) (k : ℕ) → IsReady cs s → IsTrue (list_all can_run ps) → groups_after_rules ps ≡ false
+    (ps : List Pass) (cs : List (Command Term)) (s : Supply) (rules : List Name) (ds : List (Command Term)) (r : Supply) (k : ℕ) → IsReady cs s → groups_after_rules ps ≡ false
     → LeadsTo ps cs s rules ds r → signature ds k ≡ signature (passed ps cs s).0 k

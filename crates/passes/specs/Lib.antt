@@ -12,3 +12,5 @@ pub mod LiveGroups
 pub mod Plans
 pub mod Carrying
 pub mod LiveSymbols
+pub mod Removing
+pub mod LiveRows

@@ -55,20 +55,6 @@ groups_after_rules [] = false
 groups_after_rules (Rules ∷ ps) = list_any makes_groups ps
 groups_after_rules (p ∷ ps) = groups_after_rules ps
 
--- the passes that can be run so far; in a list, the name of another one is none
-abbrev pub can_run : Pass → Bool
-can_run Simplify = true
-can_run Nnf = true
-can_run Aig = true
-can_run Prenex = true
-can_run Reads = true
-can_run Shannon = true
-can_run SelfSub = true
-can_run Rules = true
-can_run Ite = true
-can_run Cnf = true
-can_run _ = false
-
 -- ---- lists
 
 abbrev pub onto_first : ℕ → List Name → List Name
@@ -93,10 +79,13 @@ all_known runs None = Err BadPass
 abbrev pub listed : (Pass → Bool) → List Name → Result (List Pass) ListFault
 listed runs ns = if nat_lt most_passes (length ns) then Err BadPass else all_known runs (passes_named ns)
 
--- the passes of a text, where those that pass a test can be run
+-- the passes of a text, where those that pass a test may stand in it
 abbrev pub pass_list_of : (Pass → Bool) → List ℕ → Result (List Pass) ListFault
 pass_list_of runs text = listed runs (between_commas text)
 
+abbrev pub any_pass : Pass → Bool
+any_pass p = true
+
 -- the passes of a text
 abbrev pub pass_list : List ℕ → Result (List Pass) ListFault
-pass_list text = pass_list_of can_run text
+pass_list text = pass_list_of any_pass text

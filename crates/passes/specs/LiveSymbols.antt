@@ -12,18 +12,19 @@ use Rattle.smt_terms.specs.Sorts.{Symbol}
 use Rattle.smt_terms.specs.Term.{Term}
 use Rattle.smt_terms.specs.Val.{no_variables, val, fits, bits_bound}
 use Rattle.smt_terms.specs.Values as plain
-use Rattle.smt_terms.specs.Values.{default_value, Sizes}
+use Rattle.smt_terms.specs.Values.{default_value}
 use Rattle.smt_values.specs.Meaning.{meaning}
 use Rattle.smt_values.specs.Valid.{IsValue}
 use Rattle.smt_values.specs.declared.value.Value.{Value}
 use Rattle.term_table.specs.Formulas.{Formulas, symbol_at, tree, sort_or_bool, IsNode, IsSymbol}
 use Rattle.term_groups.specs.Seen.{named_at}
-use Rattle.models.specs.ModelView.{ModelLists, model_at, with_graph, IsModelOf}
+use Rattle.models.specs.ModelView.{ModelLists, model_at, with_graph, without_functions, IsModelOf}
 use Rattle.evaluation.specs.Evaluated.{breaks}
 use Rattle.passes.specs.Carry.{Asked, Stage, with_graphs, graph_dropped, graph_given, term_for, constant_graph, most_bits, greatest_bound, numbers, beyond}
 use Rattle.passes.specs.Carrying.{breaks_in}
-use Rattle.passes.specs.LiveGroups.{Met, symbols_in}
+use Rattle.passes.specs.LiveGroups.{Met, Told, met_of, symbols_in}
 use Rattle.passes.specs.Passed.{least}
+use Rattle.passes.specs.Plans.{Uses, HasUse}
 use Rattle.passes.specs.declared.carrying.CarryFault.{CarryFault}
 use Rattle.passes.specs.declared.carrying.CarryFault.TheVariants.{EvalWidth, Beyond128 as BeyondRange, Memory}
 use Rattle.passes.specs.declared.carrying.Beyond.{Beyond}
@@ -41,25 +42,31 @@ pub record Given : Type 0 where
   pub symbol : Symbol
   pub term : Term
 
--- those of live assertions, and the other symbols that are live
+-- those of live assertions, the other new symbols that are live, and the functions with arguments that are
 pub record Live : Type 0 where
   pub given : List Given
   pub idle : List Symbol
+  pub functions : List Symbol
 
 abbrev pub given_by : ℕ → Named → List Given
 given_by i ns = map (λ n. record { number = i; symbol = n.0; term = n.1 }) ns
 
 abbrev pub live_of : Met → Live
-live_of g = record { given = flat_map (λ d. given_by d.number d.symbols) g.live; idle = symbols_in g.idle }
+live_of g = record { given = flat_map (λ d. given_by d.number d.symbols) g.live; idle = symbols_in g.idle; functions = g.functions }
 
 -- ---- models
 
 abbrev pub named_in : List Given → Named
 named_in gs = map (λ g. (g.symbol, g.term)) gs
 
+-- functions with arguments left out where applications were removed
+abbrev pub kept_over : Bool → Model → Model
+kept_over true m = without_functions m
+kept_over false m = m
+
 -- each symbol of a live assertion with the value of its term, and each other one that is live with its sort's default
-abbrev pub with_live : Live → Model → Model
-with_live r m = with_graphs m (λ f. graph_given m (term_for (named_in r.given) f) (is_among r.idle f) f (m.graphs f))
+abbrev pub with_live : Bool → Live → Model → Model
+with_live removes r m = with_graphs m (λ f. graph_given m (term_for (named_in r.given) f) (is_among r.idle f) f ((kept_over removes m).graphs f))
 
 -- the values of these symbols dropped
 abbrev pub dropped_at : Formulas → List (SymId × NodeId) → Model → Model
@@ -73,10 +80,6 @@ abbrev pub with_each : List (Symbol × plain.Value) → Model → Model
 with_each [] m = m
 with_each (p ∷ ps) m = with_graph p.0 (Some (constant_graph p.1)) (with_each ps m)
 
-abbrev pub forth_over_live : List Live → Model → Model
-forth_over_live [] m = m
-forth_over_live (r ∷ rs) m = forth_over_live rs (with_live r m)
-
 -- ---- terms to be evaluated
 
 abbrev pub asked_in : List Given → List Asked
@@ -84,10 +87,6 @@ asked_in gs = map (λ g. record { number = g.number; term = g.term }) gs
 
 abbrev pub all_asked_in : List Live → List Asked
 all_asked_in rs = flat_map (λ r. asked_in r.given) rs
-
-abbrev pub stages_over_live : List Live → Model → List Stage
-stages_over_live [] m = []
-stages_over_live (r ∷ rs) m = record { model = m; asked = asked_in r.given } ∷ stages_over_live rs (with_live r m)
 
 -- the least assertion among these with a term that binds too many bits, and the bits of an assertion's terms
 abbrev pub widest_of : List Asked → Option ℕ
@@ -109,10 +108,14 @@ abbrev pub given_at : Formulas → LiveSymbol → Given
 given_at t a = record { number = a.assertion; symbol = symbol_at t a.symbol; term = tree t a.term }
 
 abbrev pub live_at : Formulas → CodeLive → Live
-live_at t r = record { given = map (given_at t) r.given.items; idle = map (symbol_at t) r.idle.items }
+live_at t r = record { given = map (given_at t) r.given.items; idle = map (symbol_at t) r.idle.items; functions = map (symbol_at t) r.functions.items }
 
 abbrev pub lives_at : Formulas → List CodeLive → List Live
 lives_at t rs = map (live_at t) rs
+
+-- these are live at check k, stage by stage
+abbrev pub AreLiveAt : Formulas → ℕ → List Told → List CodeLive → Type 0
+AreLiveAt t k sts rs = lives_at t rs ≡ map (λ st. live_of (met_of k st)) sts
 
 -- a symbol with a term of its sort
 abbrev pub IsLiveOver : Formulas → LiveSymbol → Type 0
@@ -121,6 +124,11 @@ IsLiveOver t a = IsSymbol t a.symbol × IsNode t a.term × ((symbol_at t a.symbo
 pub record AreLiveOver (t : Formulas) (r : CodeLive) : Type 0 where
   pub given : All (IsLiveOver t) r.given.items
   pub idle : All (IsSymbol t) r.idle.items
+  pub functions : All (IsSymbol t) r.functions.items
+
+-- the application of a constant is known, where applications were removed
+abbrev pub HasUseOf : Formulas → Option Uses → LiveSymbol → Type 0
+HasUseOf t uses a = HasUse t uses (a.symbol, a.term)
 
 -- what a search found so far
 pub record IsSearched (t : Formulas) (s : Search) (g : Met) : Type 0 where
@@ -129,10 +137,12 @@ pub record IsSearched (t : Formulas) (s : Search) (g : Met) : Type 0 where
   pub closed : s.closed ≡ g.closed
   pub given : map (given_at t) s.given ≡ (live_of g).given
   pub idle : map (symbol_at t) s.idle ≡ (live_of g).idle
+  pub functions : map (symbol_at t) s.functions ≡ g.functions
 
 pub record IsSearchOver (t : Formulas) (s : Search) : Type 0 where
   pub given : All (IsLiveOver t) s.given
   pub idle : All (IsSymbol t) s.idle
+  pub functions : All (IsSymbol t) s.functions
 
 -- ---- answers
 
@@ -184,15 +194,15 @@ pub record IsValuation (t : Formulas) (m : ModelLists) (gs : List Given) (v : Va
   pub each : All (IsValueFor t m) v.values.items
 
 -- the model behind a pass
-pub record Gives (t : Formulas) (r : Live) (old new : ModelLists) : Type 0 where
+pub record Gives (t : Formulas) (r : Live) (removes : Bool) (old new : ModelLists) : Type 0 where
   pub within : beyond_of (model_at t old) (asked_in r.given) ≡ None
-  pub model : model_at t new ≡ with_live r (model_at t old)
+  pub model : model_at t new ≡ with_live removes r (model_at t old)
   pub numbers : IsModelOf t new
   pub valid : IsModel (model_at t new)
 
--- the model behind all passes, or a refusal of it
-abbrev pub GivesAll : Formulas → List Live → Model → Result ModelLists CarryFault → Type 0
-GivesAll t rs m (Ok r) = (beyond (stages_over_live rs m) ≡ None) × (model_at t r ≡ forth_over_live rs m) × IsModelOf t r × IsModel (model_at t r)
-GivesAll t rs m (Err (BeyondRange a k)) = (beyond (stages_over_live rs m) ≡ Some a) × IsNode t k × (breaks_in t (stages_over_live rs m) a k ≡ true)
-GivesAll t rs m (Err Memory) = Unit {0}
-GivesAll t rs m (Err _) = ⊥
+-- with these terms to be evaluated, none of which binds too many bits, the answer is this model or a refusal of it
+abbrev pub Answers : Formulas → List Stage → Model → Result ModelLists CarryFault → Type 0
+Answers t stages m (Ok r) = (beyond stages ≡ None) × (model_at t r ≡ m) × IsModelOf t r × IsModel (model_at t r)
+Answers t stages m (Err (BeyondRange a k)) = (beyond stages ≡ Some a) × IsNode t k × (breaks_in t stages a k ≡ true)
+Answers t stages m (Err Memory) = Unit {0}
+Answers t stages m (Err _) = ⊥

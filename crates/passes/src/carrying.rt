@@ -1,18 +1,18 @@
 //! Models carried over the passes that a script went through: from behind them to before them, and the other way. SMT-LIB 2.6,
 //! section 5.3, for the values of terms.
 //!
-//! Back, the values of all new symbols are dropped. Forth, a new symbol whose assertion is live at the check gets the value of
-//! the term that it stands for, in the model before the pass, and one that is only declared there its sort's default.
+//! Back, the values of all new symbols are dropped; where applications were removed, each function that is live at the check
+//! gets a row for each live application, with the values of its operands and of its constant. Forth, a new symbol whose
+//! assertion is live at the check gets the value of the term that it stands for, in the model before the pass, and one that is
+//! only declared there its sort's default; where applications were removed, functions with arguments are left out.
 
-ghost use Rattle.std.specs.Prelude.{◌≡◌, ◌≤◌, ◌<◌, ◌+◌, ◌^◌, ◌⊎◌, ◌++◌, ℕ, None, Some, List, [], ◌∷◌, map, IsTrue, false, All, IfOk, OnOk, MatchResult};
-ghost use Rattle.std.specs.List.{list_all};
+ghost use Rattle.std.specs.Prelude.{◌≡◌, ◌≤◌, ◌<◌, ◌+◌, ◌^◌, ◌⊎◌, ◌++◌, ℕ, None, Some, List, [], ◌∷◌, map, Option, false, All, IfOk, OnOk, MatchResult};
 ghost use Rattle.smt_terms.specs.Fresh.{Supply};
 ghost use Rattle.smt_terms.specs.Models.{IsModel};
-ghost use Rattle.smt_terms.specs.Sorts.{Symbol};
 ghost use Rattle.smt_terms.specs.Term.{Term};
 ghost use Rattle.smt_terms.specs.Val.{bits_bound};
 ghost use Rattle.term_groups.specs.Seen.{named_at};
-ghost use Rattle.term_table.specs.Formulas.{Formulas, symbol_at, tree, IsNode, IsSymbol, IsTable};
+ghost use Rattle.term_table.specs.Formulas.{Formulas, symbol_at, tree, IsSymbol, IsTable};
 ghost use Rattle.script_read.specs.Commands.{Command};
 ghost use Rattle.models.specs.ModelView.{model_at, IsModelOf};
 ghost use Rattle.evaluation.specs.Evaluated.{told_bits};
@@ -21,13 +21,18 @@ ghost use Rattle.passes.specs.declared.names.Pass.{Pass};
 ghost use Rattle.passes.specs.Carry.{Asked};
 ghost use Rattle.passes.specs.Carrying.{CarriesBack, CarriesForth};
 ghost use Rattle.passes.specs.Laws.{IsReady};
-ghost use Rattle.passes.specs.Lists.{can_run, groups_after_rules};
-ghost use Rattle.passes.specs.LiveGroups.{Met, nothing_met, with_drawn, met_before, met_in, met_at, before_check, global_behind, without_drawn};
-ghost use Rattle.passes.specs.LiveSymbols.{Given, live_of, given_by, asked_in, all_asked_in, with_live, with_defaults, with_each, widest_of, given_at, live_at, lives_at, dropped_at, valued_at, IsLiveOver, AreLiveOver, IsSearched, IsSearchOver, IsWidest, IsTooWide, IsValueFor, IsValuation, AreValues, IsBeyondAmong, is_settled, Gives, GivesAll};
-ghost use Rattle.passes.specs.Plans.{step_of, steps_of, told_in, IsPlanOf, IsPlanOver, IsStageOver, IsStepOver, IsPairOver};
+ghost use Rattle.passes.specs.Lists.{groups_after_rules};
+ghost use Rattle.passes.specs.LiveGroups.{Met, nothing_met, with_drawn, with_declared, met_before, met_in, met_at, before_check, global_behind, without_drawn, back_by, back_stages_by, forth_by, forth_stages_by};
+ghost use Rattle.passes.specs.LiveRows.{asked_at, all_asked_at, IsLiveStage, AreLiveStages, Returns, AreAppliedAt};
+ghost use Rattle.passes.specs.LiveSymbols.{Given, live_of, given_by, asked_in, all_asked_in, kept_over, with_defaults, with_each, widest_of, given_at, live_at, lives_at, dropped_at, valued_at, IsLiveOver, AreLiveOver, HasUseOf, AreLiveAt, IsSearched, IsSearchOver, IsWidest, IsTooWide, IsValueFor, IsValuation, AreValues, IsBeyondAmong, is_settled, Gives, Answers};
+ghost use Rattle.passes.specs.Plans.{step_of, steps_of, told_of, told_in, Uses, HasUse, HaveUses, IsPlanOf, IsPlanOver, IsStageOver, IsStepOver, IsPairOver};
 
-use crate::laws::{groups_carry_models, passes_keep_commands, steps_tell_models};
+use crate::laws::{
+    groups_carry_models, passes_keep_commands, removals_carry_models, removals_tell_models,
+    steps_tell_models,
+};
 use crate::plan::{Plan, Stage, Step};
+use crate::tables::{add_rows, rows_of, widest_operands};
 use evaluation::{ValueFault, bits_bound, value_of};
 use models::Model;
 use smt_terms::{NodeId, SymId};
@@ -80,18 +85,20 @@ pub fn back(
     requires plan { IsPlanOver table.now plan.now }
     requires numbers { IsModelOf table.now model }
     requires valid { IsModel (model_at table.now model) }
-    ensures { (ps : List Pass) (cs : List (Command Term)) (s : Supply) → IsPlanOf table.now plan.now ps cs s → IsReady cs s → IsTrue (list_all can_run ps) → groups_after_rules ps ≡ false
+    ensures { (ps : List Pass) (cs : List (Command Term)) (s : Supply) → IsPlanOf table.now plan.now ps cs s → IsReady cs s → groups_after_rules ps ≡ false
         → CarriesBack table.now ps cs s check (model_at table.now model) result }
 {
     passes_keep_commands();
     groups_carry_models();
     steps_tell_models();
-    know_table(table);
+    removals_carry_models();
+    removals_tell_models();
     find_check(plan, check)?;
-    let mut model = model;
-    for place in (0..plan.stages.len()).rev() {
-        forget_drawn(&plan.stages[place], &mut model);
-    }
+    let found = live_at_each(alloc, plan, check)?;
+    let stages = plan.stages.as_slice();
+    let lives = found.as_slice();
+    check_operand_widths(alloc, table, stages, lives)?;
+    let model = return_all(alloc, table, stages, lives, model)?;
     Ok(model)
 }
 
@@ -106,17 +113,20 @@ pub fn forth(
     requires plan { IsPlanOver table.now plan.now }
     requires numbers { IsModelOf table.now model }
     requires valid { IsModel (model_at table.now model) }
-    ensures { (ps : List Pass) (cs : List (Command Term)) (s : Supply) → IsPlanOf table.now plan.now ps cs s → IsReady cs s → IsTrue (list_all can_run ps) → groups_after_rules ps ≡ false
+    ensures { (ps : List Pass) (cs : List (Command Term)) (s : Supply) → IsPlanOf table.now plan.now ps cs s → IsReady cs s → groups_after_rules ps ≡ false
         → CarriesForth table.now ps cs s check (model_at table.now model) result }
 {
     passes_keep_commands();
     groups_carry_models();
     steps_tell_models();
+    removals_carry_models();
+    removals_tell_models();
     find_check(plan, check)?;
-    let stages = live_at_each(alloc, plan, check)?;
-    let lives = stages.as_slice();
+    let found = live_at_each(alloc, plan, check)?;
+    let stages = plan.stages.as_slice();
+    let lives = found.as_slice();
     check_widths(alloc, table, lives)?;
-    let model = give_all(alloc, table, lives, model)?;
+    let model = give_all(alloc, table, stages, lives, model)?;
     Ok(model)
 }
 
@@ -137,6 +147,56 @@ fn find_check(plan: &Plan, check: u64) -> Result<(), CarryFault>
 }
 
 // ---- back
+
+/// The model before the passes, from the last to the first.
+fn return_all(
+    alloc: Global,
+    table: &Table,
+    stages: &[Stage],
+    lives: &[Live],
+    model: Model,
+) -> Result<Model, CarryFault>
+    requires live { AreLiveStages table.now stages.now lives.now }
+    requires narrow { widest_of (all_asked_at table.now stages.now lives.now) ≡ None }
+    requires valid { IsModel (model_at table.now model) }
+    requires numbers { IsModelOf table.now model }
+    ensures { (k : ℕ) → AreLiveAt table.now k (map (told_of table.now) stages.now) lives.now → AreAppliedAt k (map (told_of table.now) stages.now)
+        → Answers table.now (back_stages_by k (map (told_of table.now) stages.now) (model_at table.now model)) (back_by k (map (told_of table.now) stages.now) (model_at table.now model)) result }
+{
+    let mut model = model;
+    for place in (0..stages.len()).rev() {
+        return_over(alloc, table, &stages[place], &lives[place], &mut model)?;
+    }
+    Ok(model)
+}
+
+/// The model before a pass.
+fn return_over(
+    alloc: Global,
+    table: &Table,
+    stage: &Stage,
+    live: &Live,
+    model: &mut Model,
+) -> Result<(), CarryFault>
+    requires live { IsLiveStage table.now stage.now live.now }
+    requires narrow { widest_of (asked_at table.now stage.now live.now) ≡ None }
+    requires valid { IsModel (model_at table.now model.old) }
+    requires numbers { IsModelOf table.now model.old }
+    ensures { MatchResult result (λ _. Returns table.now stage.now live.now model.old model.new) (IsBeyondAmong table.now (model_at table.now model.old) (asked_at table.now stage.now live.now)) }
+{
+    know_table(table);
+    let Some(uses) = &stage.uses else {
+        forget_drawn(stage, model);
+        return Ok(());
+    };
+    let given = live.given.as_slice();
+    let functions = live.functions.as_slice();
+    let rows = rows_of(alloc, table, uses, given, model)?;
+    forget_drawn(stage, model);
+    define_defaults(alloc, table, functions, model)?;
+    add_rows(table, rows, model)?;
+    Ok(())
+}
 
 /// Drops the values of all symbols that a pass drew.
 fn forget_drawn(stage: &Stage, model: &mut Model)
@@ -167,10 +227,10 @@ fn forget_symbols(symbols: &SymPairs, model: &mut Model)
 
 /// A new symbol of a live assertion, with the term that it stands for.
 #[derive(Clone, Copy)]
-struct LiveSymbol {
-    assertion: u64,
-    symbol: SymId,
-    term: NodeId,
+pub(crate) struct LiveSymbol {
+    pub(crate) assertion: u64,
+    pub(crate) symbol: SymId,
+    pub(crate) term: NodeId,
 }
 
 /// What a pass drew that is live at a check.
@@ -180,6 +240,8 @@ struct Live {
     given: Vec<LiveSymbol>,
     /// The other new symbols that are live.
     idle: Vec<SymId>,
+    /// The functions with arguments that are live.
+    functions: Vec<SymId>,
 }
 
 /// A search for what is live at a check, on the way from there back to the first command.
@@ -195,6 +257,8 @@ struct Search {
     given: Stack<LiveSymbol>,
     /// What was found so far of others.
     idle: Stack<SymId>,
+    /// The functions with arguments that were found so far.
+    functions: Stack<SymId>,
 }
 
 impl Search {
@@ -202,6 +266,7 @@ impl Search {
     fn new(alloc: Global) -> Search
         ensures searched { (t : Formulas) → IsSearched t result nothing_met }
         ensures over { (t : Formulas) → IsSearchOver t result }
+        ensures uses { (t : Formulas) (uses : Option Uses) → All (HasUseOf t uses) result.given }
         ensures closed { result.closed ≡ 0 }
     {
         Search {
@@ -210,6 +275,7 @@ impl Search {
             closed: 0,
             given: Stack::new(alloc),
             idle: Stack::new(alloc),
+            functions: Stack::new(alloc),
         }
     }
 
@@ -218,9 +284,14 @@ impl Search {
         requires { self.old.closed + 2 ^ 64 ≤ 2 ^ 128 }
         ensures searched { OnOk result ((t : Formulas) (g : Met) → IsSearched t self.old g → IsSearched t self.new (met_before is_global (step_of t step.now) g)) }
         ensures over { OnOk result ((t : Formulas) → IsStepOver t step.now → IsSearchOver t self.old → IsSearchOver t self.new) }
+        ensures uses { OnOk result ((t : Formulas) (uses : Option Uses) → HaveUses t uses step.now → All (HasUseOf t uses) self.old.given → All (HasUseOf t uses) self.new.given) }
         ensures closed { OnOk result (self.new.closed < self.old.closed + 2 ^ 64) }
     {
         match step {
+            Step::Declare(function) => {
+                self.meet_function(*function, is_global)?;
+                Ok(())
+            }
             Step::Group { number, symbols } => {
                 self.meet_group(*number, symbols, is_global)?;
                 Ok(())
@@ -247,6 +318,19 @@ impl Search {
         }
     }
 
+    /// Goes back over the declaration of a function with arguments.
+    fn meet_function(&mut self, function: SymId, is_global: bool) -> Result<(), AllocError>
+        ensures searched { OnOk result ((t : Formulas) (g : Met) → IsSearched t self.old g → IsSearched t self.new (with_declared is_global (symbol_at t function) g)) }
+        ensures over { OnOk result ((t : Formulas) → IsSymbol t function → IsSearchOver t self.old → IsSearchOver t self.new) }
+        ensures given { OnOk result (self.new.given ≡ self.old.given) }
+        ensures closed { OnOk result (self.new.closed ≡ self.old.closed) }
+    {
+        if !self.is_gone && (is_global || self.closed == 0) {
+            self.functions.push(function)?;
+        }
+        Ok(())
+    }
+
     /// Goes back over an assertion, for which these symbols were drawn.
     fn meet_group(
         &mut self,
@@ -256,6 +340,7 @@ impl Search {
     ) -> Result<(), AllocError>
         ensures searched { OnOk result ((t : Formulas) (g : Met) → IsSearched t self.old g → IsSearched t self.new (with_drawn is_global (record { number = assertion; symbols = named_at t symbols.now }) g)) }
         ensures over { OnOk result ((t : Formulas) → All (IsPairOver t) symbols.now → IsSearchOver t self.old → IsSearchOver t self.new) }
+        ensures uses { OnOk result ((t : Formulas) (uses : Option Uses) → All (HasUse t uses) symbols.now → All (HasUseOf t uses) self.old.given → All (HasUseOf t uses) self.new.given) }
         ensures closed { OnOk result (self.new.closed ≡ self.old.closed) }
     {
         if !self.is_anew && self.closed == 0 {
@@ -278,6 +363,7 @@ fn push_given(
 ) -> Result<(), AllocError>
     ensures given { OnOk result ((t : Formulas) → map (given_at t) given.new ≡ given_by assertion (named_at t symbols.now) ++ map (given_at t) given.old) }
     ensures over { OnOk result ((t : Formulas) → All (IsPairOver t) symbols.now → All (IsLiveOver t) given.old → All (IsLiveOver t) given.new) }
+    ensures uses { OnOk result ((t : Formulas) (uses : Option Uses) → All (HasUse t uses) symbols.now → All (HasUseOf t uses) given.old → All (HasUseOf t uses) given.new) }
 {
     for place in (0..symbols.len()).rev() {
         let (symbol, term) = symbols.get(place);
@@ -317,8 +403,8 @@ fn items_of<T: Drop>(alloc: Global, stack: Stack<T>) -> Result<Vec<T>, AllocErro
 /// What of a pass is live at a check for each pass that makes groups.
 fn live_at_each(alloc: Global, plan: &Plan, check: u64) -> Result<Vec<Live>, AllocError>
     requires { 1 ≤ check }
-    ensures live { IfOk result (λ v. (t : Formulas) → lives_at t v.items ≡ map (λ cs. live_of (met_at check cs)) (told_in t plan.now)) }
-    ensures over { IfOk result (λ v. (t : Formulas) → IsPlanOver t plan.now → All (AreLiveOver t) v.items) }
+    ensures live { IfOk result (λ v. (t : Formulas) → AreLiveAt t check (told_in t plan.now) v.items) }
+    ensures over { IfOk result (λ v. (t : Formulas) → IsPlanOver t plan.now → AreLiveStages t plan.now.stages.items v.items) }
 {
     let mut lives = Vec::new(alloc);
     for stage in &plan.stages {
@@ -333,6 +419,7 @@ fn live_at_check(alloc: Global, steps: &[Step], check: u64) -> Result<Live, Allo
     requires { 1 ≤ check }
     ensures live { IfOk result (λ r. (t : Formulas) → live_at t r ≡ live_of (met_at check (steps_of t steps.now))) }
     ensures over { IfOk result (λ r. (t : Formulas) → All (IsStepOver t) steps.now → AreLiveOver t r) }
+    ensures uses { IfOk result (λ r. (t : Formulas) (uses : Option Uses) → All (HaveUses t uses) steps.now → All (HasUseOf t uses) r.given.items) }
 {
     let before = before_check(steps, check);
     let live = live_behind(alloc, before, is_global_behind(before))?;
@@ -344,6 +431,7 @@ fn before_check(steps: &[Step], check: u64) -> &[Step]
     requires { 1 ≤ check }
     ensures steps { (t : Formulas) → steps_of t result.now ≡ before_check check (steps_of t steps.now) }
     ensures over { (t : Formulas) → All (IsStepOver t) steps.now → All (IsStepOver t) result.now }
+    ensures uses { (t : Formulas) (uses : Option Uses) → All (HaveUses t uses) steps.now → All (HaveUses t uses) result.now }
 {
     let mut left = check;
     for (place, step) in steps.iter().enumerate() {
@@ -384,6 +472,7 @@ fn is_global_after(step: &Step, before: bool) -> bool
 fn live_behind(alloc: Global, steps: &[Step], is_global: bool) -> Result<Live, AllocError>
     ensures live { IfOk result (λ r. (t : Formulas) → live_at t r ≡ live_of (met_in is_global (steps_of t steps.now))) }
     ensures over { IfOk result (λ r. (t : Formulas) → All (IsStepOver t) steps.now → AreLiveOver t r) }
+    ensures uses { IfOk result (λ r. (t : Formulas) (uses : Option Uses) → All (HaveUses t uses) steps.now → All (HasUseOf t uses) r.given.items) }
 {
     let mut search = Search::new(alloc);
     for place in (0..steps.len()).rev() {
@@ -391,29 +480,91 @@ fn live_behind(alloc: Global, steps: &[Step], is_global: bool) -> Result<Live, A
     }
     let given = items_of(alloc, search.given)?;
     let idle = items_of(alloc, search.idle)?;
-    Ok(Live { given, idle })
+    let functions = items_of(alloc, search.functions)?;
+    Ok(Live {
+        given,
+        idle,
+        functions,
+    })
 }
 
 // ---- terms that bind too many bits
 
 /// An assertion with a term that binds too many bits, and the greatest bound of its terms.
 #[derive(Clone, Copy)]
-struct Wide {
+pub(crate) struct Wide {
     assertion: u64,
     bits: u32,
 }
 
 /// Refuses the least assertion with a term that binds too many bits.
-fn check_widths(alloc: Global, table: &Table, stages: &[Live]) -> Result<(), CarryFault>
-    requires { All (AreLiveOver table.now) stages.now }
-    ensures { MatchResult result (λ _. widest_of (all_asked_in (lives_at table.now stages.now)) ≡ None) (IsTooWide (all_asked_in (lives_at table.now stages.now))) }
+fn check_widths(alloc: Global, table: &Table, lives: &[Live]) -> Result<(), CarryFault>
+    requires { All (AreLiveOver table.now) lives.now }
+    ensures { MatchResult result (λ _. widest_of (all_asked_in (lives_at table.now lives.now)) ≡ None) (IsTooWide (all_asked_in (lives_at table.now lives.now))) }
 {
     let mut kept = Kept::new(alloc);
     let mut widest = None;
-    for stage in stages {
-        let given = stage.given.as_slice();
+    for live in lives {
+        let given = live.given.as_slice();
         widest = widest_with(alloc, table, given, &mut kept, widest)?;
     }
+    within_width(widest)?;
+    Ok(())
+}
+
+/// Refuses the least assertion with a live application that has an operand which binds too many bits.
+fn check_operand_widths(
+    alloc: Global,
+    table: &Table,
+    stages: &[Stage],
+    lives: &[Live],
+) -> Result<(), CarryFault>
+    requires { AreLiveStages table.now stages.now lives.now }
+    ensures { MatchResult result (λ _. widest_of (all_asked_at table.now stages.now lives.now) ≡ None) (IsTooWide (all_asked_at table.now stages.now lives.now)) }
+{
+    let mut kept = Kept::new(alloc);
+    let mut widest = None;
+    for place in (0..stages.len()).rev() {
+        widest = widest_of_stage(
+            alloc,
+            table,
+            &stages[place],
+            &lives[place],
+            &mut kept,
+            widest,
+        )?;
+    }
+    within_width(widest)?;
+    Ok(())
+}
+
+/// The least assertion with a live application that has an operand which binds too many bits, among earlier ones and those of a
+/// stage.
+fn widest_of_stage(
+    alloc: Global,
+    table: &Table,
+    stage: &Stage,
+    live: &Live,
+    kept: &mut Kept<u32>,
+    earlier: Option<Wide>,
+) -> Result<Option<Wide>, AllocError>
+    requires live { IsLiveStage table.now stage.now live.now }
+    requires kept { KeepsBounds table.now kept.old }
+    ensures widest { IfOk result (λ w. (qs : List Asked) → IsWidest qs earlier → IsWidest (qs ++ asked_at table.now stage.now live.now) w) }
+    ensures kept { KeepsBounds table.now kept.new }
+{
+    let Some(uses) = &stage.uses else {
+        return Ok(earlier);
+    };
+    let given = live.given.as_slice();
+    let widest = widest_operands(alloc, table, uses, given, kept, earlier)?;
+    Ok(widest)
+}
+
+/// Refuses an assertion with a term that binds too many bits.
+fn within_width(widest: Option<Wide>) -> Result<(), CarryFault>
+    ensures { (qs : List Asked) → IsWidest qs widest → MatchResult result (λ _. widest_of qs ≡ None) (IsTooWide qs) }
+{
     match widest {
         None => Ok(()),
         Some(Wide { assertion, bits }) => Err(CarryFault::EvalWidth { assertion, bits }),
@@ -442,7 +593,7 @@ fn widest_with(
 }
 
 /// The least assertion so far with a term that binds too many bits, where this one has a term that binds so many.
-fn with_bits(widest: Option<Wide>, assertion: u64, bits: u32) -> Option<Wide>
+pub(crate) fn with_bits(widest: Option<Wide>, assertion: u64, bits: u32) -> Option<Wide>
     ensures { (qs : List Asked) (u : Term) → bits ≡ told_bits (bits_bound u) → IsWidest qs widest → IsWidest (qs ++ record { number = assertion; term = u } ∷ []) result }
 {
     let Some(wide) = widest else {
@@ -467,9 +618,9 @@ fn with_bits(widest: Option<Wide>, assertion: u64, bits: u32) -> Option<Wide>
 
 /// A subterm of a term of an assertion that is a whole number outside the range.
 #[derive(Clone, Copy)]
-struct Beyond {
-    assertion: u64,
-    node: NodeId,
+pub(crate) struct Beyond {
+    pub(crate) assertion: u64,
+    pub(crate) node: NodeId,
 }
 
 /// Symbols with the values of their terms, as far as these are within the range.
@@ -519,7 +670,7 @@ impl Valuation {
 }
 
 /// Whether a value beyond the range was found in this assertion or in one of a lesser number.
-fn is_settled(beyond: Option<Beyond>, assertion: u64) -> bool
+pub(crate) fn is_settled(beyond: Option<Beyond>, assertion: u64) -> bool
     ensures { result ≡ is_settled beyond assertion }
 {
     match beyond {
@@ -595,38 +746,63 @@ fn define_defaults(
     Ok(())
 }
 
-/// Gives the symbols of live assertions the values of their terms, and others that are live the defaults of their sorts.
-fn give(alloc: Global, table: &Table, live: &Live, model: &mut Model) -> Result<(), CarryFault>
+/// Gives the symbols of live assertions the values of their terms, and others that are live the defaults of their sorts. Where
+/// applications were removed, functions with arguments are left out.
+fn give(
+    alloc: Global,
+    table: &Table,
+    live: &Live,
+    is_removal: bool,
+    model: &mut Model,
+) -> Result<(), CarryFault>
     requires live { AreLiveOver table.now live.now }
     requires narrow { widest_of (asked_in (live_at table.now live.now).given) ≡ None }
     requires valid { IsModel (model_at table.now model.old) }
     requires numbers { IsModelOf table.now model.old }
-    ensures { MatchResult result (λ _. Gives table.now (live_at table.now live.now) model.old model.new) (IsBeyondAmong table.now (model_at table.now model.old) (asked_in (live_at table.now live.now).given)) }
+    ensures { MatchResult result (λ _. Gives table.now (live_at table.now live.now) is_removal model.old model.new) (IsBeyondAmong table.now (model_at table.now model.old) (asked_in (live_at table.now live.now).given)) }
 {
     let given = live.given.as_slice();
     let idle = live.idle.as_slice();
     let values = values_of(alloc, table, given, model)?;
+    leave_out(table, is_removal, model);
     define_defaults(alloc, table, idle, model)?;
     define_each(table, values, model)?;
     Ok(())
+}
+
+/// Leaves functions with arguments out where applications were removed.
+fn leave_out(table: &Table, is_removal: bool, model: &mut Model)
+    requires valid { IsModel (model_at table.now model.old) }
+    requires numbers { IsModelOf table.now model.old }
+    ensures model { model_at table.now model.new ≡ kept_over is_removal (model_at table.now model.old) }
+    ensures valid { IsModel (model_at table.now model.new) }
+    ensures numbers { IsModelOf table.now model.new }
+    ensures sizes { model.new.sizes ≡ model.old.sizes }
+{
+    if is_removal {
+        model.forget_functions(table);
+    }
 }
 
 /// The same for each pass, from the first to the last.
 fn give_all(
     alloc: Global,
     table: &Table,
-    stages: &[Live],
+    stages: &[Stage],
+    lives: &[Live],
     model: Model,
 ) -> Result<Model, CarryFault>
-    requires live { All (AreLiveOver table.now) stages.now }
-    requires narrow { widest_of (all_asked_in (lives_at table.now stages.now)) ≡ None }
+    requires live { AreLiveStages table.now stages.now lives.now }
+    requires narrow { widest_of (all_asked_in (lives_at table.now lives.now)) ≡ None }
     requires valid { IsModel (model_at table.now model) }
     requires numbers { IsModelOf table.now model }
-    ensures { GivesAll table.now (lives_at table.now stages.now) (model_at table.now model) result }
+    ensures { (k : ℕ) → AreLiveAt table.now k (map (told_of table.now) stages.now) lives.now
+        → Answers table.now (forth_stages_by k (map (told_of table.now) stages.now) (model_at table.now model)) (forth_by k (map (told_of table.now) stages.now) (model_at table.now model)) result }
 {
     let mut model = model;
-    for live in stages {
-        give(alloc, table, live, &mut model)?;
+    for place in 0..stages.len() {
+        let is_removal = stages[place].uses.is_some();
+        give(alloc, table, &lives[place], is_removal, &mut model)?;
     }
     Ok(model)
 }

@@ -1,7 +1,7 @@
 //! Passes that put a group in the place of each assertion, `ite` and `cnf`: the declarations of its new symbols, and then its
 //! assertions, with the number of the one that they replace. Other commands stay.
 
-ghost use Rattle.std.specs.Prelude.{◌≡◌, ◌++◌, ◌∷◌, [], option_to_list, IfOk, OnOk};
+ghost use Rattle.std.specs.Prelude.{◌≡◌, ◌++◌, ◌∷◌, [], option_to_list, None, IfOk, OnOk};
 ghost use Rattle.normal_forms.specs.Nodes.{IsFormula};
 ghost use Rattle.script_read.specs.CommandLists.{command_of, commands_of, IsCommandOf, AreCommandsOf};
 ghost use Rattle.term_groups.specs.Seen.{IsGroup};
@@ -10,7 +10,7 @@ ghost use Rattle.term_table.specs.Formulas.{tree};
 ghost use Rattle.term_walk.specs.Walking.{GrowsTo};
 ghost use Rattle.passes.specs.Behind.{IsRewritable, AreRewritable};
 ghost use Rattle.passes.specs.Groups.{groups_from, in_groups, node_commands};
-ghost use Rattle.passes.specs.Plans.{Tells};
+ghost use Rattle.passes.specs.Plans.{uses_of, Tells};
 
 use crate::plan::{Stage, Step};
 use cnf_polarity::cnf;
@@ -85,7 +85,7 @@ impl Grouper for Clauses {
 }
 
 /// Puts the commands of a group last: it declares its symbols and asserts its assertions, each with this number.
-fn spell(commands: &mut Commands, group: &Group, number: u64) -> Result<(), AllocError>
+pub(crate) fn spell(commands: &mut Commands, group: &Group, number: u64) -> Result<(), AllocError>
     ensures { OnOk result (commands.new ≡ commands.old ++ node_commands number group.now) }
 {
     for i in 0..group.symbols.len() {
@@ -126,7 +126,7 @@ fn regroup<G: Grouper>(
             Ok(Some(Step::Group { number, symbols }))
         }
         other => {
-            let step = Step::of(&other);
+            let step = Step::of(table, &other);
             commands.push(other)?;
             Ok(step)
         }
@@ -147,6 +147,7 @@ pub(crate) fn group_each<G: Grouper>(
     ensures commands { OnOk result (commands_of table.new script.new.commands ≡ (in_groups G.making (commands_of table.old script.old.commands) fresh.old).0) }
     ensures left { OnOk result (fresh.new ≡ (in_groups G.making (commands_of table.old script.old.commands) fresh.old).1) }
     ensures stage { IfOk result (λ stage. Tells table.new stage.steps.items (groups_from G.making (commands_of table.old script.old.commands) fresh.old).0) }
+    ensures uses { IfOk result (λ stage. uses_of stage ≡ None) }
     ensures later { IsLater fresh.old fresh.new }
     ensures drawn { NeverGivesGained fresh.new table.old.symbols table.new.symbols }
     ensures grows { GrowsTo table.old table.new }
@@ -160,5 +161,5 @@ pub(crate) fn group_each<G: Grouper>(
         }
     }
     script.commands = commands;
-    Ok(Stage { steps })
+    Ok(Stage { steps, uses: None })
 }

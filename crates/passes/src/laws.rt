@@ -9,11 +9,15 @@ ghost use Rattle.passes.specs.Laws.{
   PassesLeaveModels,
   PassesCarryModels,
   GroupsCarryModels,
+  RemovalsCarryModels,
   StepsTellModels,
   DrawnHaveSorts,
+  RemovalsTellModels,
+  LevelsAreOpen,
   SignaturesLedTo,
 };
 
+use ackermann::laws::removals_keep_models;
 use array_forms::laws::reads_keep_values;
 use cnf_polarity::laws::cnf_makes_groups;
 use ite_free::laws::ite_makes_groups;
@@ -99,6 +103,30 @@ pub(crate) fn drawn_symbols_have_sorts()
     cnf_makes_groups();
     constants_are_new();
 }
+
+/// Behind the removal of applications, where none stands below a quantifier, printable commands are printable again, with the
+/// same checks, and models are carried over it as over the other passes that make groups.
+pub fn removals_carry_models()
+    ensures { RemovalsCarryModels }
+{
+    removals_keep_models();
+    constants_are_new();
+}
+
+/// The commands that tell what is live behind the removal of applications, with the new constants and what took the places of
+/// operands, tell what models carried over it are, in either direction, and which terms must be evaluated for that. Each
+/// constant was drawn once and has the sort of its application, and the function of each live application is declared.
+pub fn removals_tell_models()
+    ensures { RemovalsTellModels }
+{
+    removals_keep_models();
+    constants_are_new();
+}
+
+/// Printable commands close no level that isn't open.
+pub(crate) fn levels_are_open()
+    ensures { LevelsAreOpen }
+{}
 
 /// What passes may make of commands where stored rules are among them declares at each point the sorts and symbols that the
 /// definition's commands declare there: stored rules change no declaration, and no pass behind them makes groups.

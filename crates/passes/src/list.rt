@@ -1,9 +1,8 @@
 //! Lists of passes as they are written: names joined by commas, at most 32 of them.
 
-ghost use Rattle.std.specs.Prelude.{◌≡◌, ◌<◌, ◌≤◌, [], ◌∷◌, ◌++◌, length, map, slice_get, MatchResult, true, false};
-ghost use Rattle.std.specs.List.{list_all};
+ghost use Rattle.std.specs.Prelude.{◌≡◌, ◌<◌, ◌≤◌, [], ◌∷◌, ◌++◌, length, map, slice_get, MatchResult, false};
 ghost use Rattle.passes.specs.declared.names.Pass.{Pass as APass};
-ghost use Rattle.passes.specs.Lists.{can_run, groups_after_rules, in_order, makes_groups, pass_among, pass_list, pass_named};
+ghost use Rattle.passes.specs.Lists.{groups_after_rules, in_order, makes_groups, pass_among, pass_list, pass_named};
 
 use crate::names::{ListFault, Pass};
 use arrayvec::ArrayVec;
@@ -34,16 +33,15 @@ pub struct Passes {
 }
 
 impl Model for Passes {
-    ghost use Rattle.std.specs.Prelude.{◌≡◌, List, true, false};
-    ghost use Rattle.std.specs.List.{list_all};
+    ghost use Rattle.std.specs.Prelude.{◌≡◌, List, false};
     ghost use Rattle.passes.specs.declared.names.Pass.{Pass as APass};
-    ghost use Rattle.passes.specs.Lists.{can_run, groups_after_rules};
+    ghost use Rattle.passes.specs.Lists.{groups_after_rules};
 
     ghost Value = { List APass };
 
     ghost view = { λ s. s.passes.items };
 
-    ghost invariant = { λ s. (list_all can_run s.passes.items ≡ true) × (groups_after_rules s.passes.items ≡ false) };
+    ghost invariant = { λ s. groups_after_rules s.passes.items ≡ false };
 }
 
 impl Passes {
@@ -56,11 +54,10 @@ impl Passes {
         }
     }
 
-    /// How many passes there are. Each of them can be run, and none that makes groups stands behind `rules`.
+    /// How many passes there are. None that makes groups stands behind `rules`.
     pub fn len(&self) -> usize
         ensures number { result ≡ length self.now }
         ensures bound { result ≤ 32 }
-        ensures run { list_all can_run self.now ≡ true }
         ensures order { groups_after_rules self.now ≡ false }
     {
         self.passes.len()
@@ -96,7 +93,6 @@ fn push(passes: &mut ArrayVec<Pass, MOST>, pass: Pass) -> Result<(), ListFault>
 
 /// The list of these passes, unless one that makes groups stands behind `rules`.
 fn in_order(passes: ArrayVec<Pass, MOST>) -> Result<Passes, ListFault>
-    requires { list_all can_run passes.items ≡ true }
     ensures { result ≡ in_order passes.items }
 {
     if groups_after_rules(passes.as_slice()) {
@@ -134,35 +130,14 @@ fn named(name: &str) -> Option<Pass>
     named_among(&NAMES, name)
 }
 
-/// The pass of this name, where it can be run so far.
+/// The pass of this name.
 fn listed(name: &str) -> Result<Pass, ListFault>
-    ensures { MatchResult result
-        (λ p. (pass_named name.now ≡ Some p) × (can_run p ≡ true))
-        (λ e. (e ≡ ListFault.BadPass)
-        × ((p : APass) → pass_named name.now ≡ Some p → can_run p ≡ false)) }
+    ensures { MatchResult result (λ p. pass_named name.now ≡ Some p) (λ e. (e ≡ ListFault.BadPass) × (pass_named name.now ≡ None)) }
 {
     match named(name) {
-        Some(pass) if can_be_run(pass) => Ok(pass),
-        _ => Err(ListFault::BadPass),
+        Some(pass) => Ok(pass),
+        None => Err(ListFault::BadPass),
     }
-}
-
-fn can_be_run(pass: Pass) -> bool
-    ensures { result ≡ can_run pass }
-{
-    matches!(
-        pass,
-        Pass::Simplify
-            | Pass::Nnf
-            | Pass::Aig
-            | Pass::Prenex
-            | Pass::Reads
-            | Pass::Shannon
-            | Pass::SelfSub
-            | Pass::Rules
-            | Pass::Ite
-            | Pass::Cnf
-    )
 }
 
 /// Whether the pass puts groups in the place of assertions, with new symbols.
@@ -173,8 +148,7 @@ fn makes_groups(pass: Pass) -> bool
 }
 
 /// Reads a list of passes: their names, with a comma between each two. `BadPass` comes for a name that isn't that of a
-/// pass which can be run so far, and for more than 32 names; else `AfterRules` for a pass that makes groups behind `rules`. It
-/// takes no memory.
+/// pass, and for more than 32 names; else `AfterRules` for a pass that makes groups behind `rules`. It takes no memory.
 pub fn parse_list(text: &str) -> Result<Passes, ListFault>
     ensures { result ≡ pass_list text.now }
 {

@@ -33,8 +33,8 @@ pub enum Pass {
 /// What is wrong with a list of passes.
 #[derive(Clone, Copy, Debug, PartialEq, Eq, Error)]
 pub enum ListFault {
-    /// A name isn't that of a pass that can be run, or there are more than 32 names.
-    #[error("a name isn't that of a pass that can be run, or there are more than 32 names")]
+    /// A name isn't that of a pass, or there are more than 32 names.
+    #[error("a name isn't that of a pass, or there are more than 32 names")]
     BadPass,
     /// `ite`, `cnf` or `ackermann` stands behind `rules`.
     #[error("ite, cnf or ackermann stands behind rules")]

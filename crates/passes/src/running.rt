@@ -1,26 +1,29 @@
 //! Lists of passes applied to scripts: behind a pass, an assertion or a group stands in the place of each assertion, with its
 //! number, and other commands stay.
 
-ghost use Rattle.std.specs.Prelude.{◌≡◌, ◌<◌, ◌∷◌, [], true, length, slice_get, option_map, option_to_list, All, OnOk, IfOk};
+ghost use Rattle.std.specs.Prelude.{◌≡◌, ◌<◌, ◌∷◌, ℕ, [], true, length, slice_get, option_map, option_to_list, Some, None, All, OnOk, IfOk, IfSome, MatchResult};
 ghost use Rattle.script_read.specs.CommandLists.{commands_of, AreCommandsOf};
 ghost use Rattle.term_subst.specs.Substituting.{IsLater, NeverGivesGained};
 ghost use Rattle.term_walk.specs.Walking.{GrowsTo};
-ghost use Rattle.passes.specs.Lists.{can_run};
 ghost use Rattle.passes.specs.Led.{LeadsTo};
 ghost use Rattle.passes.specs.Laws.{keeps_values, IsReady, IsCarried, AreCarried};
-ghost use Rattle.passes.specs.Plans.{HasStages, IsPlanOf, IsPlanOver, IsStageOver};
+ghost use Rattle.passes.specs.Plans.{uses_of, HasStages, IsPlanOf, IsPlanOver, IsStageOver};
+ghost use Rattle.passes.specs.Removing.{AreKept};
 ghost use Rattle.passes.specs.Ruling.{RewritesCommands};
 ghost use Rattle.passes.specs.Behind.{simplified_form, nnf_form, aig_form, reads_form, in_form, AreRewritable};
 ghost use Rattle.passes.specs.Assertion.{assertion_of};
+ghost use Rattle.passes.specs.Passed.{refused_assertion, refused_by};
+ghost use Rattle.passes.specs.declared.running.PassFault.TheVariants.{QuantifiedUse};
 
 use crate::grouping::{Clauses, IteRemoval, group_each};
 use crate::laws::{
     drawn_symbols_have_sorts, equivalents_have_one_model, groups_carry_models,
-    passes_keep_commands, passes_leave_models, rules_keep_commands,
+    passes_keep_commands, passes_leave_models, removals_carry_models, rules_keep_commands,
 };
 use crate::list::Passes;
 use crate::names::Pass;
 use crate::plan::{Plan, Stage};
+use crate::removing::remove_each;
 use crate::rewriters::{
     Expansion, Inversion, Negation, Prefix, Reading, Rewriter, SelfSubstitution, Simplification,
 };
@@ -32,25 +35,39 @@ use std::alloc::{AllocError, AllocFailed, Global};
 use std::marker::Brand;
 use std::sync::ledger::{Blank, Ledger};
 use term_subst::Fresh;
-use term_table::Table;
+use term_table::{Table, know_table};
 use term_walk::{Kept, Steps};
 use thiserror::Error;
 
 /// Why passes make no script of a script.
 #[derive(Clone, Copy, Debug, PartialEq, Eq, Error)]
 pub enum PassFault {
+    /// In this assertion an application stands below a quantifier, where applications are to be removed. It is the least
+    /// number of such an assertion at the first pass that meets one.
+    #[error("an application below a quantifier in assertion {assertion}")]
+    QuantifiedUse { assertion: u64 },
     /// There is no memory.
     #[error("want of memory")]
     Memory,
 }
 
 impl From<AllocError> for PassFault {
+    ghost use Rattle.std.specs.Prelude.{◌≡◌};
+    ghost use Rattle.passes.specs.declared.running.PassFault.TheVariants.{Memory};
+
+    ghost from_gives = { λ _ made. made ≡ Memory };
+
     fn from(_error: AllocError) -> PassFault {
         PassFault::Memory
     }
 }
 
 impl<T: Drop> From<AllocFailed<T>> for PassFault {
+    ghost use Rattle.std.specs.Prelude.{◌≡◌};
+    ghost use Rattle.passes.specs.declared.running.PassFault.TheVariants.{Memory};
+
+    ghost from_gives = { λ _ made. made ≡ Memory };
+
     fn from(_error: AllocFailed<T>) -> PassFault {
         PassFault::Memory
     }
@@ -75,6 +92,9 @@ pub fn run_passes(
     ensures numbers { IfOk result (λ r. AreCommandsOf table.new r.0.commands) }
     ensures leads { IfOk result (λ r. LeadsTo passes.now (commands_of table.old script.commands) fresh.old (⟦<RuleBook as Named>⟧.names book.now) (commands_of table.new r.0.commands) fresh.new) }
     ensures carried { IfOk result (λ r. AreCarried passes.now (commands_of table.old script.commands) (commands_of table.new r.0.commands) fresh.old fresh.new) }
+    ensures refused { MatchResult result
+        (λ _. refused_assertion passes.now (commands_of table.old script.commands) fresh.old ≡ None)
+        (λ e. (a : ℕ) → e ≡ QuantifiedUse a → refused_assertion passes.now (commands_of table.old script.commands) fresh.old ≡ Some a) }
     ensures plan { IfOk result (λ r. IsPlanOf table.new r.1 passes.now (commands_of table.old script.commands) fresh.old) }
     ensures over { IfOk result (λ r. IsPlanOver table.new r.1) }
     ensures later { IsLater fresh.old fresh.new }
@@ -84,8 +104,11 @@ pub fn run_passes(
     let mut script = script;
     let checks = checks(&script);
     let mut stages = Vec::new(alloc);
+    know_table(table);
     for i in 0..passes.len() {
-        if let Some(stage) = run_pass(alloc, table, &mut script, passes.pass(i), book, fresh)? {
+        let stage = run_pass(alloc, table, &mut script, passes.pass(i), book, fresh)?;
+        know_table(table);
+        if let Some(stage) = stage {
             stages.push(stage)?;
         }
     }
@@ -100,20 +123,24 @@ fn run_pass(
     pass: Pass,
     book: &RuleBook,
     fresh: &mut Fresh,
-) -> Result<Option<Stage>, AllocError>
-    requires pass { can_run pass ≡ true }
+) -> Result<Option<Stage>, PassFault>
     requires numbers { AreCommandsOf table.old script.old.commands }
     requires ready { IsReady (commands_of table.old script.old.commands) fresh.old }
     ensures numbers { OnOk result (AreCommandsOf table.new script.new.commands) }
     ensures leads { OnOk result (LeadsTo (pass ∷ []) (commands_of table.old script.old.commands) fresh.old (⟦<RuleBook as Named>⟧.names book.now) (commands_of table.new script.new.commands) fresh.new) }
     ensures carried { OnOk result (IsCarried pass (commands_of table.old script.old.commands) (commands_of table.new script.new.commands) fresh.old fresh.new) }
+    ensures refused { MatchResult result
+        (λ _. refused_by pass (commands_of table.old script.old.commands) ≡ None)
+        (λ e. (a : ℕ) → e ≡ QuantifiedUse a → refused_by pass (commands_of table.old script.old.commands) ≡ Some a) }
     ensures stage { IfOk result (λ o. HasStages table.new (option_to_list o) (pass ∷ []) (commands_of table.old script.old.commands) fresh.old) }
     ensures over { IfOk result (λ o. All (IsStageOver table.new) (option_to_list o)) }
+    ensures kept { IfOk result (λ o. All (λ st. IfSome (uses_of st) (AreKept table.new)) (option_to_list o)) }
     ensures later { IsLater fresh.old fresh.new }
     ensures drawn { NeverGivesGained fresh.new table.old.symbols table.new.symbols }
     ensures grows { GrowsTo table.old table.new }
 {
     groups_carry_models();
+    removals_carry_models();
     drawn_symbols_have_sorts();
     match pass {
         Pass::Ite => {
@@ -122,6 +149,10 @@ fn run_pass(
         }
         Pass::Cnf => {
             let stage = group_each(alloc, table, script, &mut Clauses { alloc }, fresh)?;
+            Ok(Some(stage))
+        }
+        Pass::Ackermann => {
+            let stage = remove_each(alloc, table, script, fresh)?;
             Ok(Some(stage))
         }
         _ => {

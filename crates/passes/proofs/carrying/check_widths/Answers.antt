@@ -10,26 +10,26 @@ use Rattle.passes.proofs.carrying.check_widths.Goals as goal
 
 pub widest_with-requires-clause-given : goal.widest_with-requires-clause-given
 widest_with-requires-clause-given c =
-    let stages = c.args.stages.now in
-    let i = c.loop-stage.stage-index in
-    let stage = c.stage-item.result in
-    let at = slice_get_read stages (length stages) i stage refl c.loop-stage-test.true c.stage-item.is in
+    let stages = c.args.lives.now in
+    let i = c.loop-live.live-index in
+    let stage = c.live-item.result in
+    let at = slice_get_read stages (length stages) i stage refl c.loop-live-test.true c.live-item.is in
     subst (λ (ls : List LiveSymbol). All (IsLiveOver c.args.table.now) ls) (sym c.as_slice-given.ensures.value) (all_at (AreLiveOver c.args.table.now) stages i stage at c.requires).given
 
 pub returns-in_err-widest : goal.returns-in_err-widest
 returns-in_err-widest c = let p = err_from_is_err_and c.from_residual.result c.from_residual.ensures.1 in rw (p.1, p.2) tt
 
-pub loop-stage-preserved : goal.loop-stage-preserved
-loop-stage-preserved c =
+pub loop-live-preserved : goal.loop-live-preserved
+loop-live-preserved c =
     let t = c.args.table.now in
-    let stages = c.args.stages.now in
-    let i = c.loop-stage.stage-index in
-    let stage = c.stage-item.result in
-    let at = slice_get_read stages (length stages) i stage refl c.loop-stage-test.true c.stage-item.is in
+    let stages = c.args.lives.now in
+    let i = c.loop-live.live-index in
+    let stage = c.live-item.result in
+    let at = slice_get_read stages (length stages) i stage refl c.loop-live-test.true c.live-item.is in
     record {
       kept = c.in_ok-widest.ensures.kept;
       widest =
           subst (λ (rs : List Asked). IsWidest rs c.in_ok-widest.widest) (sym (stage-more t stages i stage at))
           (subst (λ (ls : List LiveSymbol). IsWidest (all_asked_in (lives_at t (take i stages)) ++ asked_in (map (given_at t) ls)) c.in_ok-widest.widest) c.as_slice-given.ensures.value
-          (c.in_ok-widest.ensures.widest (all_asked_in (lives_at t (take i stages))) c.loop-stage.invariant.widest));
+          (c.in_ok-widest.ensures.widest (all_asked_in (lives_at t (take i stages))) c.loop-live.invariant.widest));
     }

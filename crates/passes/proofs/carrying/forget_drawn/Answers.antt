@@ -23,13 +23,13 @@ loop-step-preserved c =
       | in-Group w ↦ record {
         model = λ t table over.
             ap (λ (x : ModelLists). model_at t x) w.model-is
-            ∙ w.forget_symbols.ensures.model t table (subst (IsStepOver t) w.in-Group.is (all_at (IsStepOver t) steps i step at over))
+            ∙ w.forget_symbols.ensures.model t table (subst (IsStepOver t) w.in-Group.is (all_at (IsStepOver t) steps i step at over.steps))
             ∙ ap (dropped_at t _) (was.model t table over)
             ∙ sym (group_alone t (without_drawn (take i (steps_of t steps)) (model_at t c.args.model.now)) step _ _ w.in-Group.is)
             ∙ without-more (steps_of t steps) i (step_of t step) (map_at (step_of t) steps i step at) (model_at t c.args.model.now);
         valid = λ t table over v.
             subst (λ (x : ModelLists). IsModel (model_at t x)) (sym w.model-is)
-            (w.forget_symbols.ensures.valid t table (subst (IsStepOver t) w.in-Group.is (all_at (IsStepOver t) steps i step at over)) (was.valid t table over v));
+            (w.forget_symbols.ensures.valid t table (subst (IsStepOver t) w.in-Group.is (all_at (IsStepOver t) steps i step at over.steps)) (was.valid t table over v));
         numbers = λ t n. subst (λ (x : ModelLists). IsModelOf t x) (sym w.model-is) (w.forget_symbols.ensures.numbers t (was.numbers t n));
       }
       | in_default w ↦ record {

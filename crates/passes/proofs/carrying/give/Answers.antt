@@ -20,10 +20,11 @@ returns c =
     let defaults = c.in_ok-define_defaults.ensures in
     let each = c.in_ok-define_each.ensures in
     let are = subst (λ (ls : List LiveSymbol). AreValues t c.args.model.now (map (given_at t) ls) c.in_ok-values.values.items) c.as_slice-given.ensures.value c.in_ok-values.ensures in
-    let idle = defaults.model ∙ ap (λ (fs : List SymId). with_defaults (map (symbol_at t) fs) (model_at t c.args.model.now)) c.as_slice-idle.ensures.value in
+    let left = c.leave_out.ensures in
+    let idle = defaults.model ∙ ap (λ (fs : List SymId). with_defaults (map (symbol_at t) fs) (model_at t c.leave_out.new.model)) c.as_slice-idle.ensures.value in
     record {
       within = are.within;
-      model = live_given t (live_at t c.args.live.now) c.args.model.now c.define_defaults.new.model c.define_each.new.model c.in_ok-values.values.items are idle each.model;
-      numbers = each.numbers (defaults.numbers c.requires.numbers);
+      model = live_given t (live_at t c.args.live.now) c.args.is_removal c.args.model.now c.leave_out.new.model c.define_defaults.new.model c.define_each.new.model c.in_ok-values.values.items are left.model idle each.model;
+      numbers = each.numbers (defaults.numbers left.numbers);
       valid = each.valid defaults.valid;
     }

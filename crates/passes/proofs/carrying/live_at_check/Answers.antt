@@ -12,3 +12,6 @@ returns-clause-live c = λ t.
 
 pub returns-clause-over : goal.returns-clause-over
 returns-clause-over c = λ t all. c.in_ok-live.ensures.over t (c.before_check-before.ensures.over t all)
+
+pub returns-clause-uses : goal.returns-clause-uses
+returns-clause-uses c = λ t uses all. c.in_ok-live.ensures.uses t uses (c.before_check-before.ensures.uses t uses all)

@@ -6,8 +6,8 @@ use Rattle.term_table.specs.Formulas.{IsSymbol}
 use Rattle.script_read.specs.Commands.{Command}
 use Rattle.passes.specs.LiveGroups.{Drawn, met_in}
 use Rattle.passes.specs.declared.carrying.LiveSymbol.{LiveSymbol}
-use Rattle.passes.specs.LiveSymbols.{IsLiveOver, IsSearched}
-use Rattle.passes.specs.Plans.{step_of, steps_of, IsStepOver}
+use Rattle.passes.specs.LiveSymbols.{IsLiveOver, HasUseOf, IsSearched}
+use Rattle.passes.specs.Plans.{HaveUses, step_of, steps_of, IsStepOver}
 use Rattle.passes.proofs.ListPlaces.{all_at, map_at, drop-front}
 use Rattle.passes.proofs.carrying.live_behind.Goals as goal
 
@@ -29,6 +29,7 @@ loop-place-preserved c =
           (sym (drop-front (steps_of t steps) place (step_of t step) c.loop-place-test.true (omega (arith, long)) (map_at (step_of t) steps (place - 1) step at)))
           (c.in_ok-meet.ensures.searched t (met_in c.args.is_global (drop place (steps_of t steps))) (was.searched t));
       over = λ t all. c.in_ok-meet.ensures.over t (all_at (IsStepOver t) steps (place - 1) step at all) (was.over t all);
+      uses = λ t uses all. c.in_ok-meet.ensures.uses t uses (all_at (HaveUses t uses) steps (place - 1) step at all) (was.uses t uses all);
       closed = omega arith;
     }
 
@@ -42,6 +43,7 @@ loop-place-init c =
           let long = length-map steps (step_of t) in
           subst (IsSearched t c.new-search.result) (sym (at_drop_all (met_in c.args.is_global) (steps_of t steps) (length steps) (omega (arith, long)))) (c.new-search.ensures.searched t);
       over = λ t all. c.new-search.ensures.over t;
+      uses = λ t uses all. c.new-search.ensures.uses t uses;
       closed = omega (arith, none);
     }
 
@@ -51,4 +53,8 @@ returns-clause-over c = λ t all.
     record {
       given = subst (λ (ls : List LiveSymbol). All (IsLiveOver t) ls) (sym c.in_ok-given.ensures) over.given;
       idle = subst (λ (fs : List SymId). All (IsSymbol t) fs) (sym c.in_ok-idle.ensures) over.idle;
+      functions = subst (λ (fs : List SymId). All (IsSymbol t) fs) (sym c.in_ok-functions.ensures) over.functions;
     }
+
+pub returns-clause-uses : goal.returns-clause-uses
+returns-clause-uses c = λ t uses all. subst (λ (ls : List LiveSymbol). All (HasUseOf t uses) ls) (sym c.in_ok-given.ensures) (c.loop-place.invariant.uses t uses all)

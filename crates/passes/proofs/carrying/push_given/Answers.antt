@@ -2,8 +2,8 @@ use Rattle.std.proofs.Common.{◌∙◌, ◌∷◌, ◌++◌, ap, sym, subst, ma
 use Rattle.std.proofs.lemmas.List.Elements.{All-cons}
 use Rattle.term_groups.specs.Seen.{named_at}
 use Rattle.passes.specs.declared.carrying.LiveSymbol.{LiveSymbol}
-use Rattle.passes.specs.LiveSymbols.{given_by, given_at, IsLiveOver}
-use Rattle.passes.specs.Plans.{IsPairOver}
+use Rattle.passes.specs.LiveSymbols.{given_by, given_at, IsLiveOver, HasUseOf}
+use Rattle.passes.specs.Plans.{HasUse, IsPairOver}
 use Rattle.passes.proofs.ListPlaces.{all_at, drop-front}
 use Rattle.passes.proofs.carrying.push_given.Goals as goal
 
@@ -26,4 +26,7 @@ loop-place-preserved c =
       over = λ t pairs before.
           subst (λ (ls : List LiveSymbol). All (IsLiveOver t) ls) (sym pushed)
           (All-cons (IsLiveOver t) one c.loop-place.given (all_at (IsPairOver t) ps (place - 1) p c.get.ensures pairs) (was.over t pairs before));
+      uses = λ t uses pairs before.
+          subst (λ (ls : List LiveSymbol). All (HasUseOf t uses) ls) (sym pushed)
+          (All-cons (HasUseOf t uses) one c.loop-place.given (all_at (HasUse t uses) ps (place - 1) p c.get.ensures pairs) (was.uses t uses pairs before));
     }

@@ -25,7 +25,7 @@ loop-name-preserved c =
     let known = c.in_ok-listed.ensures in
     let pushed = c.in_ok-push.ensures in
     let room : length c.loop-name.yielded < 32 = omega (arith, c.loop-name.invariant.count, pushed.0) in
-    let t = one_taken (between_commas c.args.text.now) (length c.loop-name.yielded) c.loop-name.passes.items c.in-Some.name.now turn.0 turn.1 c.loop-name.invariant c.in_ok-listed.field-0 known.0 known.1 room in
+    let t = one_taken (between_commas c.args.text.now) (length c.loop-name.yielded) c.loop-name.passes.items c.in-Some.name.now turn.0 turn.1 c.loop-name.invariant c.in_ok-listed.field-0 known room in
     rw (length_push c.loop-name.yielded c.in-Some.name, pushed.1) t
 
 pub returns-in_err-push : goal.returns-in_err-push
