@@ -20,10 +20,9 @@ use Rattle.model_texts.specs.ModelText.{model_of}
 use Rattle.model_texts.specs.Proper.{IsProper}
 use Rattle.model_texts.specs.Refusals.{Unmodelled}
 use Rattle.passes.specs.declared.names.Pass.{Pass}
-use Rattle.passes.specs.Carry.{Stage, forth_stages, beyond}
+use Rattle.passes.specs.Carry.{Stage, back_stages, forth_stages, beyond}
 use Rattle.passes.specs.Laws.{IsReady}
-use Rattle.passes.specs.Lists.{can_run}
-use Rattle.passes.specs.Passed.{passed}
+use Rattle.passes.specs.Passed.{passed, refused_assertion}
 use Rattle.smtrw_answers.specs.Carrying.{translated, extended, signature_before, signature_behind, carried_text}
 use Rattle.smtrw_answers.specs.Endings.{or_later, longest_text, refusal_of, too_long, script_end, check_end, passes_end, stages_end, model_end, text_end}
 use Rattle.smtrw_answers.specs.Laws.{TranslatedTextsReadBack, ExtendedTextsReadBack}
@@ -57,6 +56,25 @@ within_stages stages h = nothing_mapped _ (beyond stages) (none_met _ _ h).1
 
 read_text : (g : List ℕ) (o : Option Status) → text_end g o ≡ None → o ≡ None
 read_text g o h = nothing_first (nat_lt longest_text (length g)) (ModelRefused 2 0 longest_text) o h
+
+-- of the script, of the passes and of what is evaluated
+record EndedWell (b : List ℕ) (ps : List Pass) (stages : List Stage) : Type 0 where
+  whole : fault b ≡ None
+  taken : refused_assertion ps (commands b) (names_left b) ≡ None
+  within : beyond stages ≡ None
+
+ended_well : (b : List ℕ) (ps : List Pass) (k : ℕ) (g : List ℕ) (m : Model) (stages : Model → List Stage) (o : Result Model Unmodelled)
+    → or_later (script_end b) (or_later (check_end b k) (or_later (passes_end b ps) (text_end g (model_end stages o)))) ≡ None → o ≡ Ok m → EndedWell b ps (stages m)
+ended_well b ps k g m stages o ends read =
+    let first = none_met (script_end b) _ ends in
+    let second = none_met (check_end b k) _ first.1 in
+    let third = none_met (passes_end b ps) _ second.1 in
+    let fourth = read_text g (model_end stages o) third.1 in
+    record {
+      whole = accepted b first.0;
+      taken = nothing_mapped _ (refused_assertion ps (commands b) (names_left b)) third.0;
+      within = within_stages (stages m) (sym (ap (model_end stages) read) ∙ fourth);
+    }
 
 -- ---- the commands of an accepted text
 
@@ -110,7 +128,7 @@ module _ (laws : TextLaws) where
     printed_back is =
         laws.back (signature cs k) m (record { over = is.over; signature = writable; graphs = is.readable.graphs; div_by_zero = is.readable.div_by_zero; mod_by_zero = is.readable.mod_by_zero })
 
-  module _ (b : List ℕ) (ps : List Pass) (run : list_all can_run ps ≡ true) (whole : fault b ≡ None) where
+  module _ (b : List ℕ) (ps : List Pass) (taken : refused_assertion ps (commands b) (names_left b) ≡ None) (whole : fault b ≡ None) where
     abbrev found : List (Command Term) × Supply
     found = read_or_none (script b)
 
@@ -124,19 +142,19 @@ module _ (laws : TextLaws) where
     left = (passed ps (commands b) (names_left b)).1
 
     ready_rewritten : IsReady (rewritten_commands b ps) (passed ps (commands b) (names_left b)).1
-    ready_rewritten = ready_passed laws.carrying ps (commands b) (names_left b) run ready
+    ready_rewritten = ready_passed laws.carrying ps (commands b) (names_left b) taken ready
 
-    translation_back : (k : ℕ) (g : List ℕ) (m : Model) → model_of g (signature_behind b ps k) ≡ Ok m
+    translation_back : (k : ℕ) (g : List ℕ) (m : Model) → beyond (back_stages ps (commands b) (names_left b) k m) ≡ None → model_of g (signature_behind b ps k) ≡ Ok m
         → model_of (model_lines (translated b ps k m) (signature_before b k)) (signature_before b k) ≡ Ok (translated b ps k m)
-    translation_back k g m h =
+    translation_back k g m within h =
         let is = read_carriable (rewritten_commands b ps) left ready_rewritten k m g h in
-        printed_back (commands b) (names_left b) ready k (translated b ps k m) (carried_back laws.carrying ps (commands b) (names_left b) run ready k m is)
+        printed_back (commands b) (names_left b) ready k (translated b ps k m) (carried_back laws.carrying ps (commands b) (names_left b) taken ready k m within is)
 
     extension_back : (k : ℕ) (g : List ℕ) (m : Model) → beyond (forth_stages ps (commands b) (names_left b) k m) ≡ None → model_of g (signature_before b k) ≡ Ok m
         → model_of (model_lines (extended b ps k m) (signature_behind b ps k)) (signature_behind b ps k) ≡ Ok (extended b ps k m)
     extension_back k g m within h =
         let is = read_carriable (commands b) (names_left b) ready k m g h in
-        printed_back (rewritten_commands b ps) left ready_rewritten k (extended b ps k m) (carried_forth laws.carrying ps (commands b) (names_left b) run ready k m within is)
+        printed_back (rewritten_commands b ps) left ready_rewritten k (extended b ps k m) (carried_forth laws.carrying ps (commands b) (names_left b) taken ready k m within is)
 
   -- ---- texts
 
@@ -144,18 +162,13 @@ module _ (laws : TextLaws) where
   printed_as m carry sig o out read h = same_text (model_lines (carry m) sig) out (sym (ap (carried_text carry sig) read) ∙ h)
 
   pub translated_back : TranslatedTextsReadBack
-  translated_back b ps k g out m run ends read h =
-      let whole = accepted b (none_met (script_end b) _ ends).0 in
+  translated_back b ps k g out m ends read h =
+      let ended = ended_well b ps k g m (back_stages ps (commands b) (names_left b) k) (model_of g (signature_behind b ps k)) ends read in
       ap (λ w. model_of w (signature_before b k)) (sym (printed_as m (translated b ps k) (signature_before b k) (model_of g (signature_behind b ps k)) out read h))
-      ∙ translation_back b ps run whole k g m read
+      ∙ translation_back b ps ended.taken ended.whole k g m ended.within read
 
   pub extended_back : ExtendedTextsReadBack
-  extended_back b ps k g out m run ends read h =
-      let stages = forth_stages ps (commands b) (names_left b) k in
-      let first = none_met (script_end b) _ ends in
-      let second = none_met (check_end b k) _ first.1 in
-      let third = none_met (passes_end b ps) _ second.1 in
-      let fourth = read_text g (model_end stages (model_of g (signature_before b k))) third.1 in
-      let within = within_stages (stages m) (sym (ap (model_end stages) read) ∙ fourth) in
+  extended_back b ps k g out m ends read h =
+      let ended = ended_well b ps k g m (forth_stages ps (commands b) (names_left b) k) (model_of g (signature_before b k)) ends read in
       ap (λ w. model_of w (signature_behind b ps k)) (sym (printed_as m (extended b ps k) (signature_behind b ps k) (model_of g (signature_before b k)) out read h))
-      ∙ extension_back b ps run (accepted b first.0) k g m within read
+      ∙ extension_back b ps ended.taken ended.whole k g m ended.within read

@@ -9,7 +9,7 @@ use Rattle.clap.specs.declared.builder.command.Command.TheViews.{out-Command}
 use Rattle.clap.specs.declared.parser.matches.ArgMatches.{ArgMatches}
 use Rattle.clap.specs.declared.parser.matches.Found.{Found}
 use Rattle.clap.proofs.WalkLemmas.{first_value-rows}
-use Rattle.passes.specs.Lists.{can_run}
+use Rattle.passes.specs.Lists.{any_pass}
 use Rattle.smtrw_answers.specs.declared.status.Usage.{Usage}
 use Rattle.smtrw_answers.specs.Words.{Word, Numbered, Command, rewriting, translating, extending, counting, demonstrating, Setting, Given, nothing_given, words_from, Asked, rewrite, translate, extend, stats, demo, asked_with, asked_or_missing, at_end, asked_of, asked, command_if, command_named, stands}
 use Rattle.smtrw_answers.specs.Asking.{IsRewriting, IsCarrying, IsCounting, GivesRewriting, GivesCarrying, GivesCounting}
@@ -61,10 +61,10 @@ at_end_by : (c : Command) (i : ℕ) (g : Given) (s : Option Setting) (a : Asked)
 at_end_by c i g None a e = asked_with_by c i g g.plain a e
 at_end_by c i g (Some s) a e = absurd cc
 
-asked_of_by : (o : Option Command) (ws : List Word) (a : Asked) → asked_of can_run o ws ≡ Ok a → (c : Command) × (o ≡ Some c) × IsAskedBy c a
+asked_of_by : (o : Option Command) (ws : List Word) (a : Asked) → asked_of any_pass o ws ≡ Ok a → (c : Command) × (o ≡ Some c) × IsAskedBy c a
 asked_of_by None ws a e = absurd cc
 asked_of_by (Some c) ws a e =
-    let all = and_then_ok (λ g. at_end c (suc (suc (length ws))) g g.awaited) (words_from can_run c 2 ws nothing_given) a e in
+    let all = and_then_ok (λ g. at_end c (suc (suc (length ws))) g g.awaited) (words_from any_pass c 2 ws nothing_given) a e in
     (c, refl, at_end_by c (suc (suc (length ws))) all.0 all.0.awaited a all.2)
 
 -- ---- the values
@@ -83,8 +83,8 @@ module _ (app : App) (ids : List Text) (words : List Word) (g : Given) (simple :
   taken_as Gives a e gives = record { takes = is.takes; gives = λ m has. subst (λ r. Gives r (found_of m)) (sym e) (gives (found_of m) (same_values m has)) }
 
 -- what is asked for by words is asked for by their command
-by_command : (c d : Command) (w : Word) (ws : List Word) (a : Asked) → command_if stands (command_named w) ≡ Some d → d ≡ c → asked (w ∷ ws) ≡ Ok a → asked_of can_run (Some c) ws ≡ Ok a
-by_command c d w ws a named same e = ap (λ x. asked_of can_run (Some x) ws) (sym same) ∙ ap (λ o. asked_of can_run o ws) (sym named) ∙ e
+by_command : (c d : Command) (w : Word) (ws : List Word) (a : Asked) → command_if stands (command_named w) ≡ Some d → d ≡ c → asked (w ∷ ws) ≡ Ok a → asked_of any_pass (Some c) ws ≡ Ok a
+by_command c d w ws a named same e = ap (λ x. asked_of any_pass (Some x) ws) (sym same) ∙ ap (λ o. asked_of any_pass o ws) (sym named) ∙ e
 
 pub rewriting_taken : (words : List Word) → IsRewriting (asked words) → IsTaken rewrite_app GivesRewriting words
 rewriting_taken [] is = absurd is

@@ -8,7 +8,7 @@ use Rattle.clap.specs.declared.parser.matches.Found.{Found}
 use Rattle.smt_print.specs.declared.layout.Layout.{Layout}
 use Rattle.smt_print.specs.declared.layout.Layout.TheVariants.{Tree}
 use Rattle.passes.specs.declared.names.Pass.{Pass}
-use Rattle.passes.specs.Lists.{can_run}
+use Rattle.passes.specs.Lists.{any_pass}
 use Rattle.smtrw_answers.specs.Words.{Word, Numbered, Command, rewriting, translating, extending, counting, needed, Setting, settings_of, Given, nothing_given, file_word, of_kind, passes_of, layout_of, check_of, words_from, Asked, rewrite, translate, extend, stats, asked_with, asked_or_missing, at_end, asked_of}
 use Rattle.smtrw_answers.specs.Asking.{passes_in, layout_in, check_in, CarryingIn, GivesRewriting, GivesCounting}
 use Rattle.smtrw_answers.proofs.ClapRows.{first_of-none}
@@ -27,11 +27,11 @@ nothing_awaited c i g a None idles e = (idles, e)
 nothing_awaited c i g a (Some s) awaits e = absurd cc
 
 pub all_matched : (c : Command) (app : App) (ids : List Text) → Taking (settings_of c) (needed c) app ids → ((i : ℕ) (w : Word) (g : Given) → of_kind c i w g ≡ file_word i w g)
-    → (name : Word) (ws : List Word) (a : Asked) → asked_of can_run (Some c) ws ≡ Ok a
+    → (name : Word) (ws : List Word) (a : Asked) → asked_of any_pass (Some c) ws ≡ Ok a
     → (g : Given) × Matched app ids g (name ∷ ws) × (asked_or_missing (suc (suc (length ws))) (asked_with c g g.plain) ≡ Ok a)
 all_matched c app ids t files name ws a e =
     let rules = (built app).top.rules in
-    let all = and_then_ok (λ g. at_end c (suc (suc (length ws))) g g.awaited) (words_from can_run c 2 ws nothing_given) a e in
+    let all = and_then_ok (λ g. at_end c (suc (suc (length ws))) g g.awaited) (words_from any_pass c 2 ws nothing_given) a e in
     let g = all.0 in
     let end = nothing_awaited c (suc (suc (length ws))) g a g.awaited refl all.2 in
     let along = along_all c app ids t files 2 ws nothing_given g (walk_at [] None idle 1) (nothing_along c app ids t files) all.1 in

@@ -10,7 +10,7 @@ use Rattle.smt_print.specs.declared.layout.Layout.{Layout}
 use Rattle.passes.specs.declared.names.Pass.{Pass}
 use Rattle.passes.specs.declared.names.ListFault.{ListFault}
 use Rattle.passes.specs.declared.names.ListFault.TheVariants.{BadPass as UnknownPass, AfterRules as GroupsAfterRules}
-use Rattle.passes.specs.Lists.{pass_list, can_run}
+use Rattle.passes.specs.Lists.{pass_list, any_pass}
 use Rattle.smtrw_answers.specs.declared.status.Usage.{Usage}
 use Rattle.smtrw_answers.specs.declared.status.Why.TheVariants.{BadValue}
 use Rattle.smtrw_answers.specs.Words.{Word, Numbered, Command, needed, Setting, of_passes, of_layout, of_check, settings_of, setting_among, is_dashed, Given, nothing_given, is_given, is_from, number_in, layout_named, with_passes, with_layout, with_check, with_value, value_word, with_setting, option_word, with_plain, file_word, of_kind, plain_word, word_behind, words_from, and_then}
@@ -157,7 +157,7 @@ module _ (ids : List Text) (i : ℕ) (v : Text) (g h : Given) (rows : List Row) 
         plain = refl;
       })
 
-  value_comes : (s : Setting) → list_any (bytes_eq (id_of s)) ids ≡ false → is_given s g ≡ false → with_value can_run i s v g ≡ Ok h → Comes ids s v g h rows
+  value_comes : (s : Setting) → list_any (bytes_eq (id_of s)) ids ≡ false → is_given s g ≡ false → with_value any_pass i s v g ≡ Ok h → Comes ids s v g h rows
   value_comes of_passes apart new e = passes_come apart new e
   value_comes of_layout apart new e = layout_comes apart new e
   value_comes of_check apart new e = check_comes apart new e
@@ -209,10 +209,10 @@ module _ (c : Command) (app : App) (ids : List Text) (t : Taking (settings_of c)
   stands_idle : (h : Given) (rows : List Row) (p : Pending) → h.awaited ≡ None → Stands shape ids None h rows p → Stands shape ids h.awaited h rows p
   stands_idle h rows p idles stands = subst (λ s. Stands shape ids s h rows p) (sym idles) stands
 
-  value_next : (i : ℕ) (w : Word) (g h : Given) (rows : List Row) (s : Setting) → TakesOption shape s → Holds ids g rows → is_given s g ≡ false → value_word can_run i s w g ≡ Ok h
+  value_next : (i : ℕ) (w : Word) (g h : Given) (rows : List Row) (s : Setting) → TakesOption shape s → Holds ids g rows → is_given s g ≡ false → value_word any_pass i s w g ≡ Ok h
       → Follows h (walk_at rows (Some (id_of s, [])) (option (id_of s)) (suc (length g.plain))) w
   value_next i w g h rows s takes holds new e =
-      let taken = else_taken (is_dashed w) _ (with_value can_run i s w g) h e in
+      let taken = else_taken (is_dashed w) _ (with_value any_pass i s w g) h e in
       let come = value_comes ids i w g h rows holds s (t.apart s) new taken.1 in
       let plain = plain_word_is w taken.0 in
       record {
@@ -245,7 +245,7 @@ module _ (c : Command) (app : App) (ids : List Text) (t : Taking (settings_of c)
         same_given of_layout e = e
         same_given of_check e = e
 
-    attached_next : (s : Setting) (v : Word) → TakesOption shape s → is_given s g ≡ false → with_value can_run i s v g ≡ Ok h → Follows h here (with_value_in s v)
+    attached_next : (s : Setting) (v : Word) → TakesOption shape s → is_given s g ≡ false → with_value any_pass i s v g ≡ Ok h → Follows h here (with_value_in s v)
     attached_next s v takes new e =
         let before : List Row = settled_rows shape.rules p rows in
         let come = value_comes ids i v g h before stands.0 s (t.apart s) new e in
@@ -260,18 +260,18 @@ module _ (c : Command) (app : App) (ids : List Text) (t : Taking (settings_of c)
           turn = takes.attached_turn rows p (suc (length g.plain)) v stands.1 come.no_row;
         }
 
-    option_met_next : (o : Setting × Option Word) → IsOptionWord o w → TakesOption shape o.0 → is_given o.0 g ≡ false → with_setting can_run i o.0 o.1 g ≡ Ok h → Follows h here w
+    option_met_next : (o : Setting × Option Word) → IsOptionWord o w → TakesOption shape o.0 → is_given o.0 g ≡ false → with_setting any_pass i o.0 o.1 g ≡ Ok h → Follows h here w
     option_met_next (s, None) is takes new e = subst (Follows h here) (sym is) (begun_next s takes new (ok_same _ _ e))
     option_met_next (s, Some v) is takes new e = subst (Follows h here) (sym is) (attached_next s v takes new e)
 
-    option_next : option_word can_run i (setting_among (settings_of c) w) g ≡ Ok h → Follows h here w
+    option_next : option_word any_pass i (setting_among (settings_of c) w) g ≡ Ok h → Follows h here w
     option_next e = go (setting_among (settings_of c) w) refl e
       where
-        go : (o : Option (Setting × Option Word)) → setting_among (settings_of c) w ≡ o → option_word can_run i o g ≡ Ok h → Follows h here w
+        go : (o : Option (Setting × Option Word)) → setting_among (settings_of c) w ≡ o → option_word any_pass i o g ≡ Ok h → Follows h here w
         go None among is = absurd cc
         go (Some o) among is =
             let met = t.options w o among in
-            let taken = else_taken (is_given o.0 g) _ (with_setting can_run i o.0 o.1 g) h is in
+            let taken = else_taken (is_given o.0 g) _ (with_setting any_pass i o.0 o.1 g) h is in
             option_met_next o met.0 met.1 taken.0 taken.1
 
   -- ---- files
@@ -321,24 +321,24 @@ module _ (c : Command) (app : App) (ids : List Text) (t : Taking (settings_of c)
   -- ---- word by word
 
   next_at : (i : ℕ) (w : Word) (g h : Given) (rows : List Row) (p : Pending) (s : Option Setting) → g.awaited ≡ s → Stands shape ids s g rows p
-      → word_behind can_run c i w g s ≡ Ok h → Follows h (walk_at rows p (waiting_of s) (suc (length g.plain))) w
+      → word_behind any_pass c i w g s ≡ Ok h → Follows h (walk_at rows p (waiting_of s) (suc (length g.plain))) w
   next_at i w g h rows p None idles stands e = go (is_dashed w) refl e
     where
-      go : (b : Bool) → is_dashed w ≡ b → cond b (option_word can_run i (setting_among (settings_of c) w) g) (plain_word c i w g) ≡ Ok h
+      go : (b : Bool) → is_dashed w ≡ b → cond b (option_word any_pass i (setting_among (settings_of c) w) g) (plain_word c i w g) ≡ Ok h
           → Follows h (walk_at rows p idle (suc (length g.plain))) w
       go true dashed is = option_next i w g h rows p stands is
       go false plain is = file_next i w g h rows p stands idles plain is
   next_at i w g h rows p (Some s) awaits stands e =
       subst (λ q. Follows h (walk_at rows q (option (id_of s)) (suc (length g.plain))) w) (sym stands.0) (value_next i w g h rows s stands.3 stands.1 stands.2 e)
 
-  next_along : (i : ℕ) (w : Word) (g h : Given) (walk : Walk) → Along shape ids g walk → word_behind can_run c i w g g.awaited ≡ Ok h → Follows h walk w
+  next_along : (i : ℕ) (w : Word) (g h : Given) (walk : Walk) → Along shape ids g walk → word_behind any_pass c i w g g.awaited ≡ Ok h → Follows h walk w
   next_along i w g h walk a e = subst (λ x. Follows h x w) (sym a.stand) (next_at i w g h a.rows a.pending g.awaited refl a.holds e)
 
-  pub along_all : (i : ℕ) (ws : List Word) (g h : Given) (walk : Walk) → Along shape ids g walk → words_from can_run c i ws g ≡ Ok h → AlongAll shape ids h walk ws
+  pub along_all : (i : ℕ) (ws : List Word) (g h : Given) (walk : Walk) → Along shape ids g walk → words_from any_pass c i ws g ≡ Ok h → AlongAll shape ids h walk ws
   unfolding walk_passes
   along_all i [] g h walk a e = record { along = subst (λ x. Along shape ids x walk) (ok_same g h e) a; passes = refl }
   along_all i (w ∷ ws) g h walk a e =
-      let step = and_then_ok (words_from can_run c (suc i) ws) (word_behind can_run c i w g g.awaited) h e in
+      let step = and_then_ok (words_from any_pass c (suc i) ws) (word_behind any_pass c i w g g.awaited) h e in
       let next = next_along i w g step.0 walk a step.1 in
       let rest = along_all (suc i) ws step.0 h (walked shape.rules [] walk w) next.along step.2 in
       record { along = rest.along; passes = ap (λ b. b && walk_passes shape [] (walked shape.rules [] walk w) ws) next.turn ∙ rest.passes }

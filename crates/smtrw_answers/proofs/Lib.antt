@@ -1,6 +1,8 @@
 mod OneText
 mod Promise
 mod ReadableValues
+mod ReadableTables
+mod EvaluatedTerms
 mod ReadableTexts
 mod ReadModels
 mod CarriedModels

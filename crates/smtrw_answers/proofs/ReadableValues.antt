@@ -8,7 +8,7 @@ use Rattle.smt_terms.specs.Models.{Row, Graph, Model, row_value, graph_or_defaul
 use Rattle.smt_terms.specs.Operators.{Background, first_value, later_values, second_value, third_value, first_sort, index_sort, op_value}
 use Rattle.smt_terms.specs.Rank.{sorts_of}
 use Rattle.smt_terms.specs.Sorts.{Sort, bool, int, bit_vector, array, free_sort, Symbol}
-use Rattle.smt_terms.specs.Term.{Head, op, symbol, const_array, Term, apply, quantified, Terms, none, ◌⨾◌}
+use Rattle.smt_terms.specs.Term.{Head, op, symbol, const_array, Term, apply, quantified, Terms, none, ◌⨾◌, constant}
 use Rattle.smt_terms.specs.Val.{no_variables, head_value, val, vals, value_in_range, fits, fit}
 use Rattle.smt_terms.specs.Values.{Value, truth, whole, bits, element, table, Pairs, no_pairs, pair, Sizes, is_true, default_of, pairs_of, value_at, put, same, all_same, select, store, default_value}
 use Rattle.smt_terms.proofs.Tests.{both_true, and_true, either_way}
@@ -166,6 +166,10 @@ module _ (m : Model) (is : IsReadableModel m) where
   head_readable (symbol f) ss (v ∷ vs) all range = graph_readable f m.sizes (m.graphs f) (v ∷ vs) (is.graphs f)
   head_readable (const_array s) ss vs all range = and_true (is_readable (first_value vs)) true (first_readable vs all) refl
 
+  -- a constant without arguments
+  pub constant_readable : (f : Symbol) → is_readable (val m (constant f) no_variables) ≡ true
+  constant_readable f = graph_readable f m.sizes (m.graphs f) [] (is.graphs f)
+
   mutual
     pub val_readable : (t : Term) → fits m t no_variables ≡ true → is_readable (val m t no_variables) ≡ true
     val_readable (apply h ts) fit_all =
@@ -173,7 +177,7 @@ module _ (m : Model) (is : IsReadableModel m) where
         head_readable h (unwrap_or (sorts_of ts) []) (vals m ts no_variables) (vals_readable ts a.0) a.1
     val_readable (quantified q xs t) fit_all = refl
 
-    vals_readable : (ts : Terms) → fit m ts no_variables ≡ true → list_all is_readable (vals m ts no_variables) ≡ true
+    pub vals_readable : (ts : Terms) → fit m ts no_variables ≡ true → list_all is_readable (vals m ts no_variables) ≡ true
     vals_readable none fit_all = refl
     vals_readable (t ⨾ ts) fit_all =
         let a = both_true (fits m t no_variables) (fit m ts no_variables) fit_all in

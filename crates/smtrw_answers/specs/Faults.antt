@@ -1,4 +1,4 @@
--- The statuses that faults of a script's or a model's text lead to, and those of carrying a model.
+-- The statuses that faults of a script's or a model's text lead to, those of passes and of carrying a model.
 use Rattle.smt_lex.specs.declared.faults.LexFault.{LexFault}
 use Rattle.smt_lex.specs.declared.faults.LexFault.TheVariants.{BadByte, BadToken, OpenText, Unbalanced, Memory}
 use Rattle.script_terms.specs.declared.faults.ScriptFault.{ScriptFault}
@@ -7,6 +7,8 @@ use Rattle.model_texts.specs.declared.faults.ModelFault.{ModelFault}
 use Rattle.model_texts.specs.declared.faults.ModelFault.TheVariants.{ModelForm, ModelSort, NotATable, ModelNumber, ModelTwice, Memory as NoMemoryForModel}
 use Rattle.passes.specs.declared.carrying.CarryFault.{CarryFault}
 use Rattle.passes.specs.declared.carrying.CarryFault.TheVariants.{NoSuchCheck as CheckMissing, EvalWidth, Beyond128 as ValueBeyond, Memory as NoMemoryForCarrying}
+use Rattle.passes.specs.declared.running.PassFault.{PassFault}
+use Rattle.passes.specs.declared.running.PassFault.TheVariants.{QuantifiedUse, Memory as NoMemoryForPassing}
 use Rattle.smtrw_answers.specs.declared.status.Why.TheVariants.{NoSuchCheck}
 use Rattle.smtrw_answers.specs.declared.status.Status.{Status}
 use Rattle.smtrw_answers.specs.declared.status.Status.TheVariants.{Refused, Usage, OutOfMemory, ModelRefused, Beyond128, PassRefused}
@@ -38,6 +40,12 @@ status_of_model (NotATable line byte) = ModelRefused 62 line byte
 status_of_model (ModelNumber line byte) = ModelRefused 63 line byte
 status_of_model (ModelTwice line byte) = ModelRefused 64 line byte
 status_of_model NoMemoryForModel = OutOfMemory
+
+-- ---- of passes
+
+abbrev pub status_of_passing : PassFault → Status
+status_of_passing (QuantifiedUse assertion) = PassRefused 50 assertion
+status_of_passing NoMemoryForPassing = OutOfMemory
 
 -- ---- of carrying
 

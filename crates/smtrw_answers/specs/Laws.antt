@@ -1,7 +1,7 @@
 -- The statements of the laws of what is written: that rewriting keeps its promise, where one text alone may be written, and
 -- that carried models read back.
 use Rattle.std.specs.Prelude.{◌≡◌, ℕ, Bool, true, false, List, None, Ok, IsTrue}
-use Rattle.std.specs.List.{list_all, list_any}
+use Rattle.std.specs.List.{list_any}
 use Rattle.smt_terms.specs.Fresh.{Supply}
 use Rattle.smt_terms.specs.Models.{Model}
 use Rattle.smt_terms.specs.Sorts.{Name}
@@ -15,7 +15,6 @@ use Rattle.passes.specs.declared.names.Pass.{Pass}
 use Rattle.smt_print.specs.Text.{lines}
 use Rattle.passes.specs.declared.names.Pass.TheVariants.{Rules}
 use Rattle.passes.specs.Laws.{IsReady, AreEquivalent, CarriesModels}
-use Rattle.passes.specs.Lists.{can_run}
 use Rattle.smtrw_answers.specs.Carrying.{translated, extended, signature_before, signature_behind, translated_text, extended_text}
 use Rattle.smtrw_answers.specs.Endings.{translate_end, extend_end}
 use Rattle.smtrw_answers.specs.Headline.{IsRewriting, are_equivalences}
@@ -42,10 +41,10 @@ EightWriteOneText = (b v w : List ℕ) (ps : List Pass) (rules : List Name) (lay
 
 -- where `translate` ends well, what it writes reads back as the model that was carried, over what is declared in the script
 abbrev pub TranslatedTextsReadBack : Type 0
-TranslatedTextsReadBack = (b : List ℕ) (ps : List Pass) (k : ℕ) (g out : List ℕ) (m : Model) → IsTrue (list_all can_run ps) → translate_end b ps k g ≡ None → model_of g (signature_behind b ps k) ≡ Ok m → translated_text b ps k g ≡ Ok out
+TranslatedTextsReadBack = (b : List ℕ) (ps : List Pass) (k : ℕ) (g out : List ℕ) (m : Model) → translate_end b ps k g ≡ None → model_of g (signature_behind b ps k) ≡ Ok m → translated_text b ps k g ≡ Ok out
     → model_of out (signature_before b k) ≡ Ok (translated b ps k m)
 
 -- and where `extend` does, over what is declared in the rewritten script
 abbrev pub ExtendedTextsReadBack : Type 0
-ExtendedTextsReadBack = (b : List ℕ) (ps : List Pass) (k : ℕ) (g out : List ℕ) (m : Model) → IsTrue (list_all can_run ps) → extend_end b ps k g ≡ None → model_of g (signature_before b k) ≡ Ok m → extended_text b ps k g ≡ Ok out
+ExtendedTextsReadBack = (b : List ℕ) (ps : List Pass) (k : ℕ) (g out : List ℕ) (m : Model) → extend_end b ps k g ≡ None → model_of g (signature_before b k) ≡ Ok m → extended_text b ps k g ≡ Ok out
     → model_of out (signature_behind b ps k) ≡ Ok (extended b ps k m)

@@ -9,7 +9,7 @@ use Rattle.smt_print.specs.declared.layout.Layout.TheVariants.{Tree, Dag}
 use Rattle.passes.specs.declared.names.Pass.{Pass}
 use Rattle.passes.specs.declared.names.ListFault.{ListFault}
 use Rattle.passes.specs.declared.names.ListFault.TheVariants.{BadPass as UnknownPass, AfterRules as GroupsAfterRules}
-use Rattle.passes.specs.Lists.{pass_list_of, can_run}
+use Rattle.passes.specs.Lists.{pass_list_of, any_pass}
 use Rattle.smtrw_answers.specs.declared.status.Usage.{Usage}
 use Rattle.smtrw_answers.specs.declared.status.Why.{Why}
 use Rattle.smtrw_answers.specs.declared.status.Why.TheVariants.{Missing, UnknownCommand, BadOption, Repeated, BadValue, BadPass, AfterRules, Extra, TwoInputs}
@@ -271,4 +271,4 @@ asked_by has runs (w ∷ ws) = asked_of runs (command_if has (command_named w)) 
 
 -- what the words ask for, or their first fault
 abbrev pub asked : List Word → Result Asked Usage
-asked words = asked_by stands can_run words
+asked words = asked_by stands any_pass words

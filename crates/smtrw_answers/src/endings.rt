@@ -1,7 +1,7 @@
 //! The statuses that end a run before anything is written, by what was met on the way.
 
 ghost use Rattle.std.specs.Prelude.{◌≡◌};
-ghost use Rattle.smtrw_answers.specs.Faults.{status_of_carrying, status_of_lexing, status_of_model, status_of_model_lexing, status_of_reading};
+ghost use Rattle.smtrw_answers.specs.Faults.{status_of_carrying, status_of_lexing, status_of_model, status_of_model_lexing, status_of_passing, status_of_reading};
 ghost use Rattle.smtrw_answers.specs.declared.status.Status.TheVariants.{OutOfMemory};
 
 use crate::status::{Status, Usage, Why};
@@ -56,10 +56,14 @@ impl From<ScriptFault> for Status {
 }
 
 impl From<PassFault> for Status {
-    ghost from_gives = { λ _ status. status ≡ OutOfMemory };
+    ghost from_gives = { λ fault status. status ≡ status_of_passing fault };
 
     fn from(fault: PassFault) -> Status {
         match fault {
+            PassFault::QuantifiedUse { assertion } => Status::PassRefused {
+                code: 50,
+                assertion,
+            },
             PassFault::Memory => Status::OutOfMemory,
         }
     }

@@ -1,7 +1,7 @@
 //! The grammar of the program's words: their first fault, met from the left, or what they name.
 
 ghost use Rattle.std.specs.Prelude.{◌≡◌, List, [], ◌∷◌, false, None, codes, map, nat_le, option_map, string_bytes};
-ghost use Rattle.passes.specs.Lists.{can_run};
+ghost use Rattle.passes.specs.Lists.{any_pass};
 ghost use Rattle.smtrw_answers.specs.Words.{asked, at_end as end_of, command_if, command_named, is_dashed, layout_named, needed, number_in, of_check, of_layout, of_passes, option_word, plain_word, setting_among, settings_of, stands, value_word, with_value, word_behind, Given as WordsGiven, Numbered};
 ghost use Rattle.smtrw_answers.specs.Asking.{Agrees, EndFits, HasFiles, StepFits, TakesFile, check_named, command_of, has_setting, option_seen, setting_of};
 
@@ -152,7 +152,7 @@ fn command_of_word(word: &str) -> Option<Name>
 /// What is seen behind one more word.
 fn word_met(command: Name, seen: Seen, number: u32, word: &str) -> Result<Seen, Usage>
     ensures { (g : WordsGiven) → Agrees seen g
-        → StepFits seen result (word_behind can_run (command_of command) number word.now g g.awaited) }
+        → StepFits seen result (word_behind any_pass (command_of command) number word.now g g.awaited) }
 {
     match seen.awaited {
         Some(setting) => value_met(setting, seen, number, word),
@@ -171,7 +171,7 @@ fn is_option(word: &str) -> bool
 /// The value of an option, in a word of its own.
 fn value_met(setting: Setting, seen: Seen, number: u32, word: &str) -> Result<Seen, Usage>
     ensures { (g : WordsGiven) → Agrees seen g → has_setting setting seen ≡ false
-        → StepFits seen result (value_word can_run number (setting_of setting) word.now g) }
+        → StepFits seen result (value_word any_pass number (setting_of setting) word.now g) }
 {
     if is_option(word) {
         return Err(fault(number, Why::BadValue));
@@ -182,7 +182,7 @@ fn value_met(setting: Setting, seen: Seen, number: u32, word: &str) -> Result<Se
 /// The value of an option.
 fn value_given(setting: Setting, seen: Seen, number: u32, value: &str) -> Result<Seen, Usage>
     ensures { (g : WordsGiven) → Agrees seen g → has_setting setting seen ≡ false
-        → StepFits seen result (with_value can_run number (setting_of setting) value.now g) }
+        → StepFits seen result (with_value any_pass number (setting_of setting) value.now g) }
 {
     match setting {
         Setting::Passes => match parse_list(value) {
@@ -249,7 +249,7 @@ fn number_of_word(word: &str) -> Option<u64>
 /// A word that begins with `-`, where no value is awaited.
 fn option_met(command: Name, seen: Seen, number: u32, word: &str) -> Result<Seen, Usage>
     ensures { (g : WordsGiven) → Agrees seen g → g.awaited ≡ None
-        → StepFits seen result (option_word can_run number (setting_among (settings_of (command_of command)) word.now) g) }
+        → StepFits seen result (option_word any_pass number (setting_among (settings_of (command_of command)) word.now) g) }
 {
     match option_in(command, word) {
         None => Err(fault(number, Why::BadOption)),

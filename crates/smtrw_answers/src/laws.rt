@@ -11,7 +11,9 @@ ghost use Rattle.smtrw_answers.specs.Laws.{
 use model_texts::laws::{
     printable_signatures_are_proper, printable_signatures_are_writable, printed_models_read_back,
 };
-use passes::{groups_carry_models, passes_keep_commands, passes_leave_models};
+use passes::{
+    groups_carry_models, passes_keep_commands, passes_leave_models, removals_carry_models,
+};
 use script_read::{
     names_left_are_new, reading_answers, reading_gives_a_printable_script, reading_keeps_meaning,
     terms_and_forms_agree,
@@ -52,6 +54,7 @@ pub fn carried_texts_read_back()
     passes_keep_commands();
     passes_leave_models();
     groups_carry_models();
+    removals_carry_models();
     printable_signatures_are_proper();
     printable_signatures_are_writable();
     printed_models_read_back();

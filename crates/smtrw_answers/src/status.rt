@@ -19,7 +19,7 @@ pub enum Why {
     Repeated,
     /// The word is no value of its option, no number that the command takes, or empty.
     BadValue,
-    /// A name in the list isn't that of a pass that can be run, or there are more than 32 names.
+    /// A name in the list isn't that of a pass, or there are more than 32 names.
     BadPass,
     /// `ite`, `cnf` or `ackermann` stands behind `rules` in the list.
     AfterRules,

@@ -50,7 +50,7 @@ const FAULTS: [(&str, u32, Why); 27] = [
     ("translate - -", 3, Why::TwoInputs),
     ("extend - a -", 4, Why::Extra),
     ("extend --passes foo a b", 3, Why::BadPass),
-    ("translate --passes=rules,ite a b", 2, Why::AfterRules),
+    ("translate --passes=rules,ackermann a b", 2, Why::AfterRules),
 ];
 
 #[test]
@@ -99,7 +99,7 @@ const REWRITES: [(&str, usize, Layout, u32, &str); 4] = [
         "a.smt2",
     ),
     (
-        "rewrite --passes prenex --layout=tree -",
+        "rewrite --passes ackermann --layout=tree -",
         1,
         Layout::Tree,
         5,

@@ -2,7 +2,7 @@
 use Prim.Native.String.{String}
 use Rattle.std.specs.Prelude.{◌≡◌, ℕ, List, [], ◌∷◌, map, true, codes, Result, Ok, Err, refl}
 use Rattle.smt_print.specs.declared.layout.Layout.TheVariants.{Tree, Dag}
-use Rattle.passes.specs.declared.names.Pass.TheVariants.{Nnf, Aig, Prenex, Reads, Shannon, SelfSub, Simplify, Rules, Ite, Cnf}
+use Rattle.passes.specs.declared.names.Pass.TheVariants.{Nnf, Aig, Prenex, Reads, Shannon, SelfSub, Simplify, Rules, Ite, Cnf, Ackermann}
 use Rattle.passes.specs.Lists.{pass_named}
 use Rattle.smtrw_answers.specs.declared.status.Usage.{Usage}
 use Rattle.smtrw_answers.specs.declared.status.Why.{Why}
@@ -204,17 +204,17 @@ value_before_missing = refl
 
 -- ---- what the program has so far
 
-standing_passes : so_far ("rewrite" ∷ "--passes=simplify,nnf,aig,prenex,reads,shannon,selfsub,ite,cnf,rules" ∷ "-" ∷ []) ≡ Ok (rewrite (Simplify ∷ Nnf ∷ Aig ∷ Prenex ∷ Reads ∷ Shannon ∷ SelfSub ∷ Ite ∷ Cnf ∷ Rules ∷ []) Tree (word 3 "-"))
+standing_passes : so_far ("rewrite" ∷ "--passes=simplify,nnf,aig,prenex,reads,shannon,selfsub,ite,cnf,ackermann,rules" ∷ "-" ∷ []) ≡ Ok (rewrite (Simplify ∷ Nnf ∷ Aig ∷ Prenex ∷ Reads ∷ Shannon ∷ SelfSub ∷ Ite ∷ Cnf ∷ Ackermann ∷ Rules ∷ []) Tree (word 3 "-"))
 unfolding pass_named
 standing_passes = refl
 
-a_pass_to_come : so_far ("rewrite" ∷ "--passes" ∷ "nnf,ackermann" ∷ "-" ∷ []) ≡ fault 3 BadPass
+removal : so_far ("rewrite" ∷ "--passes" ∷ "nnf,ackermann" ∷ "-" ∷ []) ≡ Ok (rewrite (Nnf ∷ Ackermann ∷ []) Tree (word 4 "-"))
 unfolding pass_named
-a_pass_to_come = refl
+removal = refl
 
-passes_to_come_in_wrong_order : so_far ("rewrite" ∷ "--passes" ∷ "rules,ackermann" ∷ "-" ∷ []) ≡ fault 3 BadPass
+removal_in_wrong_order : so_far ("rewrite" ∷ "--passes" ∷ "rules,ackermann" ∷ "-" ∷ []) ≡ fault 3 AfterRules
 unfolding pass_named
-passes_to_come_in_wrong_order = refl
+removal_in_wrong_order = refl
 
 groups_in_wrong_order : so_far ("rewrite" ∷ "--passes" ∷ "rules,cnf" ∷ "-" ∷ []) ≡ fault 3 AfterRules
 unfolding pass_named

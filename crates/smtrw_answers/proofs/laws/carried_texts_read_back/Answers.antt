@@ -4,7 +4,12 @@ use Rattle.smtrw_answers.proofs.laws.carried_texts_read_back.Goals as goal
 
 pub returns : goal.returns
 returns c =
-    let carrying : CarryingLaws = record { keep = c.passes_keep_commands.ensures.pass; leave = c.passes_leave_models.ensures; groups = c.groups_carry_models.ensures } in
+    let carrying : CarryingLaws = record {
+      keep = c.passes_keep_commands.ensures.pass;
+      leave = c.passes_leave_models.ensures;
+      groups = c.groups_carry_models.ensures;
+      removals = c.removals_carry_models.ensures;
+    } in
     let laws : TextLaws = record {
       answers = c.reading_answers.ensures;
       reads_printable = c.reading_gives_a_printable_script.ensures;
