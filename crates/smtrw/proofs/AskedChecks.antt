@@ -5,7 +5,7 @@ use Rattle.smt_print.specs.declared.layout.Layout.{Layout}
 use Rattle.passes.specs.declared.names.Pass.{Pass}
 use Rattle.passes.specs.declared.names.ListFault.{ListFault}
 use Rattle.passes.specs.declared.names.ListFault.TheVariants.{BadPass as UnknownPass, AfterRules as GroupsAfterRules}
-use Rattle.passes.specs.Lists.{pass_list_of, can_run}
+use Rattle.passes.specs.Lists.{pass_list_of, any_pass}
 use Rattle.std.specs.Prelude.{◌&&◌, bytes_eq, codes}
 use Rattle.std.specs.List.{list_any}
 use Rattle.smtrw_answers.specs.declared.status.Usage.{Usage}
@@ -133,9 +133,9 @@ at_last : (c : Command) (i : ℕ) (g : Given) (o : Option Setting) → FromOne g
 at_last c i g None from = with_files c i g g.plain from
 at_last c i g (Some s) from = tt
 
-asked_from : (o : Option Command) (ws : List Word) → WhereAsked (asked_of can_run o ws) CountsFromOne
+asked_from : (o : Option Command) (ws : List Word) → WhereAsked (asked_of any_pass o ws) CountsFromOne
 asked_from None ws = tt
-asked_from (Some c) ws = by (words_from can_run c 2 ws nothing_given) (words_keep can_run c 2 ws nothing_given)
+asked_from (Some c) ws = by (words_from any_pass c 2 ws nothing_given) (words_keep any_pass c 2 ws nothing_given)
   where
     by : (r : Result Given Usage) → Keeps nothing_given r → WhereAsked (and_then (λ g. at_end c (suc (suc (length ws))) g g.awaited) r) CountsFromOne
     by (Ok g) keeps = at_last c (suc (suc (length ws))) g g.awaited (keeps tt)

@@ -12,14 +12,16 @@ use Rattle.passes.specs.declared.carrying.CarryFault.{CarryFault}
 use Rattle.passes.specs.declared.carrying.CarryFault.TheVariants.{NoSuchCheck, EvalWidth, Beyond128 as ValueBeyond, Memory}
 use Rattle.passes.specs.Carry.{Stage, too_wide, beyond}
 use Rattle.passes.specs.Carrying.{CarriesTo, IsCheck}
+use Rattle.smtrw_answers.specs.declared.status.Usage.{Usage as UsageFault}
 use Rattle.smtrw_answers.specs.declared.status.Status.{Status}
 use Rattle.smtrw_answers.specs.declared.status.Status.TheVariants.{Done, Refused, Usage, ReadFailed, WriteFailed, OutOfMemory, ModelRefused, Beyond128, PassRefused}
 use Rattle.smtrw_answers.specs.Endings.{longest_text, or_later, script_end, check_end, passes_end, end_of, model_end, stages_end, text_end}
 use Rattle.smtrw_answers.specs.Faults.{status_of_carrying}
-use Rattle.smtrw_answers.specs.Words.{Word, Numbered, Asked, model_file_of}
+use Rattle.smtrw_answers.specs.Words.{Word, Numbered, Asked, rewrite, translate, extend, stats, demo, model_file_of}
 use Rattle.smtrw.specs.Carrying.{EndsAtFile, EndsAtModel, EndsOnTheWay, GivesModel}
 use Rattle.smtrw.specs.Prepared.{EndsBefore}
-use Rattle.smtrw.specs.Run.{CarriesModel, RoseFor, RoseForModel, TextsFit, check_end_of}
+use Rattle.smtrw.specs.Run.{CarriesModel, IsMissing, MissesCheck, RoseFor, RoseForModel, RunsPasses, TextsFit, check_end_of, early_end, passes_end_of}
+use Rattle.smtrw.proofs.Endings.{passes_end_code}
 
 -- ---- the end of a told model's text
 
@@ -113,14 +115,21 @@ module _ (t : Formulas) (cs : List (Command Term)) (k : ℕ) (within : IsCheck k
 
 -- ---- the run's end
 
-module _ (b : List ℕ) (ps : List Pass) (k : ℕ) (asked : Asked) (carries : CarriesModel asked) (check_is : check_end_of asked b ≡ check_end b k) (tail : List ℕ → Option Status)
+runs_passes : (asked : Asked) → CarriesModel asked → RunsPasses asked
+runs_passes (rewrite passes layout script) carries = tt
+runs_passes (translate passes check script model) carries = carries
+runs_passes (extend passes check script model) carries = carries
+runs_passes (stats script) carries = carries
+runs_passes (demo seed size) carries = carries
+
+module _ (b : List ℕ) (ps : List Pass) (k : ℕ) (asked : Asked) (carries : CarriesModel asked) (misses : (u : UsageFault) → IsMissing k u → MissesCheck asked u) (check_is : check_end_of asked b ≡ check_end b k) (passes_is : passes_end_of asked b ≡ passes_end b ps) (tail : List ℕ → Option Status)
     (end_is : (g : List ℕ) → end_of asked b g ≡ or_later (script_end b) (or_later (check_end b k) (or_later (passes_end b ps) (tail g)))) where
   -- ---- before the model's text
 
-  way_texts : (told : Option (List ℕ)) (status : Status) → EndsOnTheWay b k status → TextsFit (record { script = Some b; model = told }) status asked
-  way_texts None (Refused r) is = is
+  way_texts : (told : Option (List ℕ)) (status : Status) → EndsOnTheWay b ps k status → TextsFit (record { script = Some b; model = told }) status asked
+  way_texts None (Refused r) is = ap (λ (o : Option Status). or_later o (or_later (check_end_of asked b) (passes_end_of asked b))) is
   way_texts (Some g) (Refused r) is = end_is g ∙ ap (λ (o : Option Status). or_later o (or_later (check_end b k) (or_later (passes_end b ps) (tail g)))) is
-  way_texts None (Usage u) is = (λ i. or_later (is.1 i) (check_is i)) ∙ is.2
+  way_texts None (Usage u) is = λ i. or_later (is.1 i) (or_later ((check_is ∙ is.2) i) (passes_end_of asked b))
   way_texts (Some g) (Usage u) is = end_is g ∙ (λ i. or_later (is.1 i) (or_later (is.2 i) (or_later (passes_end b ps) (tail g))))
   way_texts None OutOfMemory is = tt
   way_texts (Some g) OutOfMemory is = tt
@@ -129,24 +138,25 @@ module _ (b : List ℕ) (ps : List Pass) (k : ℕ) (asked : Asked) (carries : Ca
   way_texts told WriteFailed is = absurd is
   way_texts told (ModelRefused code line byte) is = absurd is
   way_texts told (Beyond128 assertion) is = absurd is
-  way_texts told (PassRefused code assertion) is = absurd is
+  way_texts None (PassRefused code assertion) is = inl (λ i. or_later (is.0 i) (or_later ((check_is ∙ is.1) i) ((passes_is ∙ is.2) i)))
+  way_texts (Some g) (PassRefused code assertion) is = end_is g ∙ (λ i. or_later (is.0 i) (or_later (is.1 i) (or_later (is.2 i) (tail g))))
 
-  pub way_before : (told : Option (List ℕ)) (before now : Word → ℕ) (status : Status) → EndsOnTheWay b k status → EndsBefore (record { script = Some b; model = told }) before now asked status
+  pub way_before : (told : Option (List ℕ)) (before now : Word → ℕ) (status : Status) → EndsOnTheWay b ps k status → EndsBefore (record { script = Some b; model = told }) before now asked status
   way_before told before now (Refused r) is = record { early = tt; words = tt; ends = tt; read = tt; texts = way_texts told (Refused r) is }
-  way_before told before now (Usage u) is = record { early = tt; words = (is.0, carries); ends = tt; read = tt; texts = way_texts told (Usage u) is }
+  way_before told before now (Usage u) is = record { early = tt; words = misses u is.0; ends = tt; read = tt; texts = way_texts told (Usage u) is }
   way_before told before now OutOfMemory is = record { early = tt; words = tt; ends = tt; read = tt; texts = way_texts told OutOfMemory is }
   way_before told before now Done is = absurd is
   way_before told before now (ReadFailed word) is = absurd is
   way_before told before now WriteFailed is = absurd is
   way_before told before now (ModelRefused code line byte) is = absurd is
   way_before told before now (Beyond128 assertion) is = absurd is
-  way_before told before now (PassRefused code assertion) is = absurd is
+  way_before told before now (PassRefused code assertion) is = record { early = tt; words = tt; ends = inl (passes_end_code b ps code assertion is.2, runs_passes asked carries); read = tt; texts = way_texts told (PassRefused code assertion) is }
 
   -- ---- by the model's text
 
   module _ (script : script_end b ≡ None) (check : check_end b k ≡ None) (passes : passes_end b ps ≡ None) where
-    untold : or_later (script_end b) (check_end_of asked b) ≡ None
-    untold = (λ i. or_later (script i) (check_is i)) ∙ check
+    untold : early_end asked b ≡ None
+    untold i = or_later (script i) (or_later ((check_is ∙ check) i) ((passes_is ∙ passes) i))
 
     by_tail : (g : List ℕ) (end : Option Status) → tail g ≡ end → end_of asked b g ≡ end
     by_tail g end is = end_is g ∙ (λ i. or_later (script i) (or_later (check i) (or_later (passes i) (is i))))
@@ -160,7 +170,7 @@ module _ (b : List ℕ) (ps : List Pass) (k : ℕ) (asked : Asked) (carries : Ca
     late_texts (Some g) (ModelRefused code line byte) is = by_tail g (Some (ModelRefused code line byte)) is
     late_texts None (Beyond128 assertion) is = untold
     late_texts (Some g) (Beyond128 assertion) is = by_tail g (Some (Beyond128 assertion)) is
-    late_texts None (PassRefused code assertion) is = untold
+    late_texts None (PassRefused code assertion) is = inr (is.0, untold)
     late_texts (Some g) (PassRefused code assertion) is = by_tail g (Some (PassRefused code assertion)) is.1
     late_texts None (ReadFailed word) is = tt
     late_texts (Some g) (ReadFailed word) is = tt
@@ -174,7 +184,7 @@ module _ (b : List ℕ) (ps : List Pass) (k : ℕ) (asked : Asked) (carries : Ca
     pub late_before : (told : Option (List ℕ)) (before now : Word → ℕ) (file : Numbered) → model_file_of asked ≡ Some file → (status : Status) → EndsLate tail told status → FailsFor before now file status → EndsBefore (record { script = Some b; model = told }) before now asked status
     late_before told before now file named (ModelRefused code line byte) is fails = record { early = tt; words = tt; ends = carries; read = tt; texts = late_texts told (ModelRefused code line byte) is }
     late_before told before now file named (Beyond128 assertion) is fails = record { early = tt; words = tt; ends = carries; read = tt; texts = late_texts told (Beyond128 assertion) is }
-    late_before told before now file named (PassRefused code assertion) is fails = record { early = tt; words = tt; ends = (is.0, carries); read = tt; texts = late_texts told (PassRefused code assertion) is }
+    late_before told before now file named (PassRefused code assertion) is fails = record { early = tt; words = tt; ends = inr (is.0, carries); read = tt; texts = late_texts told (PassRefused code assertion) is }
     late_before told before now file named (ReadFailed word) is fails = record { early = tt; words = tt; ends = tt; read = inr (subst (λ (o : Option Numbered). RoseForModel before now word o) (sym named) fails); texts = late_texts told (ReadFailed word) is }
     late_before told before now file named OutOfMemory is fails = record { early = tt; words = tt; ends = tt; read = tt; texts = late_texts told OutOfMemory is }
     late_before told before now file named Done is fails = absurd is

@@ -61,12 +61,12 @@ lines_of carry to r m w given is = ap (λ (x : Result Model Unmodelled). carried
 
 -- ---- a run that ends on the way
 
-module _ (b : List ℕ) (ps : List Pass) (k : ℕ) (told : Option (List ℕ)) (script model : Numbered) (before now : Word → ℕ) (status : Status) (ends : EndsOnTheWay b k status) where
+module _ (b : List ℕ) (ps : List Pass) (k : ℕ) (told : Option (List ℕ)) (script model : Numbered) (before now : Word → ℕ) (status : Status) (ends : EndsOnTheWay b ps k status) where
   pub translating_way : EndsBefore (record { script = Some b; model = told }) before now (translate ps k script model) status
-  translating_way = way_before b ps k (translate ps k script model) tt refl (tail_of (signature_behind b ps k) (back_stages ps (commands b) (names_left b) k)) (λ g. refl) told before now status ends
+  translating_way = way_before b ps k (translate ps k script model) tt (λ u missing. missing) refl refl (tail_of (signature_behind b ps k) (back_stages ps (commands b) (names_left b) k)) (λ g. refl) told before now status ends
 
   pub extending_way : EndsBefore (record { script = Some b; model = told }) before now (extend ps k script model) status
-  extending_way = way_before b ps k (extend ps k script model) tt refl (tail_of (signature_before b k) (forth_stages ps (commands b) (names_left b) k)) (λ g. refl) told before now status ends
+  extending_way = way_before b ps k (extend ps k script model) tt (λ u missing. missing) refl refl (tail_of (signature_before b k) (forth_stages ps (commands b) (names_left b) k)) (λ g. refl) told before now status ends
 
 -- ---- a run over a way
 
@@ -77,14 +77,14 @@ module _ (b : List ℕ) (ps : List Pass) (k : ℕ) (way : Way) (is : IsWay b ps 
     pub translating_read : (status : Status) → EndsAtFile (signature_of way.table way.behind) told before now model status → EndsBefore (record { script = Some b; model = told }) before now (translate ps k script model) status
     translating_read status ends =
         let over = ends_over way.table way.behind (signature_behind b ps k) is.leads.behind told before now model status ends in
-        late_before b ps k (translate ps k script model) tt refl (tail_of (signature_behind b ps k) (back_stages ps (commands b) (names_left b) k)) (λ g. refl) is.script is.check is.passes told before now model refl status
+        late_before b ps k (translate ps k script model) tt (λ u missing. missing) refl refl (tail_of (signature_behind b ps k) (back_stages ps (commands b) (names_left b) k)) (λ g. refl) is.script is.check is.passes told before now model refl status
         (file_ends_late (signature_behind b ps k) (back_stages ps (commands b) (names_left b) k) told before now model status over)
         (file_fails (signature_behind b ps k) (back_stages ps (commands b) (names_left b) k) told before now model status over)
 
     pub translating_carried : (m : ModelLists) → IsModelRead way.table (signature_of way.table way.behind) told m → (f : CarryFault) → CarriesBack way.table ps (commands b) (names_left b) k (model_at way.table m) (Err f)
         → EndsBefore (record { script = Some b; model = told }) before now (translate ps k script model) (status_of_carrying f)
     translating_carried m reads f carries =
-        late_before b ps k (translate ps k script model) tt refl (tail_of (signature_behind b ps k) (back_stages ps (commands b) (names_left b) k)) (λ g. refl) is.script is.check is.passes told before now model refl (status_of_carrying f)
+        late_before b ps k (translate ps k script model) tt (λ u missing. missing) refl refl (tail_of (signature_behind b ps k) (back_stages ps (commands b) (names_left b) k)) (λ g. refl) is.script is.check is.passes told before now model refl (status_of_carrying f)
         (carrying_ends_late way.table (commands b) k is.leads.within (signature_behind b ps k) (back_stages ps (commands b) (names_left b) k) (model_at way.table m) (translated b ps k (model_at way.table m)) told
         (read_over way.table way.behind (signature_behind b ps k) is.leads.behind told m reads).given f (status_of_carrying f) carries refl)
         (never_unread before now model f)
@@ -103,7 +103,7 @@ module _ (b : List ℕ) (ps : List Pass) (k : ℕ) (way : Way) (is : IsWay b ps 
 
     pub translated_prepared : (rules : List Name) (w : List ℕ) → w ≡ model_lines (model_at way.table r) (signature_of way.table way.before) → IsPrepared rules (record { script = Some b; model = told }) (translate ps k script model) w
     translated_prepared rules w is_text = record {
-      texts = done_texts b ps k (translate ps k script model) tt refl (tail_of (signature_behind b ps k) (back_stages ps (commands b) (names_left b) k)) (λ g. refl) is.script is.check is.passes told
+      texts = done_texts b ps k (translate ps k script model) tt (λ u missing. missing) refl refl (tail_of (signature_behind b ps k) (back_stages ps (commands b) (names_left b) k)) (λ g. refl) is.script is.check is.passes told
           (carried_well way.table (commands b) k is.leads.within (signature_behind b ps k) (back_stages ps (commands b) (names_left b) k) (model_at way.table m) (translated b ps k (model_at way.table m)) told back_reads.given r carries);
       output = by told back_reads.given;
       promise = tt;
@@ -119,14 +119,14 @@ module _ (b : List ℕ) (ps : List Pass) (k : ℕ) (way : Way) (is : IsWay b ps 
     pub extending_read : (status : Status) → EndsAtFile (signature_of way.table way.before) told before now model status → EndsBefore (record { script = Some b; model = told }) before now (extend ps k script model) status
     extending_read status ends =
         let over = ends_over way.table way.before (signature_before b k) is.leads.before told before now model status ends in
-        late_before b ps k (extend ps k script model) tt refl (tail_of (signature_before b k) (forth_stages ps (commands b) (names_left b) k)) (λ g. refl) is.script is.check is.passes told before now model refl status
+        late_before b ps k (extend ps k script model) tt (λ u missing. missing) refl refl (tail_of (signature_before b k) (forth_stages ps (commands b) (names_left b) k)) (λ g. refl) is.script is.check is.passes told before now model refl status
         (file_ends_late (signature_before b k) (forth_stages ps (commands b) (names_left b) k) told before now model status over)
         (file_fails (signature_before b k) (forth_stages ps (commands b) (names_left b) k) told before now model status over)
 
     pub extending_carried : (m : ModelLists) → IsModelRead way.table (signature_of way.table way.before) told m → (f : CarryFault) → CarriesForth way.table ps (commands b) (names_left b) k (model_at way.table m) (Err f)
         → EndsBefore (record { script = Some b; model = told }) before now (extend ps k script model) (status_of_carrying f)
     extending_carried m reads f carries =
-        late_before b ps k (extend ps k script model) tt refl (tail_of (signature_before b k) (forth_stages ps (commands b) (names_left b) k)) (λ g. refl) is.script is.check is.passes told before now model refl (status_of_carrying f)
+        late_before b ps k (extend ps k script model) tt (λ u missing. missing) refl refl (tail_of (signature_before b k) (forth_stages ps (commands b) (names_left b) k)) (λ g. refl) is.script is.check is.passes told before now model refl (status_of_carrying f)
         (carrying_ends_late way.table (commands b) k is.leads.within (signature_before b k) (forth_stages ps (commands b) (names_left b) k) (model_at way.table m) (extended b ps k (model_at way.table m)) told
         (read_over way.table way.before (signature_before b k) is.leads.before told m reads).given f (status_of_carrying f) carries refl)
         (never_unread before now model f)
@@ -145,7 +145,7 @@ module _ (b : List ℕ) (ps : List Pass) (k : ℕ) (way : Way) (is : IsWay b ps 
 
     pub extended_prepared : (rules : List Name) (w : List ℕ) → w ≡ model_lines (model_at way.table r) (signature_of way.table way.behind) → IsPrepared rules (record { script = Some b; model = told }) (extend ps k script model) w
     extended_prepared rules w is_text = record {
-      texts = done_texts b ps k (extend ps k script model) tt refl (tail_of (signature_before b k) (forth_stages ps (commands b) (names_left b) k)) (λ g. refl) is.script is.check is.passes told
+      texts = done_texts b ps k (extend ps k script model) tt (λ u missing. missing) refl refl (tail_of (signature_before b k) (forth_stages ps (commands b) (names_left b) k)) (λ g. refl) is.script is.check is.passes told
           (carried_well way.table (commands b) k is.leads.within (signature_before b k) (forth_stages ps (commands b) (names_left b) k) (model_at way.table m) (extended b ps k (model_at way.table m)) told forth_reads.given r carries);
       output = by told forth_reads.given;
       promise = tt;

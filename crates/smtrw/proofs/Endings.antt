@@ -1,7 +1,6 @@
 -- How a text ends a run before anything is written of it.
-use Rattle.std.proofs.Common.{◌≡◌, ◌∙◌, sym, ap, refl, ℕ, ◌<◌, ◌≤◌, nat_lt, Bool, true, false, if◌then◌else◌, List, [], ◌∷◌, length, Option, Some, None, Result, Ok, Err, subst, arith}
+use Rattle.std.proofs.Common.{◌≡◌, ◌∙◌, sym, ap, refl, ℕ, ◌<◌, ◌≤◌, nat_lt, Bool, true, false, if◌then◌else◌, List, length, Option, Some, None, Result, Ok, Err, subst, arith}
 use Rattle.std.specs.Prelude.{option_map, IsErrAnd}
-use Rattle.std.specs.List.{list_all}
 use Rattle.std.proofs.lemmas.Bool.Decides.{nat_tests}
 use Rattle.smt_lex.specs.Lex.{Fault, bad_byte, bad_token, open_text, unbalanced, line_at}
 use Rattle.smt_lex.specs.Forms.{Forms, forms_to_exit}
@@ -10,7 +9,6 @@ use Rattle.smt_lex.specs.declared.faults.LexFault.{LexFault}
 use Rattle.smt_lex.specs.declared.faults.LexFault.TheVariants.{BadByte, BadToken, OpenText, Unbalanced, Memory}
 use Rattle.smt_terms.specs.Fresh.{Supply}
 use Rattle.smt_terms.specs.Term.{Term}
-use Rattle.smt_terms.proofs.Tests.{both_true}
 use Rattle.script_terms.specs.declared.faults.Refusal.{Refusal}
 use Rattle.script_terms.specs.declared.faults.ScriptFault.{ScriptFault}
 use Rattle.script_terms.specs.declared.faults.ScriptFault.TheVariants.{Refused as ScriptRefused, Memory as NoMemory}
@@ -18,16 +16,16 @@ use Rattle.term_table.specs.Formulas.{Formulas}
 use Rattle.script_read.specs.CommandLists.{IsRefusal, ReadsScript}
 use Rattle.script_read.specs.Commands.{Command}
 use Rattle.script_terms.specs.Refusals.{Unaccepted, unread, refused}
-use Rattle.script_read.specs.Script.{read_forms, fault_of, script}
+use Rattle.script_read.specs.Script.{read_forms, fault_of, fault, script}
 use Rattle.passes.specs.declared.names.Pass.{Pass}
-use Rattle.passes.specs.declared.names.Pass.TheVariants.{Simplify, Nnf, Aig, Prenex, Reads, Shannon, SelfSub, Rules, Ite, Cnf, Ackermann}
-use Rattle.passes.specs.Lists.{can_run}
-use Rattle.passes.specs.Passed.{apply_pass, or_later, refused_by as pass_refused_by, refused_assertion}
+use Rattle.passes.specs.declared.running.PassFault.{PassFault}
+use Rattle.passes.specs.declared.running.PassFault.TheVariants.{QuantifiedUse, Memory as NoMemoryForPassing}
+use Rattle.passes.specs.Passed.{refused_assertion}
 use Rattle.smtrw_answers.specs.declared.status.Status.{Status}
 use Rattle.smtrw_answers.specs.declared.status.Status.TheVariants.{Done, Refused, Usage, ReadFailed, WriteFailed, OutOfMemory, ModelRefused, Beyond128, PassRefused}
 use Rattle.smtrw_answers.specs.Endings.{longest_text, too_long, refusal_of, script_end, passes_end, rewrite_end, or_later as status_or_later}
-use Rattle.smtrw_answers.specs.Faults.{status_of_lexing, status_of_reading}
-use Rattle.smtrw_answers.specs.Outputs.{commands, names_left}
+use Rattle.smtrw_answers.specs.Faults.{status_of_lexing, status_of_passing, status_of_reading}
+use Rattle.smtrw_answers.specs.Outputs.{commands, names_left, read_or_none}
 use Rattle.smtrw.specs.Prepared.{EndsEarly, Writes}
 
 -- the end of a text that isn't too long, by what reading it answers
@@ -93,31 +91,52 @@ pub unread_ends : (b : List ℕ) → length b ≤ longest_text → (t : Formulas
 unread_ends b short t (ScriptRefused r) reads = reading_ends b short r reads
 unread_ends b short t NoMemory reads = tt
 
--- ---- the passes: none that can be run refuses an assertion
+-- ---- the passes
 
-none_refused : (p : Pass) → can_run p ≡ true → (cs : List (Command Term)) → pass_refused_by p cs ≡ None
-none_refused Simplify run cs = refl
-none_refused Nnf run cs = refl
-none_refused Aig run cs = refl
-none_refused Prenex run cs = refl
-none_refused Reads run cs = refl
-none_refused Shannon run cs = refl
-none_refused SelfSub run cs = refl
-none_refused Rules run cs = refl
-none_refused Ite run cs = refl
-none_refused Cnf run cs = refl
-none_refused Ackermann run cs = absurd cc
+module _ (b : List ℕ) (read : List (Command Term) × Supply) (is : script b ≡ Ok read) (ps : List Pass) where
+  -- they end the run as they do for the commands that were read
+  pub passes_end_so : (o : Option ℕ) → refused_assertion ps read.0 read.1 ≡ o → passes_end b ps ≡ option_map (λ (i : ℕ). PassRefused 50 i) o
+  passes_end_so o so =
+      ap (λ (r : Result (List (Command Term) × Supply) Unaccepted). option_map (λ (i : ℕ). PassRefused 50 i) (refused_assertion ps (read_or_none r).0 (read_or_none r).1)) is
+      ∙ ap (λ (a : Option ℕ). option_map (λ (i : ℕ). PassRefused 50 i) a) so
 
-no_assertion : (ps : List Pass) (cs : List (Command Term)) (s : Supply) → list_all can_run ps ≡ true → refused_assertion ps cs s ≡ None
-no_assertion [] cs s run = refl
-no_assertion (p ∷ ps) cs s run =
-    let parts = both_true (can_run p) (list_all can_run ps) run in
-    λ i. or_later (none_refused p parts.0 cs i) (no_assertion ps (apply_pass p cs s).0 (apply_pass p cs s).1 parts.1 i)
+  -- a rewriting ends by a fault of theirs
+  pub passing_ends : length b ≤ longest_text → (f : PassFault) → ((a : ℕ) → f ≡ QuantifiedUse a → refused_assertion ps read.0 read.1 ≡ Some a) → EndsEarly (rewrite_end b ps) (status_of_passing f)
+  passing_ends short (QuantifiedUse a) so = λ i. status_or_later (accepted_ends b short read is i) (passes_end_so (Some a) (so a refl) i)
+  passing_ends short NoMemoryForPassing so = tt
 
-pub passes_accept : (b : List ℕ) (ps : List Pass) → list_all can_run ps ≡ true → passes_end b ps ≡ None
-passes_accept b ps run = ap (option_map (λ (i : ℕ). PassRefused 50 i)) (no_assertion ps (commands b) (names_left b) run)
+  pub rewriting_accepted : length b ≤ longest_text → refused_assertion ps read.0 read.1 ≡ None → rewrite_end b ps ≡ None
+  rewriting_accepted short none i = status_or_later (accepted_ends b short read is i) (passes_end_so None none i)
 
--- so the script alone ends a rewriting early
+-- the code of their refusal
+passes_code : (o : Option ℕ) (code assertion : ℕ) → option_map (λ (i : ℕ). PassRefused 50 i) o ≡ Some (PassRefused code assertion) → code ≡ 50
+passes_code (Some a) code assertion is = cc
+passes_code None code assertion is = absurd cc
+
+pub passes_end_code : (b : List ℕ) (ps : List Pass) (code assertion : ℕ) → passes_end b ps ≡ Some (PassRefused code assertion) → code ≡ 50
+passes_end_code b ps code assertion is = passes_code (refused_assertion ps (commands b) (names_left b)) code assertion is
+
+-- none is that of a script
+unread_is_no_pass : (u : Unaccepted) (code assertion : ℕ) → Some (refusal_of u) ≡ Some (PassRefused code assertion) → ⊥
+unread_is_no_pass (unread f line) code assertion is = absurd cc
+unread_is_no_pass (refused r) code assertion is = absurd cc
+
+fault_is_no_pass : (long : Bool) (o : Option Unaccepted) (code assertion : ℕ) → (if long then Some (Refused too_long) else option_map refusal_of o) ≡ Some (PassRefused code assertion) → ⊥
+fault_is_no_pass true o code assertion is = absurd cc
+fault_is_no_pass false None code assertion is = absurd cc
+fault_is_no_pass false (Some u) code assertion is = unread_is_no_pass u code assertion is
+
+pub script_end_is_no_pass : (b : List ℕ) (code assertion : ℕ) → script_end b ≡ Some (PassRefused code assertion) → ⊥
+script_end_is_no_pass b code assertion is = fault_is_no_pass (nat_lt longest_text (length b)) (fault b) code assertion is
+
+rewriting_code : (b : List ℕ) (ps : List Pass) (o : Option Status) → o ≡ script_end b → (code assertion : ℕ) → status_or_later o (passes_end b ps) ≡ Some (PassRefused code assertion) → code ≡ 50
+rewriting_code b ps None at code assertion is = passes_end_code b ps code assertion is
+rewriting_code b ps (Some s) at code assertion is = absurd (script_end_is_no_pass b code assertion (sym at ∙ is))
+
+pub rewrite_end_code : (b : List ℕ) (ps : List Pass) (code assertion : ℕ) → rewrite_end b ps ≡ Some (PassRefused code assertion) → code ≡ 50
+rewrite_end_code b ps code assertion is = rewriting_code b ps (script_end b) refl code assertion is
+
+-- what ends the script ends its rewriting
 pub rewriting_ends : (b : List ℕ) (ps : List Pass) (status : Status) → EndsEarly (script_end b) status → EndsEarly (rewrite_end b ps) status
 rewriting_ends b ps (Refused r) is = ap (λ (o : Option Status). status_or_later o (passes_end b ps)) is
 rewriting_ends b ps OutOfMemory is = tt
@@ -127,7 +146,4 @@ rewriting_ends b ps (ReadFailed word) is = absurd is
 rewriting_ends b ps WriteFailed is = absurd is
 rewriting_ends b ps (ModelRefused code line byte) is = absurd is
 rewriting_ends b ps (Beyond128 assertion) is = absurd is
-rewriting_ends b ps (PassRefused code assertion) is = absurd is
-
-pub rewriting_accepted : (b : List ℕ) (ps : List Pass) → list_all can_run ps ≡ true → script_end b ≡ None → rewrite_end b ps ≡ None
-rewriting_accepted b ps run script i = status_or_later (script i) (passes_accept b ps run i)
+rewriting_ends b ps (PassRefused code assertion) is = ap (λ (o : Option Status). status_or_later o (passes_end b ps)) is

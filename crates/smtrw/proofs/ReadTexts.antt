@@ -21,8 +21,8 @@ use Rattle.smtrw_answers.specs.Endings.{longest_text, too_long, or_later, end_of
 use Rattle.smtrw_answers.specs.Outputs.{commands, names_left, stats_lines, MayBeWritten}
 use Rattle.smtrw_answers.specs.Written.{IsOutputOf}
 use Rattle.smtrw.specs.Prepared.{EndsBefore, EndsEarly, IsPrepared, Promises, Writes, texts_beside}
-use Rattle.smtrw.proofs.Endings.{too_long_ends}
-use Rattle.smtrw.specs.Run.{EndFits, ReadFits, RoseFor, RoseForModel, Texts, TextsFit, WhereTold, model_text_of, texts_of}
+use Rattle.smtrw.proofs.Endings.{rewrite_end_code, script_end_is_no_pass, too_long_ends}
+use Rattle.smtrw.specs.Run.{EndFits, MayEnd, ReadFits, RoseFor, RoseForModel, Texts, TextsFit, WhereTold, check_end_of, model_text_of, passes_end_of, texts_of}
 
 pub err_weaker : {A : Type 0} (r : Result A Status) (P Q : Status → Type 0) → ((s : Status) → P s → Q s) → IfErr r P → IfErr r Q
 err_weaker (Ok a) P Q to is = tt
@@ -34,7 +34,7 @@ ok_weaker (Err s) P Q to is = tt
 
 -- ---- a script alone
 
-module _ (b : List ℕ) (text : Word → Option (List ℕ)) (before now : Word → ℕ) (asked : Asked) (end : Option Status) (fits : (s : Status) → EndFits end s → TextsFit (texts_beside b text asked) s asked) where
+module _ (b : List ℕ) (text : Word → Option (List ℕ)) (before now : Word → ℕ) (asked : Asked) (end : Option Status) (may : (code assertion : ℕ) → end ≡ Some (PassRefused code assertion) → MayEnd asked (PassRefused code assertion)) (fits : (s : Status) → EndFits end s → TextsFit (texts_beside b text asked) s asked) where
   alone_ends : (status : Status) → EndsEarly end status → EndsBefore (texts_beside b text asked) before now asked status
   alone_ends Done is = absurd is
   alone_ends (Refused r) is = record { early = tt; words = tt; ends = tt; read = tt; texts = fits (Refused r) is }
@@ -44,7 +44,7 @@ module _ (b : List ℕ) (text : Word → Option (List ℕ)) (before now : Word �
   alone_ends OutOfMemory is = record { early = tt; words = tt; ends = tt; read = tt; texts = fits OutOfMemory tt }
   alone_ends (ModelRefused code line byte) is = absurd is
   alone_ends (Beyond128 assertion) is = absurd is
-  alone_ends (PassRefused code assertion) is = absurd is
+  alone_ends (PassRefused code assertion) is = record { early = tt; words = tt; ends = may code assertion is; read = tt; texts = fits (PassRefused code assertion) is }
 
   pub alone_before : (IsText : List ℕ → Type 0) (r : Result (List ℕ) Status) → Writes end IsText r → IfErr r (EndsBefore (texts_beside b text asked) before now asked)
   alone_before IsText (Ok w) writes = tt
@@ -66,7 +66,7 @@ end_refused (Extend ps k s m) b g status is =
 end_refused (Stats f) b g status is = is
 
 texts_refused : (a : AskedSeen) (b : List ℕ) (m : Option (List ℕ)) (r : Refusal) → script_end b ≡ Some (Refused r) → TextsFit (record { script = Some b; model = m }) (Refused r) (asked_seen a)
-texts_refused a b None r is = is
+texts_refused a b None r is = ap (λ (o : Option Status). or_later o (or_later (check_end_of (asked_seen a) b) (passes_end_of (asked_seen a) b))) is
 texts_refused a b (Some g) r is = end_refused a b g (Refused r) is
 
 memory_texts : (asked : Asked) (s m : Option (List ℕ)) → TextsFit (record { script = s; model = m }) OutOfMemory asked
@@ -94,7 +94,7 @@ refused_before a b m before now WriteFailed is = absurd is
 refused_before a b m before now OutOfMemory is = memory_before (record { script = Some b; model = m }) before now (asked_seen a)
 refused_before a b m before now (ModelRefused code line byte) is = absurd is
 refused_before a b m before now (Beyond128 assertion) is = absurd is
-refused_before a b m before now (PassRefused code assertion) is = absurd is
+refused_before a b m before now (PassRefused code assertion) is = absurd (script_end_is_no_pass b code assertion is)
 
 -- a script that is too long
 longer : (text : List ℕ) (rest : Option (List ℕ)) (given given_now : ℕ) → TookMore (Some text) rest given given_now → longest_text < length text
@@ -160,28 +160,34 @@ module _ (asked : Asked) (b : List ℕ) (text later : Word → Option (List ℕ)
 
 -- ---- the commands that read a script alone
 
+rewriting_may : (b : List ℕ) (ps : List Pass) (layout : Layout) (file : Numbered) (code assertion : ℕ) → rewrite_end b ps ≡ Some (PassRefused code assertion) → MayEnd (rewrite ps layout file) (PassRefused code assertion)
+rewriting_may b ps layout file code assertion is = inl (rewrite_end_code b ps code assertion is, tt)
+
+counting_may : (b : List ℕ) (file : Numbered) (code assertion : ℕ) → stats_end b ≡ Some (PassRefused code assertion) → MayEnd (stats file) (PassRefused code assertion)
+counting_may b file code assertion is = absurd (script_end_is_no_pass b code assertion is)
+
 module _ (b d : List ℕ) (same : d ≡ b) (text : Word → Option (List ℕ)) where
   pub rewriting_before : (before now : Word → ℕ) (ps : List Pass) (layout : Layout) (file : Numbered) (rules : List Name) (r : Result (List ℕ) Status) → Writes (rewrite_end d ps) (MayBeWritten d ps rules layout) r
       → IfErr r (EndsBefore (texts_beside b text (rewrite ps layout file)) before now (rewrite ps layout file))
   rewriting_before before now ps layout file rules r writes =
-      alone_before b text before now (rewrite ps layout file) (rewrite_end b ps) (λ s fits. fits) (MayBeWritten b ps rules layout) r
+      alone_before b text before now (rewrite ps layout file) (rewrite_end b ps) (rewriting_may b ps layout file) (λ s fits. fits) (MayBeWritten b ps rules layout) r
       (subst (λ (x : List ℕ). Writes (rewrite_end x ps) (MayBeWritten x ps rules layout) r) same writes)
 
   pub rewriting_prepared : (ps : List Pass) (layout : Layout) (file : Numbered) (rules : List Name) (r : Result (List ℕ) Status) → Writes (rewrite_end d ps) (MayBeWritten d ps rules layout) r → IfOk r (λ w. IsRewriting d ps w)
       → IfOk r (IsPrepared rules (texts_beside b text (rewrite ps layout file)) (rewrite ps layout file))
   rewriting_prepared ps layout file rules r writes promises =
-      alone_prepared b text (λ _. 0) (λ _. 0) (rewrite ps layout file) (rewrite_end b ps) (λ s fits. fits) rules (MayBeWritten b ps rules layout) (λ w is. is) r
+      alone_prepared b text (λ _. 0) (λ _. 0) (rewrite ps layout file) (rewrite_end b ps) (rewriting_may b ps layout file) (λ s fits. fits) rules (MayBeWritten b ps rules layout) (λ w is. is) r
       (subst (λ (x : List ℕ). Writes (rewrite_end x ps) (MayBeWritten x ps rules layout) r) same writes)
       (subst (λ (x : List ℕ). IfOk r (λ w. IsRewriting x ps w)) same promises)
 
   pub counting_before : (before now : Word → ℕ) (file : Numbered) (r : Result (List ℕ) Status) → Writes (stats_end d) (λ w. w ≡ stats_lines d) r → IfErr r (EndsBefore (texts_beside b text (stats file)) before now (stats file))
   counting_before before now file r writes =
-      alone_before b text before now (stats file) (stats_end b) (λ s fits. fits) (λ w. w ≡ stats_lines b) r
+      alone_before b text before now (stats file) (stats_end b) (counting_may b file) (λ s fits. fits) (λ w. w ≡ stats_lines b) r
       (subst (λ (x : List ℕ). Writes (stats_end x) (λ w. w ≡ stats_lines x) r) same writes)
 
   pub counting_prepared : (file : Numbered) (rules : List Name) (r : Result (List ℕ) Status) → Writes (stats_end d) (λ w. w ≡ stats_lines d) r → IfOk r (IsPrepared rules (texts_beside b text (stats file)) (stats file))
   counting_prepared file rules r writes =
-      alone_prepared b text (λ _. 0) (λ _. 0) (stats file) (stats_end b) (λ s fits. fits) rules (λ w. w ≡ stats_lines b) (λ w is. is) r
+      alone_prepared b text (λ _. 0) (λ _. 0) (stats file) (stats_end b) (counting_may b file) (λ s fits. fits) rules (λ w. w ≡ stats_lines b) (λ w is. is) r
       (subst (λ (x : List ℕ). Writes (stats_end x) (λ w. w ≡ stats_lines x) r) same writes)
       (all_ok r)
     where

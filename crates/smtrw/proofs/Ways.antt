@@ -1,7 +1,6 @@
 -- A script behind passes, with what is declared at a check before and behind them.
 use Rattle.std.proofs.Common.{◌≡◌, ◌∙◌, sym, ap, subst, refl, ℕ, ◌+◌, ◌<◌, ◌≤◌, nat_lt, Bool, true, false, cond, List, [], ◌∷◌, length, Some, None, Result, Ok, Err, arith}
 use Rattle.std.specs.Prelude.{count_by}
-use Rattle.std.specs.List.{list_all}
 use Rattle.std.proofs.lemmas.Bool.Decides.{nat_tests}
 use Rattle.std.proofs.lemmas.List.{length-map}
 use Rattle.std.proofs.lemmas.List.Elements.{All-weaker}
@@ -23,22 +22,25 @@ use Rattle.script_read.specs.Commands.{Command, passed as passed_on, declare_sor
 use Rattle.script_read.specs.Script.{script}
 use Rattle.models.specs.LiveNumbers.{LiveNumbers, signature_of, AreLiveNumbersOf, IsFreeSort}
 use Rattle.passes.specs.declared.names.Pass.{Pass}
+use Rattle.passes.specs.declared.running.PassFault.{PassFault}
+use Rattle.passes.specs.declared.running.PassFault.TheVariants.{QuantifiedUse, Memory as NoMemoryForPassing}
 use Rattle.passes.specs.Carry.{back, forth}
 use Rattle.passes.specs.Laws.{AreCarried, CarriesSignatures, IsReady}
-use Rattle.passes.specs.Lists.{can_run, groups_after_rules}
-use Rattle.passes.specs.Passed.{passed}
+use Rattle.passes.specs.Lists.{groups_after_rules}
+use Rattle.passes.specs.Passed.{passed, refused_assertion}
 use Rattle.passes.specs.Plans.{IsPlanOf, IsPlanOver}
 use Rattle.model_texts.specs.Proper.{IsProper}
-use Rattle.smtrw_answers.specs.declared.status.Status.TheVariants.{Usage}
+use Rattle.smtrw_answers.specs.declared.status.Status.{Status}
+use Rattle.smtrw_answers.specs.declared.status.Status.TheVariants.{Done, Refused, Usage, ReadFailed, WriteFailed, OutOfMemory, ModelRefused, Beyond128, PassRefused}
 use Rattle.smtrw_answers.specs.declared.status.Why.TheVariants.{NoSuchCheck}
 use Rattle.smtrw_answers.specs.Endings.{longest_text, check_end}
-use Rattle.smtrw_answers.specs.Faults.{status_of_reading}
+use Rattle.smtrw_answers.specs.Faults.{status_of_passing, status_of_reading}
 use Rattle.smtrw_answers.specs.Outputs.{commands, names_left, read_or_none}
 use Rattle.smtrw.specs.declared.carrying.Way.{Way}
 use Rattle.model_texts.specs.Laws.{SignaturesAreProper}
-use Rattle.smtrw.specs.Carrying.{AreNumbersOf, EndsOnTheWay, LeadsOver, IsWay}
+use Rattle.smtrw.specs.Carrying.{AreNumbersOf, EndsAtScript, EndsOnTheWay, LeadsOver, IsWay}
 use Rattle.smtrw.proofs.Commanded.{checks_are}
-use Rattle.smtrw.proofs.Endings.{accepted_ends, passes_accept, reading_ends}
+use Rattle.smtrw.proofs.Endings.{accepted_ends, passes_end_so, reading_ends}
 
 -- ---- numbers stay those of a table that grows
 
@@ -139,37 +141,53 @@ module _ (b : List ℕ) (ps : List Pass) (k : ℕ) (cs ds : List (Command Term))
   numbers_behind : AreLiveNumbersOf way.table way.behind → signature_of way.table way.behind ≡ signature ds k → AreNumbersOf way.table way.behind (signature (passed ps cs s).0 k)
   numbers_behind live are = record { live = live; are = are ∙ led; proper = subst IsProper led (law ds k carried.ready.printable) }
 
-  pub leads_over : 1 ≤ k → k ≤ checks cs → list_all can_run ps ≡ true → groups_after_rules ps ≡ false → AreLiveNumbersOf old way.before → signature_of old way.before ≡ signature cs k → AreLiveNumbersOf way.table way.behind → signature_of way.table way.behind ≡ signature ds k
+  pub leads_over : 1 ≤ k → k ≤ checks cs → groups_after_rules ps ≡ false → AreLiveNumbersOf old way.before → signature_of old way.before ≡ signature cs k → AreLiveNumbersOf way.table way.behind → signature_of way.table way.behind ≡ signature ds k
       → IsPlanOver way.table way.plan → IsPlanOf way.table way.plan ps cs s → LeadsOver cs s ps k way
-  leads_over first last run order live_before before live_behind behind over plan = record {
+  leads_over first last order live_before before live_behind behind over plan = record {
     within = (first, last);
     before = numbers_before live_before before;
     behind = numbers_behind live_behind behind;
     over = over;
     plan = plan;
     ready = ready;
-    run = run;
     order = order;
     back = back_over_signatures cs ds ps s k led carried.signatures;
     forth = forth_over_signatures cs ds ps s k led carried.signatures;
   }
 
-  pub way_is : script b ≡ Ok (cs, s) → length b ≤ longest_text → LeadsOver cs s ps k way → IsWay b ps k way
-  way_is reads short leads = record {
+  pub way_is : script b ≡ Ok (cs, s) → length b ≤ longest_text → refused_assertion ps cs s ≡ None → LeadsOver cs s ps k way → IsWay b ps k way
+  way_is reads short accepted leads = record {
     script = accepted_ends b short (cs, s) reads;
     check = check_found b (cs, s) reads k leads.within.1;
-    passes = passes_accept b ps leads.run;
+    passes = passes_end_so b (cs, s) reads ps None accepted;
     leads = leads_from b (cs, s) reads ps k way leads;
   }
 
 -- ---- refusals on the way
 
-pub unread_way : (b : List ℕ) (k : ℕ) (t : Formulas) → length b ≤ longest_text → (f : ScriptFault) → ReadsScript t b (Err f) → EndsOnTheWay b k (status_of_reading f)
+pub unread_way : (b : List ℕ) (k : ℕ) (t : Formulas) → length b ≤ longest_text → (f : ScriptFault) → ReadsScript t b (Err f) → EndsAtScript b k (status_of_reading f)
 unread_way b k t short (ScriptRefused r) reads = reading_ends b short r reads
 unread_way b k t short Memory reads = tt
 
-pub missing_way : (b : List ℕ) (k : ℕ) (t : Formulas) (cs : List NodeCommand) (s : Supply) → script b ≡ Ok (commands_of t cs, s) → length b ≤ longest_text → count_by is_node_check cs < k → EndsOnTheWay b k (Usage (record { word = 0; why = NoSuchCheck k (count_by is_node_check cs) }))
+pub missing_way : (b : List ℕ) (k : ℕ) (t : Formulas) (cs : List NodeCommand) (s : Supply) → script b ≡ Ok (commands_of t cs, s) → length b ≤ longest_text → count_by is_node_check cs < k → EndsAtScript b k (Usage (record { word = 0; why = NoSuchCheck k (count_by is_node_check cs) }))
 missing_way b k t cs s reads short beyond =
     let same = checks_are t cs in
     let fewer : checks (commands_of t cs) < k = omega (arith, beyond, same) in
-    (refl, accepted_ends b short (commands_of t cs, s) reads, check_not_found b (commands_of t cs, s) reads k fewer ∙ ap (λ (n : ℕ). Some (Usage (record { word = 0; why = NoSuchCheck k n }))) (sym same))
+    ((count_by is_node_check cs, refl, beyond), accepted_ends b short (commands_of t cs, s) reads, check_not_found b (commands_of t cs, s) reads k fewer ∙ ap (λ (n : ℕ). Some (Usage (record { word = 0; why = NoSuchCheck k n }))) (sym same))
+
+-- what ends the run before the passes ends it on the way
+pub script_on_the_way : (b : List ℕ) (ps : List Pass) (k : ℕ) (status : Status) → EndsAtScript b k status → EndsOnTheWay b ps k status
+script_on_the_way b ps k Done ends = ends
+script_on_the_way b ps k (Refused r) ends = ends
+script_on_the_way b ps k (Usage u) ends = ends
+script_on_the_way b ps k (ReadFailed word) ends = ends
+script_on_the_way b ps k WriteFailed ends = ends
+script_on_the_way b ps k OutOfMemory ends = ends
+script_on_the_way b ps k (ModelRefused code line byte) ends = ends
+script_on_the_way b ps k (Beyond128 assertion) ends = ends
+script_on_the_way b ps k (PassRefused code assertion) ends = absurd ends
+
+pub refused_way : (b : List ℕ) (ps : List Pass) (k : ℕ) (read : List (Command Term) × Supply) → script b ≡ Ok read → length b ≤ longest_text → k ≤ checks read.0 → (f : PassFault) → ((a : ℕ) → f ≡ QuantifiedUse a → refused_assertion ps read.0 read.1 ≡ Some a)
+    → EndsOnTheWay b ps k (status_of_passing f)
+refused_way b ps k read reads short last (QuantifiedUse a) refused = (accepted_ends b short read reads, check_found b read reads k last, passes_end_so b read reads ps (Some a) (refused a refl))
+refused_way b ps k read reads short last NoMemoryForPassing refused = tt

@@ -1,6 +1,5 @@
 -- What comes of a script behind passes and of a model's text, on the way to the model's text on the other side.
-use Rattle.std.specs.Prelude.{◌≡◌, ℕ, ◌≤◌, false, nat_lt, List, length, count_by, Option, Some, None, Result, Ok, Err, IfSome, IsTrue}
-use Rattle.std.specs.List.{list_all}
+use Rattle.std.specs.Prelude.{◌≡◌, ℕ, ◌≤◌, false, nat_lt, List, length, count_by, Option, Some, None, Result, Ok, Err, IfSome}
 use Rattle.smt_terms.specs.Models.{Model, IsModelOver}
 use Rattle.term_table.specs.Formulas.{Formulas}
 use Rattle.smt_terms.specs.Fresh.{Supply}
@@ -16,11 +15,11 @@ use Rattle.passes.specs.declared.names.Pass.{Pass}
 use Rattle.passes.specs.Carry.{Stage, back, forth}
 use Rattle.passes.specs.Carrying.{IsCheck}
 use Rattle.passes.specs.Laws.{IsReady}
-use Rattle.passes.specs.Lists.{can_run, groups_after_rules}
+use Rattle.passes.specs.Lists.{groups_after_rules}
 use Rattle.passes.specs.Passed.{passed}
 use Rattle.passes.specs.Plans.{IsPlanOf, IsPlanOver}
 use Rattle.smtrw_answers.specs.declared.status.Status.{Status}
-use Rattle.smtrw_answers.specs.declared.status.Status.TheVariants.{Refused, Usage, ReadFailed, OutOfMemory, ModelRefused}
+use Rattle.smtrw_answers.specs.declared.status.Status.TheVariants.{Refused, Usage, ReadFailed, OutOfMemory, ModelRefused, PassRefused}
 use Rattle.smtrw_answers.specs.Asked.{numbered}
 use Rattle.smtrw_answers.specs.Endings.{longest_text, script_end, check_end, passes_end, model_end, text_end}
 use Rattle.smtrw_answers.specs.Outputs.{commands, names_left}
@@ -28,7 +27,7 @@ use Rattle.smtrw_answers.specs.Words.{Word, Numbered, Asked, translate, extend}
 use Rattle.smtrw.specs.declared.carrying.Begun.{Begun}
 use Rattle.smtrw.specs.declared.carrying.Carriage.{Carriage}
 use Rattle.smtrw.specs.declared.carrying.Way.{Way}
-use Rattle.smtrw.specs.Run.{RoseFor}
+use Rattle.smtrw.specs.Run.{IsMissing, RoseFor}
 
 -- ---- what is asked for, beside the word that names the script
 
@@ -46,12 +45,17 @@ CountsFromOne _ = Unit {0}
 
 -- ---- the script and the passes
 
--- a script ends the run so before a model's text is read
-abbrev pub EndsOnTheWay : List ℕ → ℕ → Status → Type 0
-EndsOnTheWay b k (Refused r) = script_end b ≡ Some (Refused r)
-EndsOnTheWay b k (Usage u) = (u.word ≡ 0) × (script_end b ≡ None) × (check_end b k ≡ Some (Usage u))
-EndsOnTheWay b k OutOfMemory = Unit {0}
-EndsOnTheWay b k _ = ⊥
+-- a script, or the number of a check, ends the run so before the passes
+abbrev pub EndsAtScript : List ℕ → ℕ → Status → Type 0
+EndsAtScript b k (Refused r) = script_end b ≡ Some (Refused r)
+EndsAtScript b k (Usage u) = IsMissing k u × (script_end b ≡ None) × (check_end b k ≡ Some (Usage u))
+EndsAtScript b k OutOfMemory = Unit {0}
+EndsAtScript b k _ = ⊥
+
+-- the same with the passes, before a model's text is read
+abbrev pub EndsOnTheWay : List ℕ → List Pass → ℕ → Status → Type 0
+EndsOnTheWay b ps k (PassRefused code assertion) = (script_end b ≡ None) × (check_end b k ≡ None) × (passes_end b ps ≡ Some (PassRefused code assertion))
+EndsOnTheWay b ps k status = EndsAtScript b k status
 
 -- the script b was read over the table, has the check k, and declares so much there
 pub record HasBegun (t : Formulas) (b : List ℕ) (k : ℕ) (begun : Begun) : Type 0 where
@@ -76,7 +80,6 @@ pub record LeadsOver (cs : List (Command Term)) (s : Supply) (ps : List Pass) (k
   pub over : IsPlanOver way.table way.plan
   pub plan : IsPlanOf way.table way.plan ps cs s
   pub ready : IsReady cs s
-  pub run : IsTrue (list_all can_run ps)
   pub order : groups_after_rules ps ≡ false
   -- models stay models over what is declared
   pub back : (m : Model) → IsModelOver (signature (passed ps cs s).0 k).sorts (signature (passed ps cs s).0 k).symbols m → IsModelOver (signature cs k).sorts (signature cs k).symbols (back ps cs s k m)

@@ -3,7 +3,7 @@ use Rattle.std.specs.Prelude.{◌≡◌, ℕ, List, take, Option, Some, None, Re
 use Rattle.smt_io.specs.Told.{with_bytes}
 use Rattle.smt_terms.specs.Sorts.{Name}
 use Rattle.smtrw_answers.specs.declared.status.Status.{Status}
-use Rattle.smtrw_answers.specs.declared.status.Status.TheVariants.{Done, Refused, WriteFailed, OutOfMemory}
+use Rattle.smtrw_answers.specs.declared.status.Status.TheVariants.{Done, Refused, WriteFailed, OutOfMemory, PassRefused}
 use Rattle.smtrw_answers.specs.Words.{Word, Asked, rewrite, model_file_of}
 use Rattle.smtrw_answers.specs.Headline.{IsRewriting}
 use Rattle.smtrw_answers.specs.Written.{IsOutputOf}
@@ -11,9 +11,10 @@ use Rattle.smtrw.specs.Run.{MayEnd, ReadFits, Texts, TextsFit, WhereTold, WordsF
 
 -- ---- of a script alone
 
--- the script ends the run before anything is sent
+-- the script, or a pass that it goes through, ends the run before anything is sent
 abbrev pub EndsEarly : Option Status → Status → Type 0
 EndsEarly end (Refused r) = end ≡ Some (Refused r)
+EndsEarly end (PassRefused code assertion) = end ≡ Some (PassRefused code assertion)
 EndsEarly end OutOfMemory = Unit {0}
 EndsEarly end _ = ⊥
 

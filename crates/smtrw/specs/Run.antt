@@ -1,13 +1,14 @@
 -- What a run of the program may answer, and what it leaves behind at each answer, by what its words ask for.
-use Rattle.std.specs.Prelude.{◌≡◌, ℕ, ◌⊎◌, List, [], take, Option, Some, None, Result, Ok, Err}
+use Rattle.std.specs.Prelude.{◌≡◌, ℕ, ◌<◌, ◌⊎◌, List, [], take, Option, Some, None, Result, Ok, Err}
 use Rattle.smt_io.specs.Counts.{Rose}
 use Rattle.smt_terms.specs.Sorts.{Name}
 use Rattle.smt_io.specs.Told.{with_bytes}
 use Rattle.smtrw_answers.specs.declared.status.Usage.{Usage as UsageFault}
 use Rattle.smtrw_answers.specs.declared.status.Status.{Status}
+use Rattle.smtrw_answers.specs.declared.status.Why.TheVariants.{NoSuchCheck}
 use Rattle.smtrw_answers.specs.declared.status.Status.TheVariants.{Done, Refused, Usage, ReadFailed, WriteFailed, OutOfMemory, ModelRefused, Beyond128, PassRefused}
 use Rattle.smtrw_answers.specs.Words.{Word, Numbered, Asked, rewrite, translate, extend, file_of, model_file_of}
-use Rattle.smtrw_answers.specs.Endings.{or_later, script_end, check_end, end_of}
+use Rattle.smtrw_answers.specs.Endings.{or_later, script_end, check_end, passes_end, end_of}
 use Rattle.smtrw_answers.specs.Headline.{IsRewriting}
 use Rattle.smtrw_answers.specs.Written.{IsOutputOf}
 
@@ -24,17 +25,31 @@ CarriesModel (translate passes check script model) = Unit {0}
 CarriesModel (extend passes check script model) = Unit {0}
 CarriesModel _ = ⊥
 
--- `Usage` comes exactly where the words have a fault, and is that one; else it says of no word that a check is missing
+-- the commands that run passes
+abbrev pub RunsPasses : Asked → Type 0
+RunsPasses (rewrite passes layout script) = Unit {0}
+RunsPasses asked = CarriesModel asked
+
+-- the check at which a model is carried is missing: there are fewer
+abbrev pub IsMissing : ℕ → UsageFault → Type 0
+IsMissing check fault = (n : ℕ) × (fault ≡ record { word = 0; why = NoSuchCheck check n }) × (n < check)
+
+abbrev pub MissesCheck : Asked → UsageFault → Type 0
+MissesCheck (translate passes check script model) fault = IsMissing check fault
+MissesCheck (extend passes check script model) fault = IsMissing check fault
+MissesCheck _ fault = ⊥
+
+-- `Usage` comes exactly where the words have a fault, and is that one; else it says of no word that the check is missing
 abbrev pub WordsFit : Result Asked UsageFault → Status → Type 0
 WordsFit (Err fault) status = status ≡ Usage fault
-WordsFit (Ok asked) (Usage fault) = (fault.word ≡ 0) × CarriesModel asked
+WordsFit (Ok asked) (Usage fault) = MissesCheck asked fault
 WordsFit (Ok asked) _ = Unit {0}
 
--- a model is refused, and a value or a width of a term, only where a model is carried; and no pass refuses
+-- a model is refused, and a value or a width of a term, only where a model is carried; a pass refuses only where passes are run
 abbrev pub MayEnd : Asked → Status → Type 0
 MayEnd asked (ModelRefused code line byte) = CarriesModel asked
 MayEnd asked (Beyond128 assertion) = CarriesModel asked
-MayEnd asked (PassRefused code assertion) = (code ≡ 71) × CarriesModel asked
+MayEnd asked (PassRefused code assertion) = ((code ≡ 50) × RunsPasses asked) ⊎ ((code ≡ 71) × CarriesModel asked)
 MayEnd asked _ = Unit {0}
 
 -- ---- the texts that the words name
@@ -77,18 +92,30 @@ WriteFits before now _ = Unit {0}
 
 -- ---- how it ends by its texts
 
--- a told script is refused exactly where it is too long or isn't accepted, and so; a check is missing exactly where it has fewer
 abbrev pub check_end_of : Asked → List ℕ → Option Status
 check_end_of (translate passes check script model) b = check_end b check
 check_end_of (extend passes check script model) b = check_end b check
 check_end_of _ b = None
 
+abbrev pub passes_end_of : Asked → List ℕ → Option Status
+passes_end_of (rewrite passes layout script) b = passes_end b passes
+passes_end_of (translate passes check script model) b = passes_end b passes
+passes_end_of (extend passes check script model) b = passes_end b passes
+passes_end_of _ b = None
+
+-- before a model is read
+abbrev pub early_end : Asked → List ℕ → Option Status
+early_end asked b = or_later (script_end b) (or_later (check_end_of asked b) (passes_end_of asked b))
+
+-- a told script is refused exactly where it is too long or isn't accepted, and so; a check is missing exactly where it has fewer,
+-- and a pass refuses exactly where it meets what it refuses
 abbrev pub ScriptFits : Asked → List ℕ → Status → Type 0
-ScriptFits asked b (Refused r) = script_end b ≡ Some (Refused r)
-ScriptFits asked b (Usage u) = or_later (script_end b) (check_end_of asked b) ≡ Some (Usage u)
+ScriptFits asked b (Refused r) = early_end asked b ≡ Some (Refused r)
+ScriptFits asked b (Usage u) = early_end asked b ≡ Some (Usage u)
+ScriptFits asked b (PassRefused code assertion) = (early_end asked b ≡ Some (PassRefused code assertion)) ⊎ ((code ≡ 71) × (early_end asked b ≡ None))
 ScriptFits asked b (ReadFailed word) = Unit {0}
 ScriptFits asked b OutOfMemory = Unit {0}
-ScriptFits asked b _ = or_later (script_end b) (check_end_of asked b) ≡ None
+ScriptFits asked b _ = early_end asked b ≡ None
 
 -- the same with a told model: the run ends as the texts say
 abbrev pub EndFits : Option Status → Status → Type 0

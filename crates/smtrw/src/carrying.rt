@@ -13,10 +13,10 @@ ghost use Rattle.model_texts.specs.Proper.{IsProper};
 ghost use Rattle.smtrw_answers.specs.declared.status.Why.TheVariants.{NoSuchCheck};
 ghost use Rattle.smtrw_answers.specs.Asked.{numbered};
 ghost use Rattle.smtrw_answers.specs.Words.{Numbered};
-ghost use Rattle.smtrw.specs.Carrying.{EndsAtFile, EndsOnTheWay, HasBegun, IsModelRead, IsWay, IsWayOfSome, ReadsText, extension, translation};
+ghost use Rattle.smtrw.specs.Carrying.{EndsAtFile, EndsAtScript, EndsOnTheWay, HasBegun, IsModelRead, IsWay, IsWayOfSome, ReadsText, extension, translation};
 ghost use Rattle.smtrw.specs.Prepared.{EndsBefore, IsPrepared, texts_beside};
 
-use crate::rewriting::passes_can_run;
+use crate::rewriting::know_passes;
 use model_texts::laws::printable_signatures_are_proper;
 use model_texts::{model_text, read_model};
 use models::{Model, Signature, signature_at};
@@ -148,13 +148,13 @@ fn way_over(
     requires short { length forest.now.bytes ≤ longest_text }
     requires first { 1 ≤ check }
     ensures way { IfOk result (IsWay forest.now.bytes passes.now check) }
-    ensures ends { IfErr result (EndsOnTheWay forest.now.bytes check) }
+    ensures ends { IfErr result (EndsOnTheWay forest.now.bytes passes.now check) }
 {
     reading_gives_a_printable_script();
     names_left_are_new();
     signatures_stay_led();
     printable_signatures_are_proper();
-    passes_can_run(passes);
+    know_passes(passes);
     let mut table = Table::new(alloc);
     let begun = read_with_check(alloc, &mut table, forest, check)?;
     let mut fresh = begun.fresh;
@@ -187,7 +187,7 @@ fn read_with_check(
     requires short { length forest.now.bytes ≤ longest_text }
     requires first { 1 ≤ check }
     ensures begun { IfOk result (HasBegun table.new forest.now.bytes check) }
-    ensures ends { IfErr result (EndsOnTheWay forest.now.bytes check) }
+    ensures ends { IfErr result (EndsAtScript forest.now.bytes check) }
 {
     reading_gives_a_printable_script();
     let (script, fresh) = read_script(alloc, table, forest)?;

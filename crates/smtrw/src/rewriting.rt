@@ -1,10 +1,9 @@
 //! `rewrite`: the script behind the passes, printed again.
 
-ghost use Rattle.std.specs.Prelude.{◌≡◌, ◌≤◌, false, length, IfOk, IsTrue};
-ghost use Rattle.std.specs.List.{list_all};
+ghost use Rattle.std.specs.Prelude.{◌≡◌, ◌≤◌, false, length, IfOk};
 ghost use Rattle.script_terms.specs.Places.{IsRead};
 ghost use Rattle.smt_io.specs.Told.{longest_text};
-ghost use Rattle.passes.specs.Lists.{can_run, groups_after_rules};
+ghost use Rattle.passes.specs.Lists.{groups_after_rules};
 ghost use Rattle.smtrw_answers.specs.Endings.{rewrite_end};
 ghost use Rattle.smtrw_answers.specs.Headline.{IsRewriting};
 ghost use Rattle.smtrw_answers.specs.Outputs.{MayBeWritten};
@@ -37,7 +36,7 @@ pub fn rewritten(
     rewriting_keeps_its_promise();
     reading_gives_a_printable_script();
     names_left_are_new();
-    passes_can_run(passes);
+    know_passes(passes);
     let mut table = Table::new(alloc);
     let (script, mut fresh) = read_script(alloc, &mut table, &forest)?;
     // The script stands by itself. Of what it was read from the memory of the text is written over again.
@@ -50,10 +49,9 @@ pub fn rewritten(
     Ok(text)
 }
 
-/// The passes of a list can be run, and none that makes groups stands behind `rules`.
-pub fn passes_can_run(passes: &Passes)
-    ensures run { IsTrue (list_all can_run passes.now) }
-    ensures order { groups_after_rules passes.now ≡ false }
+/// No pass of a list that makes groups stands behind `rules`.
+pub fn know_passes(passes: &Passes)
+    ensures { groups_after_rules passes.now ≡ false }
 {
     passes.len();
 }

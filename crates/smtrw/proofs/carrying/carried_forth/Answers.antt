@@ -34,7 +34,7 @@ printed-requires-clause-over g c =
     let is = c.requires.1 in
     let told = g.I.Inputs.text c.args.inputs.now asked.model.name.now in
     extended_over b ps asked.check c.args.way.now is told (numbered asked.model) (numbered asked.model) c.in_ok-model.model c.in_ok-model.ensures.model c.in_ok-model-2.model
-    (c.in_ok-model-2.ensures ps (commands b) (names_left b) is.leads.plan is.leads.ready is.leads.run is.leads.order)
+    (c.in_ok-model-2.ensures ps (commands b) (names_left b) is.leads.plan is.leads.ready is.leads.order)
 
 pub returns-in_err-model-clause-before : goal.returns-in_err-model-clause-before
 returns-in_err-model-clause-before g c = λ b script is.
@@ -55,7 +55,7 @@ returns-in_err-model-2-clause-before g c = λ b script is.
     let fault = c.in_err-model-2.field-0.0 in
     if_refused _ (EndsBefore (texts_beside b (g.I.Inputs.text c.args.inputs.now) (extension script asked)) before now (extension script asked)) (status_of_carrying fault) c.from_residual-in_err-model-2.ensures.1
     (extending_carried b ps asked.check c.args.way.now is told script (numbered asked.model) before now c.in_ok-model.model c.in_ok-model.ensures.model fault
-    (c.in_err-model-2.ensures ps (commands b) (names_left b) is.leads.plan is.leads.ready is.leads.run is.leads.order))
+    (c.in_err-model-2.ensures ps (commands b) (names_left b) is.leads.plan is.leads.ready is.leads.order))
 
 pub returns-in_err-text-clause-before : goal.returns-in_err-text-clause-before
 returns-in_err-text-clause-before g c = λ b script is.
@@ -71,4 +71,4 @@ returns-clause-text g c = λ b script rules is.
     let ps = asked.passes.now in
     let told = g.I.Inputs.text c.args.inputs.now asked.model.name.now in
     extended_prepared b ps asked.check c.args.way.now is told script (numbered asked.model) c.in_ok-model.model c.in_ok-model.ensures.model c.in_ok-model-2.model
-    (c.in_ok-model-2.ensures ps (commands b) (names_left b) is.leads.plan is.leads.ready is.leads.run is.leads.order) rules c.in_ok-text.text c.in_ok-text.ensures
+    (c.in_ok-model-2.ensures ps (commands b) (names_left b) is.leads.plan is.leads.ready is.leads.order) rules c.in_ok-text.text c.in_ok-text.ensures

@@ -3,7 +3,7 @@ use Rattle.smt_terms.specs.Fresh.{Supply}
 use Rattle.smt_terms.specs.Term.{Term}
 use Rattle.script_read.specs.CommandLists.{commands_of}
 use Rattle.script_read.specs.Commands.{Command}
-use Rattle.smtrw.specs.Carrying.{EndsOnTheWay}
+use Rattle.smtrw.specs.Carrying.{EndsAtScript}
 use Rattle.smtrw.proofs.CarriedModels.{if_refused}
 use Rattle.smtrw.proofs.Ways.{missing_way}
 use Rattle.smtrw.proofs.carrying.read_with_check.Goals as goal
@@ -18,6 +18,6 @@ returns-in_err-find_check-clause-ends c =
     let b = c.args.forest.now.bytes in
     let k = c.args.check in
     let missing = c.in_err-find_check.ensures.missing in
-    if_refused _ (EndsOnTheWay b k) c.in_err-find_check.field-0.0 c.from_residual-in_err-find_check.ensures.1
-    (subst (EndsOnTheWay b k) (sym missing.1)
+    if_refused _ (EndsAtScript b k) c.in_err-find_check.field-0.0 c.from_residual-in_err-find_check.ensures.1
+    (subst (EndsAtScript b k) (sym missing.1)
     (missing_way b k c.read_script.new.table c.in_ok-script.script.commands c.in_ok-script.fresh c.in_ok-script.ensures.script c.requires.short missing.0))
