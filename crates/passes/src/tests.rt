@@ -26,7 +26,8 @@ fn lists(rt: HostRuntime) {
         ("nnf,rules,nnf", Ok(3)),
         ("ite,cnf,rules", Ok(3)),
         ("rules,nnf,cnf", Err(ListFault::AfterRules)),
-        ("rules,ackermann", Err(ListFault::BadPass)),
+        ("ackermann,rules", Ok(2)),
+        ("rules,ackermann", Err(ListFault::AfterRules)),
     ] {
         assert!(rt; count_of(text) == count, "{text}");
     }
