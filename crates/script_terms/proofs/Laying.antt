@@ -1,6 +1,7 @@
 -- Names on levels: what is found, bound, opened and closed in the order of declaration.
-use Rattle.std.proofs.Common.{◌≡◌, ℕ, zero, suc, ◌+◌, ◌-◌, ◌≤◌, ◌<◌, Bool, true, false, cond, ◌&&◌, ◌||◌, List, [], ◌∷◌, ◌++◌, map, reverse, take, drop, length, get_or, count_by, replicate, Option, Some, None, refl, ap, sym, ◌∙◌, subst, arith, true≢false, append-nil, append_assoc, is_some, if◌then◌else◌}
-use Rattle.std.proofs.lemmas.List.{reverse-append, take-append-drop, take_all, drop_all, length-append, length-reverse, length-drop, length-take, get_or-reverse, get_or_past}
+use Rattle.std.proofs.Common.{◌≡◌, ℕ, zero, suc, ◌+◌, ◌-◌, ◌≤◌, ◌<◌, Bool, true, false, cond, ◌&&◌, ◌||◌, List, [], ◌∷◌, ◌++◌, map, reverse, take, drop, length, count_by, replicate, Option, Some, None, refl, ap, sym, ◌∙◌, subst, arith, true≢false, append-nil, append_assoc, is_some, if◌then◌else◌}
+use Rattle.std.proofs.lemmas.List.{reverse-append, take-append-drop, take_all, drop_all, length-append, length-take}
+use Rattle.std.proofs.lemmas.List.Elements.{All-push}
 use Rattle.std.proofs.lemmas.List.Sums.{sum_by-cons}
 use Rattle.std.proofs.lemmas.Slice.Eq.{bytes_eq-Decides}
 use Rattle.std.specs.Borrow.{Bor}
@@ -13,7 +14,9 @@ use Rattle.smt_terms.proofs.Tests.{alike_from}
 use Rattle.script_terms.specs.Scope.{or_later, opened, closed, merged, popped, flattened, emptied}
 use Rattle.script_terms.specs.declared.scopes.Entry.{Entry}
 use Rattle.script_terms.specs.Known.{Scoped, find, is_mark, is_symbol_entry, declared_among}
-use Rattle.script_terms.specs.Laid.{borrowed, laid, AreMarks, has, AreOnce, IsLaid}
+use Rattle.script_terms.specs.declared.levels.Run.{Run}
+use Rattle.script_terms.specs.Laid.{borrowed, laid, AreMarks, has, AreOnce, IsLaid, starts_of, AreOpen, IsCut}
+use Rattle.script_terms.proofs.EndedRuns.{starts-last, replicated, more-levels}
 
 -- ---- lists
 
@@ -116,7 +119,7 @@ marks-in (x ∷ xs) ys = marks-in xs ys
 next : (n : ℕ) → 1 + n ≡ suc n
 next n = omega arith
 
-pub levels-laid : {A : Type 0} (ms : List ℕ) (es : List (Name × A)) → count_by is_mark (laid ms es) ≡ length ms
+levels-laid : {A : Type 0} (ms : List ℕ) (es : List (Name × A)) → count_by is_mark (laid ms es) ≡ length ms
 levels-laid [] es = ap (count_by is_mark) (sym (append-nil (plain es))) ∙ marks-in (reverse es) []
 levels-laid (m ∷ ms) es =
     marks-in (reverse (drop m es)) (None ∷ laid ms (take m es)) ∙ one_more (laid ms (take m es)) ∙ ap (λ n. 1 + n) (levels-laid ms (take m es)) ∙ next (length ms)
@@ -214,14 +217,6 @@ opened-one ms es = ap (λ xs. plain xs ++ None ∷ laid ms (take (length es) es)
 pub opened-laid : {A : Type 0} (ms : List ℕ) (es : List (Name × A)) → IsLaid ms es → IsLaid (length es ∷ ms) es
 opened-laid ms es is = record { marks = (omega arith, is.marks); once = is.once }
 
-push-last : {A : Type 0} (n : ℕ) (a : A) → replicate n a ++ a ∷ [] ≡ a ∷ replicate n a
-push-last zero a = refl
-push-last (suc n) a = ap (λ xs. a ∷ xs) (push-last n a)
-
-reverse-replicate : {A : Type 0} (n : ℕ) (a : A) → reverse (replicate n a) ≡ replicate n a
-reverse-replicate zero a = refl
-reverse-replicate (suc n) a = reverse-append (a ∷ []) (replicate n a) ∙ ap (λ xs. xs ++ a ∷ []) (reverse-replicate n a) ∙ push-last n a
-
 opened-many : {A : Type 0} (n : ℕ) (ms : List ℕ) (es : List (Name × A)) → laid (replicate n (length es) ++ ms) es ≡ opened None n (laid ms es)
 opened-many zero ms es = refl
 opened-many (suc n) ms es = opened-one (replicate n (length es) ++ ms) es ∙ ap (λ xs. None ∷ xs) (opened-many n ms es)
@@ -230,23 +225,17 @@ opened-many-laid : {A : Type 0} (n : ℕ) (ms : List ℕ) (es : List (Name × A)
 opened-many-laid zero ms es is = is
 opened-many-laid (suc n) ms es is = opened-laid (replicate n (length es) ++ ms) es (opened-many-laid n ms es is)
 
-more-levels : (n b : ℕ) (marks news : List ℕ) → news ≡ take (length marks + n) marks ++ replicate (length marks + n - length marks) b → reverse news ≡ replicate n b ++ reverse marks
-more-levels n b marks news e =
-    ap reverse (e ∙ (λ i. take_all (length marks + n) marks (omega arith) i ++ replicate (over (length marks) n i) b))
-    ∙ reverse-append marks (replicate n b)
-    ∙ ap (λ xs. xs ++ reverse marks) (reverse-replicate n b)
-  where
-    over : (l n : ℕ) → l + n - l ≡ n
-    over l n = omega arith
+length-named : {A : Type 0} (es : List (Bor (List ℕ) × A)) → length (borrowed es) ≡ length es
+length-named [] = refl
+length-named (e ∷ es) = ap suc (length-named es)
 
-pub opened-names : {A : Type 0} (n : ℕ) (marks news : List ℕ) (es : List (Name × A))
-    → news ≡ take (length marks + n) marks ++ replicate (length marks + n - length marks) (length es)
-    → laid (reverse news) es ≡ opened None n (laid (reverse marks) es)
-opened-names n marks news es e = ap (λ ms. laid ms es) (more-levels n (length es) marks news e) ∙ opened-many n (reverse marks) es
+opened-names : {A : Type 0} (n b : ℕ) (ms : List ℕ) (es : List (Bor (List ℕ) × A)) → b ≡ length es
+    → laid (replicate n b ++ ms) (borrowed es) ≡ opened None n (laid ms (borrowed es))
+opened-names n b ms es e = ap (λ k. laid (replicate n k ++ ms) (borrowed es)) (e ∙ sym (length-named es)) ∙ opened-many n ms (borrowed es)
 
-pub opened-is-laid : {A : Type 0} (n : ℕ) (marks news : List ℕ) (es : List (Name × A))
-    → news ≡ take (length marks + n) marks ++ replicate (length marks + n - length marks) (length es) → IsLaid (reverse marks) es → IsLaid (reverse news) es
-opened-is-laid n marks news es e is = subst (λ ms. IsLaid ms es) (sym (more-levels n (length es) marks news e)) (opened-many-laid n (reverse marks) es is)
+opened-is-laid : {A : Type 0} (n b : ℕ) (ms : List ℕ) (es : List (Bor (List ℕ) × A)) → b ≡ length es → IsLaid ms (borrowed es)
+    → IsLaid (replicate n b ++ ms) (borrowed es)
+opened-is-laid n b ms es e is = subst (λ k. IsLaid (replicate n k ++ ms) (borrowed es)) (sym (e ∙ sym (length-named es))) (opened-many-laid n ms (borrowed es) is)
 
 -- ---- closing
 
@@ -322,86 +311,48 @@ flattened-laid [] es = ap (flattened is_mark) (sym (append-nil (plain es))) ∙ 
 flattened-laid (m ∷ ms) es =
     flattened-plain (reverse (drop m es)) (None ∷ laid ms (take m es)) ∙ ap (λ zs. plain (drop m es) ++ zs) (flattened-laid ms (take m es)) ∙ plain-cut m es
 
-pub length-named : {A : Type 0} (es : List (Bor (List ℕ) × A)) → length (borrowed es) ≡ length es
-length-named [] = refl
-length-named (e ∷ es) = ap suc (length-named es)
-
--- ---- closing, by the last names and marks
+-- ---- closing levels that were opened at once
 
 drop-append : {A : Type 0} (n : ℕ) (xs ys : List A) → length xs ≡ n → drop n (xs ++ ys) ≡ ys
 drop-append n [] ys e = ap (λ k. drop k ys) (sym e)
 drop-append zero (x ∷ xs) ys e = absurd (omega (arith, e))
 drop-append (suc n) (x ∷ xs) ys e = drop-append n xs ys (omega (arith, e))
 
--- the latest n of a list that has its latest last
-pub drop-reverse : {A : Type 0} (n : ℕ) (xs : List A) → n ≤ length xs → drop n (reverse xs) ≡ reverse (take (length xs - n) xs)
-drop-reverse n xs few =
-    let k = length xs - n in
-    ap (λ zs. drop n (reverse zs)) (sym (take-append-drop k xs))
-    ∙ ap (drop n) (reverse-append (take k xs) (drop k xs))
-    ∙ drop-append n (reverse (drop k xs)) (reverse (take k xs))
-    (length-reverse (drop k xs) ∙ length-drop k xs ∙ back (length xs) n few)
-  where
-    back : (l n : ℕ) → n ≤ l → l - (l - n) ≡ n
-    back l n few = omega (arith, few)
+below : (n b : ℕ) (ms : List ℕ) → drop n (replicate n b ++ ms) ≡ ms
+below n b ms = drop-append n (replicate n b) ms (replicated n b)
 
-take-least : {A : Type 0} (k m : ℕ) (es : List A) → k ≤ m → take k (take m es) ≡ take k es
-take-least zero m es le = refl
-take-least (suc k) zero es le = absurd (omega (arith, le))
-take-least (suc k) (suc m) [] le = refl
-take-least (suc k) (suc m) (e ∷ es) le = ap (λ zs. e ∷ zs) (take-least k m es (omega (arith, le)))
+no_more : (n b : ℕ) (ms : List ℕ) → n ≤ length (replicate n b ++ ms)
+no_more n b ms = let l = more-levels n b ms in omega (arith, l)
 
-within-marks : (n i : ℕ) (ms : List ℕ) → AreMarks n ms → i < length ms → get_or ms i n ≤ n
-within-marks n i [] marks few = absurd (omega (arith, few))
-within-marks n zero (m ∷ ms) marks few = marks.0
-within-marks n (suc i) (m ∷ ms) marks few = within-marks n i ms (more-marks m n ms marks.0 marks.1) (omega (arith, few))
+take-again : {A : Type 0} (n : ℕ) (xs : List A) → take n (take n xs) ≡ take n xs
+take-again zero xs = refl
+take-again (suc n) [] = refl
+take-again (suc n) (x ∷ xs) = ap (λ zs. x ∷ zs) (take-again n xs)
 
-left-take : {A : Type 0} (n d : ℕ) (ms : List ℕ) (es : List A) → suc n ≤ length ms → AreMarks (length es) ms → left_of (suc n) ms es ≡ take (get_or ms n d) es
-left-take n d [] es few marks = absurd (omega (arith, few))
-left-take zero d (m ∷ ms) es few marks = refl
-left-take (suc n) d (m ∷ []) es few marks = absurd (omega (arith, few))
-left-take (suc n) d (m ∷ k ∷ ms) es few marks =
-    left-take n d (k ∷ ms) (take m es) (omega (arith, few)) (let e = length-take m es in more-marks m (length (take m es)) (k ∷ ms) (omega (arith, marks.0, e)) marks.1)
-    ∙ take-least (get_or (k ∷ ms) n d) m es (at_most n d (k ∷ ms) m (omega (arith, few)) marks.1)
-  where
-    at_most : (n d : ℕ) (ms : List ℕ) (m : ℕ) → n < length ms → AreMarks m ms → get_or ms n d ≤ m
-    at_most n d [] m few marks = absurd (omega (arith, few))
-    at_most zero d (k ∷ ms) m few marks = marks.0
-    at_most (suc n) d (k ∷ ms) m few marks = at_most n d ms m (omega (arith, few)) (more-marks k m ms marks.0 marks.1)
+left-again : {A : Type 0} (n b : ℕ) (ms : List ℕ) (es : List A) → left_of n (replicate n b ++ ms) (take b es) ≡ take b es
+left-again zero b ms es = refl
+left-again (suc n) b ms es = ap (left_of n (replicate n b ++ ms)) (take-again b es) ∙ left-again n b ms es
+
+left-below : {A : Type 0} (n b : ℕ) (ms : List ℕ) (es : List A) → 0 < n → left_of n (replicate n b ++ ms) es ≡ take b es
+left-below zero b ms es some = absurd (omega (arith, some))
+left-below (suc n) b ms es some = left-again n b ms es
 
 named-take : {A : Type 0} (k : ℕ) (es : List (Bor (List ℕ) × A)) → borrowed (take k es) ≡ take k (borrowed es)
 named-take zero es = refl
 named-take (suc k) [] = refl
 named-take (suc k) (e ∷ es) = ap (λ zs. (e.0.now, e.1) ∷ zs) (named-take k es)
 
--- the names below the latest n levels
-left-named : {A : Type 0} (n : ℕ) (marks : List ℕ) (es : List (Bor (List ℕ) × A)) → n ≤ length marks → AreMarks (length (borrowed es)) (reverse marks)
-    → left_of n (reverse marks) (borrowed es) ≡ borrowed (take (get_or marks (length marks - n) (length es)) es)
-left-named zero marks es few is =
-    sym (take_all (length (borrowed es)) (borrowed es) (omega arith))
-    ∙ ap (λ k. take k (borrowed es)) (length-named es)
-    ∙ sym (named-take (length es) es)
-    ∙ ap (λ k. borrowed (take k es)) (sym (get_or_past marks (length marks - 0) (length es) (omega arith)))
-left-named (suc n) marks es few is =
-    let whole = length-reverse marks in
-    left-take n (length es) (reverse marks) (borrowed es) (omega (arith, few, whole)) is
-    ∙ ap (λ k. take k (borrowed es)) (get_or-reverse marks n (length es) (omega (arith, few)) ∙ ap (λ k. get_or marks k (length es)) (places (length marks) n))
-    ∙ sym (named-take (get_or marks (length marks - suc n) (length es)) es)
-  where
-    places : (l n : ℕ) → l - 1 - n ≡ l - suc n
-    places l n = omega arith
+left-named : {A : Type 0} (n b : ℕ) (ms : List ℕ) (es : List (Bor (List ℕ) × A)) → 0 < n → left_of n (replicate n b ++ ms) (borrowed es) ≡ borrowed (take b es)
+left-named n b ms es some = left-below n b ms (borrowed es) some ∙ sym (named-take b es)
 
-pub closed-names : {A : Type 0} (n : ℕ) (marks : List ℕ) (es : List (Bor (List ℕ) × A)) → n ≤ length marks → IsLaid (reverse marks) (borrowed es)
-    → laid (reverse (take (length marks - n) marks)) (borrowed (take (get_or marks (length marks - n) (length es)) es)) ≡ closed is_mark n (laid (reverse marks) (borrowed es))
-closed-names n marks es few is =
-    let whole = length-reverse marks in
-    sym (closed-laid n (reverse marks) (borrowed es) (omega (arith, few, whole)) ∙ (λ i. laid (drop-reverse n marks few i) (left-named n marks es few is.marks i)))
+closed-names : {A : Type 0} (n b : ℕ) (ms : List ℕ) (es : List (Bor (List ℕ) × A)) → 0 < n
+    → laid ms (borrowed (take b es)) ≡ closed is_mark n (laid (replicate n b ++ ms) (borrowed es))
+closed-names n b ms es some =
+    sym (closed-laid n (replicate n b ++ ms) (borrowed es) (no_more n b ms) ∙ (λ i. laid (below n b ms i) (left-named n b ms es some i)))
 
-pub merged-names : {A : Type 0} (n : ℕ) (marks : List ℕ) (es : List (Name × A)) → n ≤ length marks → IsLaid (reverse marks) es
-    → laid (reverse (take (length marks - n) marks)) es ≡ merged is_mark n (laid (reverse marks) es)
-merged-names n marks es few is =
-    let whole = length-reverse marks in
-    sym (merged-laid n (reverse marks) es (omega (arith, few, whole)) is.marks ∙ ap (λ ms. laid ms es) (drop-reverse n marks few))
+merged-names : {A : Type 0} (n b : ℕ) (ms : List ℕ) (es : List (Name × A)) → IsLaid (replicate n b ++ ms) es
+    → laid ms es ≡ merged is_mark n (laid (replicate n b ++ ms) es)
+merged-names n b ms es is = sym (merged-laid n (replicate n b ++ ms) es (no_more n b ms) is.marks ∙ ap (λ ks. laid ks es) (below n b ms))
 
 -- ---- what is left keeps its order
 
@@ -429,27 +380,19 @@ marks-drop zero k ms marks = marks
 marks-drop (suc n) k [] marks = tt
 marks-drop (suc n) k (m ∷ ms) marks = marks-drop n k ms (more-marks m k ms marks.0 marks.1)
 
-pub closed-is-laid : {A : Type 0} (n : ℕ) (marks : List ℕ) (es : List (Bor (List ℕ) × A)) → n ≤ length marks → IsLaid (reverse marks) (borrowed es)
-    → IsLaid (reverse (take (length marks - n) marks)) (borrowed (take (get_or marks (length marks - n) (length es)) es))
-closed-is-laid n marks es few is = record {
-  marks = subst (λ zs. AreMarks (length zs) (reverse (take (length marks - n) marks))) (left-named n marks es few is.marks)
-      (subst (AreMarks (length (left_of n (reverse marks) (borrowed es)))) (drop-reverse n marks few) (marks-left n (reverse marks) (borrowed es) is.marks));
-  once = subst AreOnce (sym (named-take (get_or marks (length marks - n) (length es)) es)) (once-take (get_or marks (length marks - n) (length es)) (borrowed es) is.once);
+closed-is-laid : {A : Type 0} (n b : ℕ) (ms : List ℕ) (es : List (Bor (List ℕ) × A)) → 0 < n → IsLaid (replicate n b ++ ms) (borrowed es)
+    → IsLaid ms (borrowed (take b es))
+closed-is-laid n b ms es some is = record {
+  marks = subst (λ zs. AreMarks (length zs) ms) (left-named n b ms es some)
+      (subst (AreMarks (length (left_of n (replicate n b ++ ms) (borrowed es)))) (below n b ms) (marks-left n (replicate n b ++ ms) (borrowed es) is.marks));
+  once = subst AreOnce (sym (named-take b es)) (once-take b (borrowed es) is.once);
 }
 
-pub merged-is-laid : {A : Type 0} (n : ℕ) (marks : List ℕ) (es : List (Name × A)) → n ≤ length marks → IsLaid (reverse marks) es
-    → IsLaid (reverse (take (length marks - n) marks)) es
-merged-is-laid n marks es few is = record {
-  marks = subst (AreMarks (length es)) (drop-reverse n marks few) (marks-drop n (length es) (reverse marks) is.marks);
+merged-is-laid : {A : Type 0} (n b : ℕ) (ms : List ℕ) (es : List (Name × A)) → IsLaid (replicate n b ++ ms) es → IsLaid ms es
+merged-is-laid n b ms es is = record {
+  marks = subst (AreMarks (length es)) (below n b ms) (marks-drop n (length es) (replicate n b ++ ms) is.marks);
   once = is.once;
 }
-
-pub few-levels : {A : Type 0} (n : ℕ) (marks : List ℕ) (es : List (Name × A)) (ys : List (Scoped A)) → laid (reverse marks) es ≡ ys → n ≤ count_by is_mark ys → n ≤ length marks
-few-levels n marks es ys e few =
-    let levels = levels-laid (reverse marks) es in
-    let whole = length-reverse marks in
-    let same = ap (count_by is_mark) e in
-    omega (arith, few, levels, whole, same)
 
 -- ---- declared symbols
 
@@ -561,7 +504,86 @@ pub levels-emptied : {A : Type 0} (keeps : Bool) (ys : List (Scoped A)) → coun
 levels-emptied true ys = levels-flattened ys
 levels-emptied false ys = refl
 
-pub resized : {A : Type 0} (n : ℕ) (marks news : List ℕ) (es : List (Bor (List ℕ) × A)) (l b : ℕ) → l ≡ length marks → b ≡ length es
-    → news ≡ take (l + n) marks ++ replicate (l + n - l) b
-    → news ≡ take (length marks + n) marks ++ replicate (length marks + n - length marks) (length (borrowed es))
-resized n marks news es l b e f is = is ∙ (λ i. take (e i + n) marks ++ replicate (e i + n - e i) ((f ∙ sym (length-named es)) i))
+-- ---- closing levels, some after others
+
+pub popped-none : {A : Type 0} (keeps : Bool) (ys : List (Scoped A)) → popped is_mark keeps zero ys ≡ ys
+popped-none true ys = merged-none ys
+popped-none false ys = closed-none ys
+
+none_more : (k : ℕ) → 0 + k ≡ k
+none_more k = omega arith
+
+one_of : (n k : ℕ) → suc n + k ≡ suc (n + k)
+one_of n k = omega arith
+
+closed-more : {A : Type 0} (n k : ℕ) (ys : List (Scoped A)) → closed is_mark (n + k) ys ≡ closed is_mark k (closed is_mark n ys)
+closed-more n k [] = refl
+closed-more zero k (y ∷ ys) = ap (λ m. closed is_mark m (y ∷ ys)) (none_more k)
+closed-more (suc n) k (None ∷ ys) = ap (λ m. closed is_mark m (None ∷ ys)) (one_of n k) ∙ closed-more n k ys
+closed-more (suc n) k (Some p ∷ ys) =
+    ap (λ m. closed is_mark m (Some p ∷ ys)) (one_of n k) ∙ ap (λ m. closed is_mark m ys) (sym (one_of n k)) ∙ closed-more (suc n) k ys
+
+merged-more : {A : Type 0} (n k : ℕ) (ys : List (Scoped A)) → merged is_mark (n + k) ys ≡ merged is_mark k (merged is_mark n ys)
+merged-more n k [] = refl
+merged-more zero k (y ∷ ys) = ap (λ m. merged is_mark m (y ∷ ys)) (none_more k)
+merged-more (suc n) k (None ∷ ys) = ap (λ m. merged is_mark m (None ∷ ys)) (one_of n k) ∙ merged-more n k ys
+merged-more (suc n) k (Some p ∷ ys) =
+    ap (λ m. merged is_mark m (Some p ∷ ys)) (one_of n k)
+    ∙ ap (λ m. Some p ∷ merged is_mark m ys) (sym (one_of n k))
+    ∙ ap (λ zs. Some p ∷ zs) (merged-more (suc n) k ys)
+    ∙ sym (merged-under k (p ∷ []) (merged is_mark (suc n) ys))
+
+pub popped-more : {A : Type 0} (keeps : Bool) (n k : ℕ) (ys : List (Scoped A)) → popped is_mark keeps (n + k) ys ≡ popped is_mark keeps k (popped is_mark keeps n ys)
+popped-more true n k ys = merged-more n k ys
+popped-more false n k ys = closed-more n k ys
+
+-- ---- levels as they are kept
+
+pub levels-cut : {A : Type 0} (rs : List Run) (k : ℕ) (es : List (Name × A)) (ys : List (Scoped A)) → IsCut rs k es → laid (starts_of rs) es ≡ ys → k ≡ count_by is_mark ys
+levels-cut rs k es ys is seen = is.count ∙ sym (levels-laid (starts_of rs) es) ∙ ap (count_by is_mark) seen
+
+-- a run of levels is opened above the names
+module _ {A : Type 0} (rs new : List Run) (r : Run) (k : ℕ) (es : List (Bor (List ℕ) × A)) (last : new ≡ rs ++ r ∷ []) (here : r.below ≡ length es) where
+  opened-starts : starts_of new ≡ replicate r.levels r.below ++ starts_of rs
+  opened-starts = ap starts_of last ∙ starts-last rs r
+
+  pub opened-is-cut : 0 < r.levels → IsCut rs k (borrowed es) → IsCut new (k + r.levels) (borrowed es)
+  opened-is-cut some is = record {
+    runs = subst AreOpen (sym last) (All-push (λ (p : Run). 0 < p.levels) rs r is.runs some);
+    count = let l = ap length opened-starts ∙ more-levels r.levels r.below (starts_of rs) in let c = is.count in omega (arith, l, c);
+    names = subst (λ ms. IsLaid ms (borrowed es)) (sym opened-starts) (opened-is-laid r.levels r.below (starts_of rs) es here is.names);
+  }
+
+  pub opened-cut : laid (starts_of new) (borrowed es) ≡ opened None r.levels (laid (starts_of rs) (borrowed es))
+  opened-cut = ap (λ ms. laid ms (borrowed es)) opened-starts ∙ opened-names r.levels r.below (starts_of rs) es here
+
+-- n levels above b names end
+module _ {A : Type 0} (rs new : List Run) (n b k : ℕ) (es : List (Bor (List ℕ) × A)) (starts : starts_of rs ≡ replicate n b ++ starts_of new) (is : IsCut rs k (borrowed es)) where
+  names-there : IsLaid (replicate n b ++ starts_of new) (borrowed es)
+  names-there = subst (λ ms. IsLaid ms (borrowed es)) starts is.names
+
+  count-left : k ≡ n + length (starts_of new)
+  count-left = is.count ∙ ap length starts ∙ more-levels n b (starts_of new)
+
+  pub cut-within : n ≤ k
+  cut-within = let c = count-left in omega (arith, c)
+
+  pub merged-is-cut : AreOpen new → IsCut new (k - n) (borrowed es)
+  merged-is-cut there = record {
+    runs = there;
+    count = let c = count-left in omega (arith, c);
+    names = merged-is-laid n b (starts_of new) (borrowed es) names-there;
+  }
+
+  pub closed-is-cut : 0 < n → AreOpen new → IsCut new (k - n) (borrowed (take b es))
+  closed-is-cut some there = record {
+    runs = there;
+    count = let c = count-left in omega (arith, c);
+    names = closed-is-laid n b (starts_of new) es some names-there;
+  }
+
+  pub merged-cut : laid (starts_of new) (borrowed es) ≡ merged is_mark n (laid (starts_of rs) (borrowed es))
+  merged-cut = merged-names n b (starts_of new) (borrowed es) names-there ∙ ap (λ ms. merged is_mark n (laid ms (borrowed es))) (sym starts)
+
+  pub closed-cut : 0 < n → laid (starts_of new) (borrowed (take b es)) ≡ closed is_mark n (laid (starts_of rs) (borrowed es))
+  closed-cut some = closed-names n b (starts_of new) es some ∙ ap (λ ms. closed is_mark n (laid ms (borrowed es))) (sym starts)

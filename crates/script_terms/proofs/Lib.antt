@@ -5,6 +5,7 @@ pub mod BoundVariables
 pub mod Builds
 pub mod BuiltNames
 pub mod DrawnConstants
+mod EndedRuns
 pub mod Gaining
 pub mod Grown
 mod HeadIndices

@@ -1,8 +1,9 @@
 //! Names in order of declaration, cut into levels.
 
-ghost use Rattle.std.specs.Prelude.{◌≡◌, ◌≤◌, ◌∷◌, [], take, get_or, count_by, Some, None, OnOk, OnErr};
+ghost use Rattle.std.specs.Prelude.{◌≡◌, ◌≤◌, ◌<◌, ◌∷◌, ◌++◌, [], length, replicate, take, count_by, Some, None, OnOk, OnErr};
 ghost use Rattle.script_terms.specs.Scope.{opened, popped, emptied};
 ghost use Rattle.script_terms.specs.Known.{find, is_mark, is_symbol_entry, declared_among};
+ghost use Rattle.script_terms.specs.Laid.{starts_of, AreOpen};
 
 use crate::scopes::Entry;
 use indexmap::IndexMap;
@@ -10,24 +11,33 @@ use smt_terms::BuildNameHasher;
 use std::alloc::{AllocError, Global};
 use std::marker::Model;
 
+// Levels that were opened at once: how many of them are open, and how many names stand below each of them.
+#[derive(Clone, Copy)]
+struct Run {
+    levels: u32,
+    below: usize,
+}
+
 /// Names, each with what it stands for, on levels. No name stands twice.
 #[derive(Drop)]
 pub struct Leveled<'a, T> {
     entries: IndexMap<&'a [u8], T, BuildNameHasher>,
-    // how many names stand below each level
-    marks: Vec<usize>,
+    // the open levels, those that were opened at once together, the latest last
+    marks: Vec<Run>,
+    // how many levels are open
+    levels: usize,
 }
 
 impl<'a, T> Model for Leveled<'a, T> {
-    ghost use Rattle.std.specs.Prelude.{List, reverse};
+    ghost use Rattle.std.specs.Prelude.{List};
     ghost use Rattle.script_terms.specs.Known.{Scoped};
-    ghost use Rattle.script_terms.specs.Laid.{borrowed, laid, IsLaid};
+    ghost use Rattle.script_terms.specs.Laid.{borrowed, laid, starts_of, IsCut};
 
     ghost Value = { List (Scoped T) };
 
-    ghost view = { λ s. laid (reverse s.marks.items) (borrowed s.entries.entries) };
+    ghost view = { λ s. laid (starts_of s.marks.items) (borrowed s.entries.entries) };
 
-    ghost invariant = { λ s. IsLaid (reverse s.marks.items) (borrowed s.entries.entries) };
+    ghost invariant = { λ s. IsCut s.marks.items s.levels (borrowed s.entries.entries) };
 }
 
 impl<'a, T: Copy + Drop> Leveled<'a, T> {
@@ -38,6 +48,7 @@ impl<'a, T: Copy + Drop> Leveled<'a, T> {
         Leveled {
             entries: IndexMap::with_hasher(alloc, BuildNameHasher::new()),
             marks: Vec::new(alloc),
+            levels: 0,
         }
     }
 
@@ -52,7 +63,7 @@ impl<'a, T: Copy + Drop> Leveled<'a, T> {
     pub fn levels(&self) -> usize
         ensures { result ≡ count_by is_mark self.now }
     {
-        self.marks.len()
+        self.levels
     }
 
     /// Gives a name that stands for nothing this meaning. Where it is refused, all is as before.
@@ -65,31 +76,49 @@ impl<'a, T: Copy + Drop> Leveled<'a, T> {
         Ok(())
     }
 
-    /// Opens n levels. Where it is refused, all is as before.
+    /// Opens n levels. They take the memory of one. Where it is refused, all is as before.
     pub fn open(&mut self, n: u32) -> Result<(), AllocError>
         ensures ok { OnOk result (self.new ≡ opened None n self.old) }
         ensures err { OnErr result (self.new ≡ self.old) }
     {
+        if n == 0 {
+            return Ok(());
+        }
+        let levels = self.levels.checked_add(n as usize).ok_or(AllocError)?;
         let below = self.entries.len();
-        let levels = self.marks.len() + n as usize;
-        self.marks.resize(levels, below)?;
+        self.marks.push(Run { levels: n, below })?;
+        self.levels = levels;
         Ok(())
     }
 
     /// Closes n levels; their names go, or are kept on the level below. It takes no memory, and no longer than there are
-    /// levels and names to go.
+    /// names to go and calls that opened these levels.
     pub fn close(&mut self, n: u32, keeps: bool)
         requires { n ≤ count_by is_mark self.old }
         ensures { self.new ≡ popped is_mark keeps n self.old }
     {
-        let left = self.marks.len() - n as usize;
-        if keeps {
-            self.marks.truncate(left);
-            return;
+        let mut left = n;
+        while left > 0 {
+            left -= self.close_latest(left, keeps);
         }
-        let below = names_below(&self.marks, left, self.entries.len());
-        cut(&mut self.entries, below);
-        self.marks.truncate(left);
+    }
+
+    // Closes the latest of the levels that were opened at once, so many at most, and tells how many.
+    fn close_latest(&mut self, most: u32, keeps: bool) -> u32
+        requires some { 0 < most }
+        requires levels { 0 < count_by is_mark self.old }
+        ensures some { 0 < result }
+        ensures most { result ≤ most }
+        ensures within { result ≤ count_by is_mark self.old }
+        ensures popped { self.new ≡ popped is_mark keeps result self.old }
+    {
+        let ended = end_latest(&mut self.marks, most);
+        self.levels -= ended.levels as usize;
+        if keeps {
+            return ended.levels;
+        }
+        cut(&mut self.entries, ended.below);
+        ended.levels
     }
 
     /// Closes all levels; all names go, or are kept. It takes no memory.
@@ -97,6 +126,7 @@ impl<'a, T: Copy + Drop> Leveled<'a, T> {
         ensures { self.new ≡ emptied is_mark keeps self.old }
     {
         self.marks.clear();
+        self.levels = 0;
         if keeps {
             return;
         }
@@ -123,13 +153,29 @@ fn is_symbol(entry: Entry) -> bool
     }
 }
 
-// How many of all names stand below a level, which are all where it isn't open.
-fn names_below(marks: &[usize], level: usize, all: usize) -> usize
-    ensures { result ≡ get_or marks.now level all }
+// Ends the latest of the levels that were opened at once, so many at most, and gives those that it ended.
+fn end_latest(marks: &mut Vec<Run>, most: u32) -> Run
+    requires some { 0 < most }
+    requires levels { 0 < length (starts_of marks.old.items) }
+    requires runs { AreOpen marks.old.items }
+    ensures some { 0 < result.levels }
+    ensures most { result.levels ≤ most }
+    ensures starts { starts_of marks.old.items ≡ replicate result.levels result.below ++ starts_of marks.new.items }
+    ensures runs { AreOpen marks.new.items }
 {
-    match marks.get(level) {
-        Some(below) => *below,
-        None => all,
+    let latest = *marks.last().unwrap();
+    if latest.levels <= most {
+        marks.pop();
+        return latest;
+    }
+    let last = marks.len() - 1;
+    marks[last] = Run {
+        levels: latest.levels - most,
+        below: latest.below,
+    };
+    Run {
+        levels: most,
+        below: latest.below,
     }
 }
 

@@ -129,7 +129,7 @@ impl<'a> Scope<'a> {
     }
 
     /// Closes n levels; what they bound goes, or stays where declarations are global. It takes no memory, and no longer
-    /// than the levels have bindings.
+    /// than the levels have bindings and there were calls that opened them.
     pub fn pop(&mut self, n: u32, global: bool)
         requires { n ≤ levels_in self.old }
         ensures { self.new ≡ record { terms = popped is_mark global n self.old.terms; sorts = popped is_mark global n self.old.sorts; definitions = self.old.definitions } }

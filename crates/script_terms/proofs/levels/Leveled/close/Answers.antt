@@ -1,39 +1,29 @@
-use Rattle.std.proofs.Common.{◌≡◌, ◌∙◌, ap, length, vec_len, rules, arith, true, false}
+use Rattle.std.proofs.Common.{◌≡◌, ◌+◌, ◌-◌, ap, sym, ◌∙◌, subst, count_by, arith}
 use Rattle.script_terms.specs.Scope.{popped}
 use Rattle.script_terms.specs.Known.{is_mark}
-use Rattle.script_terms.specs.Laid.{borrowed}
-use Rattle.script_terms.proofs.Laying.{few-levels, closed-names, merged-names, closed-is-laid, merged-is-laid}
+use Rattle.script_terms.proofs.Laying.{levels-popped, popped-none, popped-more}
 use Rattle.script_terms.proofs.levels.Leveled.close.Goals as goal
 
-pub overflow_sub-left : goal.overflow_sub-left
-overflow_sub-left g c =
-    let held : vec_len c.self.inside.marks ≡ length c.self.inside.marks.items = search rules in
-    let few = few-levels c.args.n c.self.inside.marks.items (borrowed c.self.inside.entries.entries) c.args.self.now c.self.view_is c.requires in
-    omega (arith, c.len.ensures, held, few)
-
-pub invariant_of-self : goal.invariant_of-self
-invariant_of-self g c =
-    let held : vec_len c.self.inside.marks ≡ length c.self.inside.marks.items = search rules in
-    let few = few-levels c.args.n c.self.inside.marks.items (borrowed c.self.inside.entries.entries) c.args.self.now c.self.view_is c.requires in
-    rw (c.truncate.ensures.items, c.len.ensures, held) (merged-is-laid c.args.n c.self.inside.marks.items (borrowed c.self.inside.entries.entries) few c.self.invariant)
-
-pub returns-then-keeps : goal.returns-then-keeps
-returns-then-keeps g c =
-    let held : vec_len c.self.inside.marks ≡ length c.self.inside.marks.items = search rules in
-    let few = few-levels c.args.n c.self.inside.marks.items (borrowed c.self.inside.entries.entries) c.args.self.now c.self.view_is c.requires in
-    rw (c.truncate.ensures.items, c.len.ensures, held, c.if-keeps.true)
-    (merged-names c.args.n c.self.inside.marks.items (borrowed c.self.inside.entries.entries) few c.self.invariant ∙ ap (popped is_mark true c.args.n) c.self.view_is)
-
-pub invariant_of-self-2 : goal.invariant_of-self-2
-invariant_of-self-2 g c =
-    let held : vec_len c.self.inside.marks ≡ length c.self.inside.marks.items = search rules in
-    let few = few-levels c.args.n c.self.inside.marks.items (borrowed c.self.inside.entries.entries) c.args.self.now c.self.view_is c.requires in
-    rw (c.truncate-2.ensures.items, c.cut.ensures, c.names_below-below.ensures, c.deref.ensures.value, c.len-2.ensures.len, c.len.ensures, held)
-    (closed-is-laid c.args.n c.self.inside.marks.items c.self.inside.entries.entries few c.self.invariant)
+pub loop-left-preserved : goal.loop-left-preserved
+loop-left-preserved g c =
+    let s = c.loop-left.self in
+    let n = c.close_latest-left.result in
+    let most = c.close_latest-left.ensures.most in
+    let within = c.loop-left.invariant.within in
+    let there = c.close_latest-left.ensures.within in
+    let levels = ap (count_by is_mark) c.close_latest-left.ensures.popped ∙ levels-popped c.args.keeps n s in
+    record {
+      popped =
+          ap (popped is_mark c.args.keeps (c.loop-left.left - n)) c.close_latest-left.ensures.popped
+          ∙ sym (popped-more c.args.keeps n (c.loop-left.left - n) s)
+          ∙ ap (λ k. popped is_mark c.args.keeps k s) (let e : n + (c.loop-left.left - n) ≡ c.loop-left.left = omega (arith, most) in e)
+          ∙ c.loop-left.invariant.popped;
+      within = omega (arith, within, levels);
+    }
 
 pub returns : goal.returns
 returns g c =
-    let held : vec_len c.self.inside.marks ≡ length c.self.inside.marks.items = search rules in
-    let few = few-levels c.args.n c.self.inside.marks.items (borrowed c.self.inside.entries.entries) c.args.self.now c.self.view_is c.requires in
-    rw (c.truncate-2.ensures.items, c.cut.ensures, c.names_below-below.ensures, c.deref.ensures.value, c.len-2.ensures.len, c.len.ensures, held, c.if-keeps.false)
-    (closed-names c.args.n c.self.inside.marks.items c.self.inside.entries.entries few c.self.invariant ∙ ap (popped is_mark false c.args.n) c.self.view_is)
+    let past = c.loop-left-test.false in
+    let none : c.loop-left.left ≡ 0 = omega (arith, past) in
+    sym (popped-none c.args.keeps c.loop-left.self)
+    ∙ subst (λ k. popped is_mark c.args.keeps k c.loop-left.self ≡ popped is_mark c.args.keeps c.args.n c.args.self.now) none c.loop-left.invariant.popped

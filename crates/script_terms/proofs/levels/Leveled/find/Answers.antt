@@ -5,4 +5,4 @@ use Rattle.script_terms.proofs.levels.Leveled.find.Goals as goal
 
 pub returns : goal.returns
 returns g c =
-    c.copied.ensures ∙ c.get.ensures.value ∙ sym (find-entries _ c.self.inside.entries.entries c.args.name.now c.self.invariant) ∙ ap (λ bs. find bs c.args.name.now) c.self.view_is
+    c.copied.ensures ∙ c.get.ensures.value ∙ sym (find-entries _ c.self.inside.entries.entries c.args.name.now c.self.invariant.names) ∙ ap (λ bs. find bs c.args.name.now) c.self.view_is

@@ -1,18 +1,20 @@
-use Rattle.std.proofs.Common.{◌≡◌, ◌∙◌, None, ap, length, vec_len, rules}
+use Rattle.std.proofs.Common.{◌≡◌, ◌+◌, ◌∙◌, None, ap, sym, subst, arith, rules}
 use Rattle.script_terms.specs.Scope.{opened}
-use Rattle.script_terms.specs.Laid.{borrowed}
-use Rattle.script_terms.proofs.Laying.{opened-names, opened-is-laid, resized}
+use Rattle.script_terms.specs.Laid.{borrowed, IsCut}
+use Rattle.script_terms.specs.declared.levels.Run.{Run}
+use Rattle.script_terms.proofs.Laying.{opened-is-cut, opened-cut}
 use Rattle.script_terms.proofs.levels.Leveled.open.Goals as goal
 
 pub invariant_of-self-2 : goal.invariant_of-self-2
 invariant_of-self-2 g c =
-    let held : vec_len c.self.inside.marks ≡ length c.self.inside.marks.items = search rules in
-    opened-is-laid c.args.n c.self.inside.marks.items c.resize.new.self.items (borrowed c.self.inside.entries.entries)
-    (resized c.args.n c.self.inside.marks.items c.resize.new.self.items c.self.inside.entries.entries c.len.result c.len-below.result (c.len.ensures ∙ held) c.len-below.ensures.len (search rules)) c.self.invariant
+    let r : Run = record { levels = c.args.n; below = c.len-below.result } in
+    let apart = c.if-n-eq0.false in
+    let all : c.in_ok-levels.levels ≡ c.self.inside.levels + c.args.n = search rules in
+    subst (λ k. IsCut c.push.new.self.items k (borrowed c.self.inside.entries.entries)) (sym all)
+    (opened-is-cut c.self.inside.marks.items c.push.new.self.items r c.self.inside.levels c.self.inside.entries.entries c.in_ok-push.ensures.items c.len-below.ensures.len (omega (arith, apart)) c.self.invariant)
 
 pub returns-clause-ok : goal.returns-clause-ok
 returns-clause-ok g c =
-    let held : vec_len c.self.inside.marks ≡ length c.self.inside.marks.items = search rules in
-    opened-names c.args.n c.self.inside.marks.items c.resize.new.self.items (borrowed c.self.inside.entries.entries)
-    (resized c.args.n c.self.inside.marks.items c.resize.new.self.items c.self.inside.entries.entries c.len.result c.len-below.result (c.len.ensures ∙ held) c.len-below.ensures.len (search rules))
+    let r : Run = record { levels = c.args.n; below = c.len-below.result } in
+    opened-cut c.self.inside.marks.items c.push.new.self.items r c.self.inside.levels c.self.inside.entries.entries c.in_ok-push.ensures.items c.len-below.ensures.len
     ∙ ap (opened None c.args.n) c.self.view_is
