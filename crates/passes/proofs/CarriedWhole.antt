@@ -7,7 +7,7 @@ use Rattle.term_table.specs.Formulas.{Formulas}
 use Rattle.script_read.specs.Commands.{Command}
 use Rattle.models.specs.ModelView.{ModelLists}
 use Rattle.passes.specs.declared.carrying.CarryFault.{CarryFault}
-use Rattle.passes.specs.declared.carrying.Live.{Live as FoundLive}
+use Rattle.passes.specs.declared.searching.Live.{Live as FoundLive}
 use Rattle.passes.specs.declared.names.Pass.{Pass}
 use Rattle.passes.specs.declared.plan.Plan.{Plan}
 use Rattle.passes.specs.declared.plan.Stage.{Stage as PlanStage}

@@ -23,8 +23,8 @@ use Rattle.term_table.specs.Formulas.{Formulas, symbol_at, tree, IsSymbol}
 use Rattle.models.specs.ModelView.{ModelLists, model_at, with_graph, without_functions}
 use Rattle.passes.specs.declared.carrying.CarryFault.{CarryFault}
 use Rattle.passes.specs.declared.carrying.CarryFault.TheVariants.{NoSuchCheck, EvalWidth, Beyond128, Memory}
-use Rattle.passes.specs.declared.carrying.Live.{Live as FoundLive}
-use Rattle.passes.specs.declared.carrying.LiveSymbol.{LiveSymbol}
+use Rattle.passes.specs.declared.searching.Live.{Live as FoundLive}
+use Rattle.passes.specs.declared.searching.LiveSymbol.{LiveSymbol}
 use Rattle.passes.specs.declared.plan.Stage.{Stage as PlanStage}
 use Rattle.passes.specs.Carry.{Asked, Stage, asked_for, beyond, constant_graph, with_graphs, graph_given, term_for, numbers, most_bits, all_asked}
 use Rattle.passes.specs.Carrying.{breaks_in}

@@ -10,7 +10,7 @@ use Rattle.term_table.specs.Formulas.{Formulas, tree}
 use Rattle.script_read.specs.Commands.{Command}
 use Rattle.passes.specs.declared.carrying.CarryFault.{CarryFault}
 use Rattle.passes.specs.declared.carrying.CarryFault.TheVariants.{NoSuchCheck, EvalWidth, Beyond128, Memory}
-use Rattle.passes.specs.declared.carrying.Live.{Live as FoundLive}
+use Rattle.passes.specs.declared.searching.Live.{Live as FoundLive}
 use Rattle.passes.specs.declared.plan.Stage.{Stage as PlanStage}
 use Rattle.passes.specs.Carry.{Stage, asked_for, beyond_at, beyond, all_asked}
 use Rattle.passes.specs.Carrying.{breaks_in}

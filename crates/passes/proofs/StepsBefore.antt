@@ -6,7 +6,7 @@ use Rattle.std.proofs.lemmas.List.{map-append, append-nil, length-map, at_drop_a
 use Rattle.smt_terms.proofs.Tests.{true_or_false}
 use Rattle.term_table.specs.Formulas.{Formulas}
 use Rattle.script_read.specs.Commands.{Command, check}
-use Rattle.passes.specs.declared.carrying.Live.{Live as FoundLive}
+use Rattle.passes.specs.declared.searching.Live.{Live as FoundLive}
 use Rattle.passes.specs.declared.plan.Stage.{Stage}
 use Rattle.passes.specs.declared.plan.Step.{Step}
 use Rattle.passes.specs.declared.plan.Step.TheVariants.{Declare, Group, Check, Push, Pop, Reset, ResetAssertions, Globals}

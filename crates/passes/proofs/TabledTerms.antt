@@ -32,7 +32,7 @@ use Rattle.evaluation.specs.declared.faults.ValueFault.{ValueFault}
 use Rattle.evaluation.specs.declared.faults.ValueFault.TheVariants.{Beyond128 as BeyondRange, Memory as NoMemory}
 use Rattle.evaluation.specs.Evaluated.{breaks, Values, IsValueOf}
 use Rattle.passes.specs.declared.carrying.Beyond.{Beyond}
-use Rattle.passes.specs.declared.carrying.LiveSymbol.{LiveSymbol}
+use Rattle.passes.specs.declared.searching.LiveSymbol.{LiveSymbol}
 use Rattle.passes.specs.declared.plan.Use.{Use}
 use Rattle.passes.specs.declared.tables.NewRow.{NewRow}
 use Rattle.passes.specs.declared.tables.Tabling.{Tabling}

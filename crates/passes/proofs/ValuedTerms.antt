@@ -16,7 +16,7 @@ use Rattle.term_table.specs.Formulas.{Formulas, tree, symbol_at}
 use Rattle.models.specs.ModelView.{ModelLists, model_at}
 use Rattle.evaluation.specs.Evaluated.{breaks, IsValueOf, IsBeyond}
 use Rattle.passes.specs.declared.carrying.Beyond.{Beyond}
-use Rattle.passes.specs.declared.carrying.LiveSymbol.{LiveSymbol}
+use Rattle.passes.specs.declared.searching.LiveSymbol.{LiveSymbol}
 use Rattle.passes.specs.declared.carrying.Valuation.{Valuation}
 use Rattle.passes.specs.Carry.{Asked}
 use Rattle.passes.specs.LiveSymbols.{Given, given_at, asked_in, beyond_of, breaks_among, valued_at, is_settled, IsLiveOver, IsLeastBeyond, IsValueFor, IsValuation}

@@ -21,7 +21,7 @@ use Rattle.passes.specs.Carry.{Asked, asked_for, most_bits}
 use Rattle.passes.specs.LiveGroups.{Drawn, Operands, Met, Told, AreApplied, met_of, without_drawn}
 use Rattle.passes.specs.LiveSymbols.{Given, Live, live_at, with_defaults, beyond_of, AreLiveOver, HasUseOf, IsLeastBeyond}
 use Rattle.passes.specs.Plans.{Uses, use_of, operands_at, steps_of, told_operands, uses_of, IsStageOver}
-use Rattle.passes.specs.declared.carrying.Live.{Live as CodeLive}
+use Rattle.passes.specs.declared.searching.Live.{Live as CodeLive}
 use Rattle.passes.specs.declared.plan.Stage.{Stage}
 use Rattle.passes.specs.declared.tables.NewRow.{NewRow}
 use Rattle.passes.specs.declared.tables.Tabling.{Tabling}

@@ -29,9 +29,9 @@ use Rattle.passes.specs.declared.carrying.CarryFault.{CarryFault}
 use Rattle.passes.specs.declared.carrying.CarryFault.TheVariants.{EvalWidth, Beyond128 as BeyondRange, Memory}
 use Rattle.passes.specs.declared.carrying.Beyond.{Beyond}
 use Rattle.passes.specs.declared.carrying.Valuation.{Valuation}
-use Rattle.passes.specs.declared.carrying.Live.{Live as CodeLive}
-use Rattle.passes.specs.declared.carrying.LiveSymbol.{LiveSymbol}
-use Rattle.passes.specs.declared.carrying.Search.{Search}
+use Rattle.passes.specs.declared.searching.Live.{Live as CodeLive}
+use Rattle.passes.specs.declared.searching.LiveSymbol.{LiveSymbol}
+use Rattle.passes.specs.declared.searching.Search.{Search}
 use Rattle.passes.specs.declared.carrying.Wide.{Wide}
 
 -- ---- one by one

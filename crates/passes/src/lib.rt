@@ -12,6 +12,7 @@ mod plan;
 mod removing;
 mod rewriters;
 mod running;
+mod searching;
 mod tables;
 
 pub use carrying::{CarryFault, back, forth};

@@ -15,8 +15,9 @@ ghost use Rattle.passes.specs.LiveRows.{operands_by, asked_for_rows, row_at, wit
 ghost use Rattle.passes.specs.LiveSymbols.{Given, given_at, widest_of, IsLiveOver, HasUseOf, IsWidest, IsBeyondAmong};
 ghost use Rattle.passes.specs.Plans.{use_of, operands_at, IsUse};
 
-use crate::carrying::{Beyond, CarryFault, LiveSymbol, Wide, is_settled, with_bits};
+use crate::carrying::{Beyond, CarryFault, Wide, is_settled, with_bits};
 use crate::plan::Use;
+use crate::searching::LiveSymbol;
 use evaluation::{ValueFault, bits_bound, value_of};
 use indexmap::IndexMap;
 use models::Model;

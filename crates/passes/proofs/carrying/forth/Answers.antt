@@ -1,7 +1,7 @@
 use Rattle.std.proofs.Common.{◌≤◌, sym, subst, List, All, Ok, Err}
 use Rattle.std.proofs.lemmas.Result.{err_from_is_err_and}
 use Rattle.models.specs.ModelView.{model_at}
-use Rattle.passes.specs.declared.carrying.Live.{Live}
+use Rattle.passes.specs.declared.searching.Live.{Live}
 use Rattle.passes.specs.Carrying.{IsCheck}
 use Rattle.passes.specs.LiveSymbols.{AreLiveOver}
 use Rattle.passes.proofs.CarriedPlans.{CarryLaws}

@@ -3,7 +3,7 @@ use Rattle.std.proofs.lemmas.Result.{err_from_is_err_and}
 use Rattle.smt_terms.specs.declared.ids.SymId.{SymId}
 use Rattle.term_table.specs.Formulas.{symbol_at}
 use Rattle.models.specs.ModelView.{model_at}
-use Rattle.passes.specs.declared.carrying.LiveSymbol.{LiveSymbol}
+use Rattle.passes.specs.declared.searching.LiveSymbol.{LiveSymbol}
 use Rattle.passes.specs.LiveSymbols.{live_at, given_at, with_defaults, AreValues}
 use Rattle.passes.proofs.LiveStages.{live_given}
 use Rattle.passes.proofs.carrying.give.Goals as goal

@@ -1,7 +1,7 @@
 use Rattle.std.proofs.Common.{sym, subst, get_or, List, All, map, take}
 use Rattle.std.proofs.lemmas.Option.{slice_get-get_or}
 use Rattle.smt_terms.specs.Term.{Term}
-use Rattle.passes.specs.declared.carrying.LiveSymbol.{LiveSymbol}
+use Rattle.passes.specs.declared.searching.LiveSymbol.{LiveSymbol}
 use Rattle.passes.specs.LiveRows.{operands_by, IsNarrowTerm, IsTabling}
 use Rattle.passes.specs.LiveSymbols.{Given, given_at, IsLiveOver}
 use Rattle.passes.proofs.FoundUses.{operands_there}

@@ -1,7 +1,7 @@
 use Rattle.std.proofs.Common.{◌∙◌, ◌≡◌, ap, sym, subst, get_or, ◌++◌, List, map, take, Some}
 use Rattle.std.proofs.lemmas.Option.{slice_get-get_or}
 use Rattle.term_table.specs.Formulas.{trees_at, symbol_at}
-use Rattle.passes.specs.declared.carrying.LiveSymbol.{LiveSymbol}
+use Rattle.passes.specs.declared.searching.LiveSymbol.{LiveSymbol}
 use Rattle.passes.specs.Carry.{Asked, asked_for}
 use Rattle.passes.specs.LiveGroups.{Operands}
 use Rattle.passes.specs.LiveRows.{asked_for_rows, operands_by}

@@ -3,7 +3,7 @@ use Rattle.std.proofs.lemmas.Option.{slice_get_read}
 use Rattle.passes.specs.LiveGroups.{before_check}
 use Rattle.passes.specs.Plans.{steps_of}
 use Rattle.passes.proofs.StepsBefore.{before_found, before_other, before_checked, before_all}
-use Rattle.passes.proofs.carrying.before_check.Goals as goal
+use Rattle.passes.proofs.searching.before_check.Goals as goal
 
 pub loop-place-preserved-in_default : goal.loop-place-preserved-in_default
 loop-place-preserved-in_default c =

@@ -2,7 +2,7 @@ use Rattle.std.proofs.Common.{◌∙◌, ap, sym, false}
 use Rattle.passes.specs.LiveGroups.{global_behind, met_in}
 use Rattle.passes.specs.LiveSymbols.{live_of}
 use Rattle.passes.specs.Plans.{steps_of}
-use Rattle.passes.proofs.carrying.live_at_check.Goals as goal
+use Rattle.passes.proofs.searching.live_at_check.Goals as goal
 
 pub returns-clause-live : goal.returns-clause-live
 returns-clause-live c = λ t.

@@ -4,7 +4,7 @@ use Rattle.passes.specs.LiveGroups.{met_of}
 use Rattle.passes.specs.LiveRows.{AreLiveStages}
 use Rattle.passes.specs.LiveSymbols.{live_of, lives_at}
 use Rattle.passes.specs.Plans.{told_in, IsPlanOver}
-use Rattle.passes.proofs.carrying.live_at_each.Given as goal
+use Rattle.passes.proofs.searching.live_at_each.Given as goal
 
 abbrev pub invariant-loop-stage : goal.invariant-loop-stage
 invariant-loop-stage l = record {

@@ -8,7 +8,7 @@ use Rattle.passes.specs.LiveSymbols.{live_of}
 use Rattle.passes.specs.Plans.{steps_of, told_of, told_in, uses_of, HaveUses, IsStepOver, IsStageOver}
 use Rattle.passes.proofs.ListPlaces.{all_at, map_at, all_taken}
 use Rattle.passes.proofs.StepsBefore.{lives-more, live_stage-more}
-use Rattle.passes.proofs.carrying.live_at_each.Goals as goal
+use Rattle.passes.proofs.searching.live_at_each.Goals as goal
 
 pub loop-stage-preserved : goal.loop-stage-preserved
 loop-stage-preserved c =

@@ -3,7 +3,7 @@ use Rattle.term_groups.specs.Seen.{named_at}
 use Rattle.term_table.specs.Formulas.{Formulas}
 use Rattle.passes.specs.LiveSymbols.{given_at, given_by, IsLiveOver, HasUseOf}
 use Rattle.passes.specs.Plans.{Uses, HasUse, IsPairOver}
-use Rattle.passes.proofs.carrying.push_given.Given as goal
+use Rattle.passes.proofs.searching.push_given.Given as goal
 
 abbrev pub invariant-loop-place : goal.invariant-loop-place
 invariant-loop-place l = record {

@@ -2,7 +2,7 @@ use Rattle.std.proofs.Common.{◌≡◌, ◌≤◌, ◌++◌, drop, length, map,
 use Rattle.term_groups.specs.Seen.{named_at}
 use Rattle.term_table.specs.Formulas.{Formulas, symbol_at, IsSymbol}
 use Rattle.passes.specs.Plans.{IsPairOver}
-use Rattle.passes.proofs.carrying.push_idle.Given as goal
+use Rattle.passes.proofs.searching.push_idle.Given as goal
 
 abbrev pub invariant-loop-place : goal.invariant-loop-place
 invariant-loop-place l = record {

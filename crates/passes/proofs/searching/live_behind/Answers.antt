@@ -5,11 +5,11 @@ use Rattle.smt_terms.specs.declared.ids.SymId.{SymId}
 use Rattle.term_table.specs.Formulas.{IsSymbol}
 use Rattle.script_read.specs.Commands.{Command}
 use Rattle.passes.specs.LiveGroups.{Drawn, met_in}
-use Rattle.passes.specs.declared.carrying.LiveSymbol.{LiveSymbol}
+use Rattle.passes.specs.declared.searching.LiveSymbol.{LiveSymbol}
 use Rattle.passes.specs.LiveSymbols.{IsLiveOver, HasUseOf, IsSearched}
 use Rattle.passes.specs.Plans.{HaveUses, step_of, steps_of, IsStepOver}
 use Rattle.passes.proofs.ListPlaces.{all_at, map_at, drop-front}
-use Rattle.passes.proofs.carrying.live_behind.Goals as goal
+use Rattle.passes.proofs.searching.live_behind.Goals as goal
 
 pub loop-place-preserved : goal.loop-place-preserved
 loop-place-preserved c =

@@ -3,7 +3,7 @@ use Rattle.term_table.specs.Formulas.{Formulas}
 use Rattle.passes.specs.LiveGroups.{met_in}
 use Rattle.passes.specs.LiveSymbols.{HasUseOf, IsSearched, IsSearchOver}
 use Rattle.passes.specs.Plans.{Uses, HaveUses, steps_of, IsStepOver}
-use Rattle.passes.proofs.carrying.live_behind.Given as goal
+use Rattle.passes.proofs.searching.live_behind.Given as goal
 
 abbrev pub invariant-loop-place : goal.invariant-loop-place
 invariant-loop-place l = record {

@@ -5,7 +5,7 @@ use Rattle.term_groups.specs.Seen.{named_at}
 use Rattle.term_table.specs.Formulas.{symbol_at, IsSymbol}
 use Rattle.passes.specs.Plans.{IsPairOver}
 use Rattle.passes.proofs.ListPlaces.{all_at, drop-front}
-use Rattle.passes.proofs.carrying.push_idle.Goals as goal
+use Rattle.passes.proofs.searching.push_idle.Goals as goal
 
 pub loop-place-preserved : goal.loop-place-preserved
 loop-place-preserved c =

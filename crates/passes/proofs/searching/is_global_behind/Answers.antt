@@ -4,7 +4,7 @@ use Rattle.passes.specs.LiveGroups.{global_behind}
 use Rattle.passes.specs.Plans.{step_of, steps_of}
 use Rattle.passes.proofs.SearchedSteps.{global-more}
 use Rattle.passes.proofs.ListPlaces.{map_at, taken_all}
-use Rattle.passes.proofs.carrying.is_global_behind.Goals as goal
+use Rattle.passes.proofs.searching.is_global_behind.Goals as goal
 
 pub loop-step-preserved : goal.loop-step-preserved
 loop-step-preserved c = λ t.

@@ -1,11 +1,11 @@
 use Rattle.std.proofs.Common.{◌∙◌, ◌∷◌, ◌++◌, ap, sym, subst, map, List, All, ◌-◌, arith}
 use Rattle.std.proofs.lemmas.List.Elements.{All-cons}
 use Rattle.term_groups.specs.Seen.{named_at}
-use Rattle.passes.specs.declared.carrying.LiveSymbol.{LiveSymbol}
+use Rattle.passes.specs.declared.searching.LiveSymbol.{LiveSymbol}
 use Rattle.passes.specs.LiveSymbols.{given_by, given_at, IsLiveOver, HasUseOf}
 use Rattle.passes.specs.Plans.{HasUse, IsPairOver}
 use Rattle.passes.proofs.ListPlaces.{all_at, drop-front}
-use Rattle.passes.proofs.carrying.push_given.Goals as goal
+use Rattle.passes.proofs.searching.push_given.Goals as goal
 
 pub loop-place-preserved : goal.loop-place-preserved
 loop-place-preserved c =

@@ -2,7 +2,7 @@ use Rattle.std.proofs.Common.{◌≡◌, ◌≤◌, ◌++◌, take, drop}
 use Rattle.term_table.specs.Formulas.{Formulas}
 use Rattle.passes.specs.LiveGroups.{before_check}
 use Rattle.passes.specs.Plans.{steps_of}
-use Rattle.passes.proofs.carrying.before_check.Given as goal
+use Rattle.passes.proofs.searching.before_check.Given as goal
 
 abbrev pub invariant-loop-place : goal.invariant-loop-place
 invariant-loop-place l = record {
