@@ -11,12 +11,13 @@ use Rattle.clap.specs.declared.parser.matches.Found.{Found}
 use Rattle.clap.proofs.WalkLemmas.{first_value-rows}
 use Rattle.passes.specs.Lists.{any_pass}
 use Rattle.smtrw_answers.specs.declared.status.Usage.{Usage}
-use Rattle.smtrw_answers.specs.Words.{Word, Numbered, Command, rewriting, translating, extending, counting, demonstrating, Setting, Given, nothing_given, words_from, Asked, rewrite, translate, extend, stats, demo, asked_with, asked_or_missing, at_end, asked_of, asked, command_if, command_named, stands}
-use Rattle.smtrw_answers.specs.Asking.{IsRewriting, IsCarrying, IsCounting, GivesRewriting, GivesCarrying, GivesCounting}
-use Rattle.smtrw_answers.proofs.ClapRows.{rewrite_app, carry_app, stats_app, rewrite_is_simple, carry_is_simple, stats_is_simple}
-use Rattle.smtrw_answers.proofs.ClapCommands.{rewrite_taking, carry_taking, stats_taking}
-use Rattle.smtrw_answers.proofs.ClapWords.{and_then_ok}
-use Rattle.smtrw_answers.proofs.ClapMatches.{Matched, all_matched, rewriting_given, translating_given, extending_given, counting_given}
+use Rattle.smtrw_answers.specs.Words.{Word, Numbered, Command, rewriting, translating, extending, counting, demonstrating, Setting, Given, nothing_given, words_from, Asked, rewrite, translate, extend, stats, demo, asked_with, asked_or_missing, at_end, asked_of, asked, command_named}
+use Rattle.smtrw_answers.specs.Asking.{IsRewriting, IsCarrying, IsCounting, IsDemonstrating, GivesRewriting, GivesCarrying, GivesCounting, GivesDemonstrating}
+use Rattle.smtrw_answers.proofs.ClapRows.{rewrite_app, carry_app, stats_app, demo_app, rewrite_is_simple, carry_is_simple, stats_is_simple, demo_is_simple}
+use Rattle.smtrw_answers.proofs.ClapCommands.{rewrite_taking, carry_taking, stats_taking, demo_taking}
+use Rattle.smtrw_answers.proofs.ClapWords.{and_then_ok, file_put}
+use Rattle.smtrw_answers.proofs.ClapMatches.{Matched, all_matched, rewriting_given, translating_given, extending_given, counting_given, demonstrating_given}
+use Rattle.smtrw_answers.proofs.DemoWords.{number_put, numbers_given}
 
 -- ---- a command without the flag for help
 
@@ -83,7 +84,7 @@ module _ (app : App) (ids : List Text) (words : List Word) (g : Given) (simple :
   taken_as Gives a e gives = record { takes = is.takes; gives = λ m has. subst (λ r. Gives r (found_of m)) (sym e) (gives (found_of m) (same_values m has)) }
 
 -- what is asked for by words is asked for by their command
-by_command : (c d : Command) (w : Word) (ws : List Word) (a : Asked) → command_if stands (command_named w) ≡ Some d → d ≡ c → asked (w ∷ ws) ≡ Ok a → asked_of any_pass (Some c) ws ≡ Ok a
+by_command : (c d : Command) (w : Word) (ws : List Word) (a : Asked) → command_named w ≡ Some d → d ≡ c → asked (w ∷ ws) ≡ Ok a → asked_of any_pass (Some c) ws ≡ Ok a
 by_command c d w ws a named same e = ap (λ x. asked_of any_pass (Some x) ws) (sym same) ∙ ap (λ o. asked_of any_pass o ws) (sym named) ∙ e
 
 pub rewriting_taken : (words : List Word) → IsRewriting (asked words) → IsTaken rewrite_app GivesRewriting words
@@ -92,9 +93,9 @@ rewriting_taken (w ∷ ws) is = go (asked (w ∷ ws)) refl is
   where
     go : (r : Result Asked Usage) → asked (w ∷ ws) ≡ r → IsRewriting r → IsTaken rewrite_app GivesRewriting (w ∷ ws)
     go (Ok (rewrite ps l f)) e is =
-        let by = asked_of_by (command_if stands (command_named w)) ws (rewrite ps l f) e in
+        let by = asked_of_by (command_named w) ws (rewrite ps l f) e in
         let of = by_command rewriting by.0 w ws (rewrite ps l f) by.1 by.2 e in
-        let all = all_matched rewriting rewrite_app (codes "file" ∷ []) rewrite_taking (λ i v g. refl) w ws (rewrite ps l f) of in
+        let all = all_matched rewriting rewrite_app (codes "file" ∷ []) rewrite_taking file_put w ws (rewrite ps l f) of in
         taken_as rewrite_app (codes "file" ∷ []) (w ∷ ws) all.0 rewrite_is_simple all.1 GivesRewriting (rewrite ps l f) e
         (λ found same. rewriting_given (matches_of rewrite_app (w ∷ ws)) found same (suc (suc (length ws))) all.0 ps l f all.1.holds all.2)
     go (Ok (translate ps k s m)) e is = absurd is
@@ -109,15 +110,15 @@ carrying_taken name (w ∷ ws) is = go (asked (w ∷ ws)) refl is
   where
     go : (r : Result Asked Usage) → asked (w ∷ ws) ≡ r → IsCarrying r → IsTaken (carry_app name) GivesCarrying (w ∷ ws)
     go (Ok (translate ps k s m)) e is =
-        let by = asked_of_by (command_if stands (command_named w)) ws (translate ps k s m) e in
+        let by = asked_of_by (command_named w) ws (translate ps k s m) e in
         let of = by_command translating by.0 w ws (translate ps k s m) by.1 by.2 e in
-        let all = all_matched translating (carry_app name) (codes "script" ∷ codes "model" ∷ []) (carry_taking name) (λ i v g. refl) w ws (translate ps k s m) of in
+        let all = all_matched translating (carry_app name) (codes "script" ∷ codes "model" ∷ []) (carry_taking name) file_put w ws (translate ps k s m) of in
         taken_as (carry_app name) (codes "script" ∷ codes "model" ∷ []) (w ∷ ws) all.0 (carry_is_simple name) all.1 GivesCarrying (translate ps k s m) e
         (λ found same. translating_given (matches_of (carry_app name) (w ∷ ws)) found same (suc (suc (length ws))) all.0 ps k s m all.1.holds all.2)
     go (Ok (extend ps k s m)) e is =
-        let by = asked_of_by (command_if stands (command_named w)) ws (extend ps k s m) e in
+        let by = asked_of_by (command_named w) ws (extend ps k s m) e in
         let of = by_command extending by.0 w ws (extend ps k s m) by.1 by.2 e in
-        let all = all_matched extending (carry_app name) (codes "script" ∷ codes "model" ∷ []) (carry_taking name) (λ i v g. refl) w ws (extend ps k s m) of in
+        let all = all_matched extending (carry_app name) (codes "script" ∷ codes "model" ∷ []) (carry_taking name) file_put w ws (extend ps k s m) of in
         taken_as (carry_app name) (codes "script" ∷ codes "model" ∷ []) (w ∷ ws) all.0 (carry_is_simple name) all.1 GivesCarrying (extend ps k s m) e
         (λ found same. extending_given (matches_of (carry_app name) (w ∷ ws)) found same (suc (suc (length ws))) all.0 ps k s m all.1.holds all.2)
     go (Ok (rewrite ps l f)) e is = absurd is
@@ -131,13 +132,30 @@ counting_taken (w ∷ ws) is = go (asked (w ∷ ws)) refl is
   where
     go : (r : Result Asked Usage) → asked (w ∷ ws) ≡ r → IsCounting r → IsTaken stats_app GivesCounting (w ∷ ws)
     go (Ok (stats f)) e is =
-        let by = asked_of_by (command_if stands (command_named w)) ws (stats f) e in
+        let by = asked_of_by (command_named w) ws (stats f) e in
         let of = by_command counting by.0 w ws (stats f) by.1 by.2 e in
-        let all = all_matched counting stats_app (codes "file" ∷ []) stats_taking (λ i v g. refl) w ws (stats f) of in
+        let all = all_matched counting stats_app (codes "file" ∷ []) stats_taking file_put w ws (stats f) of in
         taken_as stats_app (codes "file" ∷ []) (w ∷ ws) all.0 stats_is_simple all.1 GivesCounting (stats f) e
         (λ found same. counting_given (matches_of stats_app (w ∷ ws)) found same (suc (suc (length ws))) all.0 f all.1.holds all.2)
     go (Ok (translate ps k s m)) e is = absurd is
     go (Ok (extend ps k s m)) e is = absurd is
     go (Ok (rewrite ps l f)) e is = absurd is
     go (Ok (demo s n)) e is = absurd is
+    go (Err u) e is = absurd is
+
+pub demonstrating_taken : (words : List Word) → IsDemonstrating (asked words) → IsTaken demo_app GivesDemonstrating words
+demonstrating_taken [] is = absurd is
+demonstrating_taken (w ∷ ws) is = go (asked (w ∷ ws)) refl is
+  where
+    go : (r : Result Asked Usage) → asked (w ∷ ws) ≡ r → IsDemonstrating r → IsTaken demo_app GivesDemonstrating (w ∷ ws)
+    go (Ok (demo s n)) e is =
+        let by = asked_of_by (command_named w) ws (demo s n) e in
+        let of = by_command demonstrating by.0 w ws (demo s n) by.1 by.2 e in
+        let all = all_matched demonstrating demo_app (codes "seed" ∷ codes "size" ∷ []) demo_taking number_put w ws (demo s n) of in
+        taken_as demo_app (codes "seed" ∷ codes "size" ∷ []) (w ∷ ws) all.0 demo_is_simple all.1 GivesDemonstrating (demo s n) e
+        (λ found same. demonstrating_given (matches_of demo_app (w ∷ ws)) found same (suc (suc (length ws))) all.0 s n all.1.holds (numbers_given ws all.0 all.3) all.2)
+    go (Ok (translate ps k s m)) e is = absurd is
+    go (Ok (extend ps k s m)) e is = absurd is
+    go (Ok (rewrite ps l f)) e is = absurd is
+    go (Ok (stats f)) e is = absurd is
     go (Err u) e is = absurd is

@@ -9,8 +9,8 @@ use Rattle.clap.specs.Walk.{Row, Text, idle, finished, settled_rows, walk, walke
 use Rattle.clap.specs.Simple.{Shape, built}
 use Rattle.clap.specs.Takes.{level_passes, settle_passes, walk_passes}
 use Rattle.clap.proofs.TakesLemmas.{leaf_takes}
-use Rattle.smtrw_answers.specs.Words.{Word, Numbered, rewriting, translating, counting, Setting, of_passes, of_layout, of_check, needed, settings_of, setting_among}
-use Rattle.smtrw_answers.proofs.ClapRows.{rewrite_app, carry_app, stats_app, row_added}
+use Rattle.smtrw_answers.specs.Words.{Word, Numbered, rewriting, translating, counting, demonstrating, Setting, of_passes, of_layout, of_check, needed, settings_of, setting_among}
+use Rattle.smtrw_answers.proofs.ClapRows.{rewrite_app, carry_app, stats_app, demo_app, row_added}
 use Rattle.smtrw_answers.proofs.ClapWalk.{Pending, held_at, walk_at, id_of, name_of, TakesOption, IsOptionWord, TakesPlace, Taking}
 
 and_false : (b : Bool) → (b && false) ≡ false
@@ -56,7 +56,7 @@ two_options shape s t w o first second e = elim (one_option s w _ o e) [
   ]
 ]
 
--- no room for a file behind so many
+-- no room for one more behind so many
 no_room : (most : ℕ) (n : ℕ) → most ≤ n → nat_le most n ≡ false → ⊥
 no_room most n le room = grind (arith, nat_tests)
 
@@ -130,7 +130,7 @@ pub rewrite_taking : Taking (settings_of rewriting) (needed rewriting) rewrite_a
 rewrite_taking = record {
   options = λ w o among. two_options rewrite_shape of_passes of_layout w o rewrite_passes rewrite_layout among;
   place = rewrite_place;
-  no_files = (refl, tt);
+  no_operands = (refl, tt);
   apart = no_file_option;
   finished_at = rewrite_finished;
   found = λ name ws. refl;
@@ -230,7 +230,7 @@ module _ (name : Text) where
   carry_taking = record {
     options = λ w o among. two_options carry_shape of_passes of_check w o carry_passes carry_check among;
     place = carry_place;
-    no_files = (refl, (refl, tt));
+    no_operands = (refl, (refl, tt));
     apart = no_carried_option;
     finished_at = carry_finished;
     found = λ word ws. refl;
@@ -271,9 +271,82 @@ pub stats_taking : Taking (settings_of counting) (needed counting) stats_app (co
 stats_taking = record {
   options = λ w o among. absurd cc;
   place = stats_place;
-  no_files = (refl, tt);
+  no_operands = (refl, tt);
   apart = no_file_option;
   finished_at = stats_finished;
   found = λ name ws. refl;
   taken = λ name ws rows p n stand settles turns. leaf_takes (built stats_app) nothing_held ws refl (stats_level ws rows p n stand settles turns);
+}
+
+-- ---- the demonstration
+
+abbrev demo_ids : List Text
+demo_ids = codes "seed" ∷ codes "size" ∷ []
+
+seed_apart : (s : Setting) → bytes_eq (codes "seed") (id_of s) ≡ false
+seed_apart of_passes = refl
+seed_apart of_layout = refl
+seed_apart of_check = refl
+
+size_apart : (s : Setting) → bytes_eq (codes "size") (id_of s) ≡ false
+size_apart of_passes = refl
+size_apart of_layout = refl
+size_apart of_check = refl
+
+no_number_option : (s : Setting) → list_any (bytes_eq (id_of s)) demo_ids ≡ false
+no_number_option of_passes = refl
+no_number_option of_layout = refl
+no_number_option of_check = refl
+
+abbrev demo_shape : Shape
+demo_shape = (built demo_app).top
+
+demo_seed : TakesPlace demo_shape demo_ids []
+unfolding walked
+demo_seed = record {
+  id = codes "seed";
+  met = λ rows p w plain. rw (plain.no_end, plain.no_long, plain.no_short, and_false) refl;
+  turn = λ rows p w plain settles. rw (plain.no_end, plain.no_long, plain.no_short, settles, and_false) refl;
+  settles = λ rows w no_row. rw no_row refl;
+  added = λ rows w no_row. row_added (codes "seed") w _ rows refl no_row;
+  free = λ rows is. is.0;
+  put = λ f old new added is. (added.first, (added.has (codes "size") refl ∙ is.1.0, tt));
+  apart = seed_apart;
+}
+
+demo_size : (f : Numbered) → TakesPlace demo_shape demo_ids (f ∷ [])
+unfolding walked
+demo_size f = record {
+  id = codes "size";
+  met = λ rows p w plain. rw (plain.no_end, plain.no_long, plain.no_short, and_false) refl;
+  turn = λ rows p w plain settles. rw (plain.no_end, plain.no_long, plain.no_short, settles, and_false) refl;
+  settles = λ rows w no_row. rw no_row refl;
+  added = λ rows w no_row. row_added (codes "size") w _ rows refl no_row;
+  free = λ rows is. is.1.0;
+  put = λ g old new added is. (added.others (codes "seed") refl ∙ is.0, (added.first, tt));
+  apart = size_apart;
+}
+
+demo_place : (fs : List Numbered) → nat_le 2 (length fs) ≡ false → TakesPlace demo_shape demo_ids fs
+demo_place [] room = demo_seed
+demo_place (f ∷ []) room = demo_size f
+demo_place (f ∷ g ∷ fs) room = absurd (no_room 2 (suc (suc (length fs))) (omega arith) room)
+
+demo_finished : (rows : List Row) (p : Pending) → finished demo_shape.rules (held_at rows p) ≡ settled_rows demo_shape.rules p rows
+demo_finished rows p = simp same_either
+
+demo_level : (ws : List Word) (rows : List Row) (p : Pending) (n : ℕ) → walk demo_shape.rules [] nothing_held ws ≡ walk_at rows p idle n
+    → settle_passes demo_shape.rules false (held_at rows p) ≡ true → walk_passes demo_shape [] (walk_at [] None idle 1) ws ≡ true
+    → level_passes demo_shape [] nothing_held ws false ≡ true
+demo_level ws rows p n stand settles turns = rw (stand, turns, settles) refl
+
+pub demo_taking : Taking (settings_of demonstrating) (needed demonstrating) demo_app demo_ids
+demo_taking = record {
+  options = λ w o among. absurd cc;
+  place = demo_place;
+  no_operands = (refl, (refl, tt));
+  apart = no_number_option;
+  finished_at = demo_finished;
+  found = λ name ws. refl;
+  taken = λ name ws rows p n stand settles turns. leaf_takes (built demo_app) nothing_held ws refl (demo_level ws rows p n stand settles turns);
 }

@@ -1,5 +1,6 @@
 -- The matches of `clap` on words that the definition accepts, for each command.
 use Rattle.std.proofs.Common.{◌≡◌, ℕ, suc, true, List, [], ◌∷◌, length, Option, Some, None, Ok, refl, sym, ap, ◌∙◌, subst, codes}
+use Rattle.std.specs.Str.Parse.{digits_value}
 use Rattle.clap.specs.Matches.{first_value}
 use Rattle.clap.specs.Walk.{Row, Text, Walk, idle, first_of, finished, settled_rows, walk, nothing_held}
 use Rattle.clap.specs.Simple.{App, built, matches_of}
@@ -9,11 +10,12 @@ use Rattle.smt_print.specs.declared.layout.Layout.{Layout}
 use Rattle.smt_print.specs.declared.layout.Layout.TheVariants.{Tree}
 use Rattle.passes.specs.declared.names.Pass.{Pass}
 use Rattle.passes.specs.Lists.{any_pass}
-use Rattle.smtrw_answers.specs.Words.{Word, Numbered, Command, rewriting, translating, extending, counting, needed, Setting, settings_of, Given, nothing_given, file_word, of_kind, passes_of, layout_of, check_of, words_from, Asked, rewrite, translate, extend, stats, asked_with, asked_or_missing, at_end, asked_of}
-use Rattle.smtrw_answers.specs.Asking.{passes_in, layout_in, check_in, CarryingIn, GivesRewriting, GivesCounting}
+use Rattle.smtrw_answers.specs.Words.{Word, Numbered, Command, rewriting, translating, extending, counting, demonstrating, needed, Setting, settings_of, Given, nothing_given, passes_of, layout_of, check_of, words_from, Asked, rewrite, translate, extend, stats, demo, asked_with, asked_or_missing, at_end, asked_of}
+use Rattle.smtrw_answers.specs.Asking.{passes_in, layout_in, check_in, CarryingIn, GivesRewriting, GivesCounting, GivesDemonstrating, number_of}
 use Rattle.smtrw_answers.proofs.ClapRows.{first_of-none}
-use Rattle.smtrw_answers.proofs.ClapWalk.{walk_at, FilesIn, Taking}
-use Rattle.smtrw_answers.proofs.ClapWords.{PassesIn, LayoutIn, CheckIn, Holds, Stands, waiting_of, along_all, nothing_along, and_then_ok}
+use Rattle.smtrw_answers.proofs.ClapWalk.{walk_at, OperandsIn, Taking}
+use Rattle.smtrw_answers.proofs.ClapWords.{PassesIn, LayoutIn, CheckIn, Holds, Stands, waiting_of, PutsWords, along_all, nothing_along, and_then_ok}
+use Rattle.smtrw_answers.proofs.DemoWords.{AreNumbers}
 
 -- ---- any command
 
@@ -26,22 +28,22 @@ nothing_awaited : (c : Command) (i : ℕ) (g : Given) (a : Asked) (s : Option Se
 nothing_awaited c i g a None idles e = (idles, e)
 nothing_awaited c i g a (Some s) awaits e = absurd cc
 
-pub all_matched : (c : Command) (app : App) (ids : List Text) → Taking (settings_of c) (needed c) app ids → ((i : ℕ) (w : Word) (g : Given) → of_kind c i w g ≡ file_word i w g)
+pub all_matched : (c : Command) (app : App) (ids : List Text) → Taking (settings_of c) (needed c) app ids → PutsWords c
     → (name : Word) (ws : List Word) (a : Asked) → asked_of any_pass (Some c) ws ≡ Ok a
-    → (g : Given) × Matched app ids g (name ∷ ws) × (asked_or_missing (suc (suc (length ws))) (asked_with c g g.plain) ≡ Ok a)
-all_matched c app ids t files name ws a e =
+    → (g : Given) × Matched app ids g (name ∷ ws) × (asked_or_missing (suc (suc (length ws))) (asked_with c g g.plain) ≡ Ok a) × (words_from any_pass c 2 ws nothing_given ≡ Ok g)
+all_matched c app ids t puts name ws a e =
     let rules = (built app).top.rules in
     let all = and_then_ok (λ g. at_end c (suc (suc (length ws))) g g.awaited) (words_from any_pass c 2 ws nothing_given) a e in
     let g = all.0 in
     let end = nothing_awaited c (suc (suc (length ws))) g a g.awaited refl all.2 in
-    let along = along_all c app ids t files 2 ws nothing_given g (walk_at [] None idle 1) (nothing_along c app ids t files) all.1 in
+    let along = along_all c app ids t puts 2 ws nothing_given g (walk_at [] None idle 1) (nothing_along c app ids t puts) all.1 in
     let rows = along.along.rows in
     let p = along.along.pending in
     let n = suc (length g.plain) in
     let stand : walk rules [] nothing_held ws ≡ walk_at rows p idle n = along.along.stand ∙ ap (λ s. walk_at rows p (waiting_of s) n) end.0 in
     let stands = subst (λ s. Stands (built app).top ids s g rows p) end.0 along.along.holds in
     let rows_are : matches_of app (name ∷ ws) ≡ settled_rows rules p rows = t.found name ws ∙ ap (λ (w : Walk). finished rules w.held) stand ∙ t.finished_at rows p in
-    (g, record { takes = t.taken name ws rows p n stand stands.1 along.passes; holds = subst (Holds ids g) (sym rows_are) stands.0 }, end.1)
+    (g, record { takes = t.taken name ws rows p n stand stands.1 along.passes; holds = subst (Holds ids g) (sym rows_are) stands.0 }, end.1, all.1)
 
 -- ---- what the rows say
 
@@ -66,7 +68,7 @@ module _ (rows : List Row) (found : Found) (same : (id : Text) → first_value f
       let is = parts g.plain e in (
         ap passes_in (same (codes "passes")) ∙ passes_found g.passes rows holds.passes ∙ ap Ok is.1,
         ap layout_in (same (codes "layout")) ∙ layout_found g.layout rows holds.layout ∙ ap Some is.2,
-        same (codes "file") ∙ (subst (λ fs. FilesIn (codes "file" ∷ []) fs rows) is.0 holds.files).0,
+        same (codes "file") ∙ (subst (λ fs. OperandsIn (codes "file" ∷ []) fs rows) is.0 holds.operands).0,
       )
     where
       parts : (fs : List Numbered) → asked_or_missing i (asked_with rewriting g fs) ≡ Ok (rewrite ps l f) → (fs ≡ f ∷ []) × (passes_of g ≡ ps) × (layout_of g ≡ l)
@@ -77,7 +79,7 @@ module _ (rows : List Row) (found : Found) (same : (id : Text) → first_value f
   carried : (g : Given) (ps : List Pass) (k : ℕ) (s m : Numbered) → Holds (codes "script" ∷ codes "model" ∷ []) g rows
       → (g.plain ≡ s ∷ m ∷ []) × (passes_of g ≡ ps) × (check_of g ≡ k) → CarryingIn ps k s m found
   carried g ps k s m holds is =
-      let files = subst (λ fs. FilesIn (codes "script" ∷ codes "model" ∷ []) fs rows) is.0 holds.files in (
+      let files = subst (λ fs. OperandsIn (codes "script" ∷ codes "model" ∷ []) fs rows) is.0 holds.operands in (
         ap passes_in (same (codes "passes")) ∙ passes_found g.passes rows holds.passes ∙ ap Ok is.1,
         ap check_in (same (codes "check")) ∙ check_found g.check rows holds.check ∙ ap Some is.2,
         same (codes "script") ∙ files.0,
@@ -106,9 +108,22 @@ module _ (rows : List Row) (found : Found) (same : (id : Text) → first_value f
 
   pub counting_given : (i : ℕ) (g : Given) (f : Numbered) → Holds (codes "file" ∷ []) g rows → asked_or_missing i (asked_with counting g g.plain) ≡ Ok (stats f)
       → GivesCounting (Ok (stats f)) found
-  counting_given i g f holds e = same (codes "file") ∙ (subst (λ fs. FilesIn (codes "file" ∷ []) fs rows) (parts g.plain e) holds.files).0
+  counting_given i g f holds e = same (codes "file") ∙ (subst (λ fs. OperandsIn (codes "file" ∷ []) fs rows) (parts g.plain e) holds.operands).0
     where
       parts : (fs : List Numbered) → asked_or_missing i (asked_with counting g fs) ≡ Ok (stats f) → fs ≡ f ∷ []
       parts [] is = absurd cc
       parts (x ∷ []) is = cc
       parts (x ∷ y ∷ xs) is = absurd cc
+
+  pub demonstrating_given : (i : ℕ) (g : Given) (seed size : ℕ) → Holds (codes "seed" ∷ codes "size" ∷ []) g rows → AreNumbers g.plain
+      → asked_or_missing i (asked_with demonstrating g g.plain) ≡ Ok (demo seed size) → GivesDemonstrating (Ok (demo seed size)) found
+  demonstrating_given i g seed size holds = parts g.plain holds.operands
+    where
+      parts : (ws : List Numbered) → OperandsIn (codes "seed" ∷ codes "size" ∷ []) ws rows → AreNumbers ws
+          → asked_or_missing i (asked_with demonstrating g ws) ≡ Ok (demo seed size) → GivesDemonstrating (Ok (demo seed size)) found
+      parts [] held numbers is = absurd cc
+      parts (s ∷ []) held numbers is = absurd cc
+      parts (s ∷ n ∷ []) held numbers is =
+          let both : (digits_value 10 s.word ≡ seed) × (digits_value 10 n.word ≡ size) = (cc, cc) in
+          (ap number_of (same (codes "seed") ∙ held.0) ∙ numbers.0 ∙ ap Some both.0, ap number_of (same (codes "size") ∙ held.1.0) ∙ numbers.1.0 ∙ ap Some both.1)
+      parts (s ∷ n ∷ x ∷ ws) held numbers is = absurd cc

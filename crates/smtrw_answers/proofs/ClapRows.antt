@@ -27,6 +27,12 @@ script_rule = new_rule (codes "script")
 abbrev pub model_rule : Rule
 model_rule = new_rule (codes "model")
 
+abbrev pub seed_rule : Rule
+seed_rule = new_rule (codes "seed")
+
+abbrev pub size_rule : Rule
+size_rule = new_rule (codes "size")
+
 -- a command without the flag that `clap` adds for help
 abbrev pub app_named : Text → App
 app_named name = on_top (λ s. record s { disable_help_flag = true }) (new_app name)
@@ -41,6 +47,9 @@ carry_app name = with_rule (with_rule (with_rule (with_rule (app_named name) pas
 abbrev pub stats_app : App
 stats_app = with_rule (app_named (codes "stats")) file_rule
 
+abbrev pub demo_app : App
+demo_app = with_rule (with_rule (app_named (codes "demo")) seed_rule) size_rule
+
 pub rewrite_is_simple : is_simple rewrite_app ≡ true
 rewrite_is_simple = refl
 
@@ -49,6 +58,9 @@ carry_is_simple name = refl
 
 pub stats_is_simple : is_simple stats_app ≡ true
 stats_is_simple = refl
+
+pub demo_is_simple : is_simple demo_app ≡ true
+demo_is_simple = refl
 
 -- ---- rows
 

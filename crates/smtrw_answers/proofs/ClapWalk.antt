@@ -95,16 +95,16 @@ abbrev pub IsOptionWord : Setting × Option Word → Word → Type 0
 IsOptionWord (s, None) w = w ≡ name_of s
 IsOptionWord (s, Some v) w = w ≡ with_value_in s v
 
--- ---- files
+-- ---- words that are no options
 
--- the files of a command, by the ids of its places
-abbrev pub FilesIn : List Text → List Numbered → List Row → Type 0
-FilesIn [] [] rows = Unit {0}
-FilesIn [] (f ∷ fs) rows = ⊥
-FilesIn (id ∷ ids) [] rows = (has_row id rows ≡ false) × FilesIn ids [] rows
-FilesIn (id ∷ ids) (f ∷ fs) rows = (first_of id rows ≡ Some f.word) × FilesIn ids fs rows
+-- those of a command, by the ids of its places
+abbrev pub OperandsIn : List Text → List Numbered → List Row → Type 0
+OperandsIn [] [] rows = Unit {0}
+OperandsIn [] (f ∷ fs) rows = ⊥
+OperandsIn (id ∷ ids) [] rows = (has_row id rows ≡ false) × OperandsIn ids [] rows
+OperandsIn (id ∷ ids) (f ∷ fs) rows = (first_of id rows ≡ Some f.word) × OperandsIn ids fs rows
 
--- the place of one more file
+-- the place of one more
 pub record TakesPlace (shape : Shape) (ids : List Text) (fs : List Numbered) : Type 0 where
   pub id : Text
   pub met : (rows : List Row) (p : Pending) (w : Word) → IsPlainWord w
@@ -113,8 +113,8 @@ pub record TakesPlace (shape : Shape) (ids : List Text) (fs : List Numbered) : T
       → turn_passes shape [] (walk_at rows p idle (suc (length fs))) w ≡ true
   pub settles : (rows : List Row) (w : Word) → has_row id rows ≡ false → settle_passes shape.rules false (held_at rows (Some (id, w ∷ []))) ≡ true
   pub added : (rows : List Row) (w : Word) → has_row id rows ≡ false → RowAdded id w rows (settled_rows shape.rules (Some (id, w ∷ [])) rows)
-  pub free : (rows : List Row) → FilesIn ids fs rows → has_row id rows ≡ false
-  pub put : (f : Numbered) (old new : List Row) → RowAdded id f.word old new → FilesIn ids fs old → FilesIn ids (fs ++ f ∷ []) new
+  pub free : (rows : List Row) → OperandsIn ids fs rows → has_row id rows ≡ false
+  pub put : (f : Numbered) (old new : List Row) → RowAdded id f.word old new → OperandsIn ids fs old → OperandsIn ids (fs ++ f ∷ []) new
   pub apart : (s : Setting) → bytes_eq id (id_of s) ≡ false
 
 -- ---- a command
@@ -123,7 +123,7 @@ pub record TakesPlace (shape : Shape) (ids : List Text) (fs : List Numbered) : T
 pub record Taking (settings : List (Word × Setting)) (most : ℕ) (app : App) (ids : List Text) : Type 0 where
   pub options : (w : Word) (o : Setting × Option Word) → setting_among settings w ≡ Some o → IsOptionWord o w × TakesOption (built app).top o.0
   pub place : (fs : List Numbered) → nat_le most (length fs) ≡ false → TakesPlace (built app).top ids fs
-  pub no_files : FilesIn ids [] []
+  pub no_operands : OperandsIn ids [] []
   pub apart : (s : Setting) → list_any (bytes_eq (id_of s)) ids ≡ false
   -- without defaults
   pub finished_at : (rows : List Row) (p : Pending) → finished (built app).top.rules (held_at rows p) ≡ settled_rows (built app).top.rules p rows

@@ -16,7 +16,7 @@ use Rattle.smtrw_answers.specs.declared.status.Why.TheVariants.{BadValue}
 use Rattle.smtrw_answers.specs.Words.{Word, Numbered, Command, needed, Setting, of_passes, of_layout, of_check, settings_of, setting_among, is_dashed, Given, nothing_given, is_given, is_from, number_in, layout_named, with_passes, with_layout, with_check, with_value, value_word, with_setting, option_word, with_plain, file_word, of_kind, plain_word, word_behind, words_from, and_then}
 use Rattle.smtrw_answers.specs.Asking.{check_named}
 use Rattle.smtrw_answers.proofs.ClapRows.{RowAdded, row_added}
-use Rattle.smtrw_answers.proofs.ClapWalk.{Pending, held_at, walk_at, plain_word_is, id_of, name_of, rule_of, with_value_in, TakesOption, IsOptionWord, FilesIn, Taking}
+use Rattle.smtrw_answers.proofs.ClapWalk.{Pending, held_at, walk_at, plain_word_is, id_of, name_of, rule_of, with_value_in, TakesOption, IsOptionWord, OperandsIn, Taking}
 
 -- ---- what was given, in rows
 
@@ -38,7 +38,7 @@ pub record Holds (ids : List Text) (g : Given) (rows : List Row) : Type 0 where
   pub passes : PassesIn g.passes rows
   pub layout : LayoutIn g.layout rows
   pub check : CheckIn g.check rows
-  pub files : FilesIn ids g.plain rows
+  pub operands : OperandsIn ids g.plain rows
 
 neither : (a b : Bool) → (a || b) ≡ false → (a ≡ false) × (b ≡ false)
 neither true b e = absurd cc
@@ -49,15 +49,15 @@ module _ {id v : Text} {old new : List Row} (added : RowAdded id v old new) wher
   value_kept Reads other None differs no_row = added.has other differs ∙ no_row
   value_kept Reads other (Some a) differs (t, found, read) = (t, added.others other differs ∙ found, read)
 
-  files_kept : (ids : List Text) (fs : List Numbered) → list_any (bytes_eq id) ids ≡ false → FilesIn ids fs old → FilesIn ids fs new
-  files_kept [] [] apart is = is
-  files_kept [] (f ∷ fs) apart is = absurd is
-  files_kept (other ∷ ids) [] apart is =
+  operands_kept : (ids : List Text) (fs : List Numbered) → list_any (bytes_eq id) ids ≡ false → OperandsIn ids fs old → OperandsIn ids fs new
+  operands_kept [] [] apart is = is
+  operands_kept [] (f ∷ fs) apart is = absurd is
+  operands_kept (other ∷ ids) [] apart is =
       let parts = neither (bytes_eq id other) (list_any (bytes_eq id) ids) apart in
-      (added.has other parts.0 ∙ is.0, files_kept ids [] parts.1 is.1)
-  files_kept (other ∷ ids) (f ∷ fs) apart is =
+      (added.has other parts.0 ∙ is.0, operands_kept ids [] parts.1 is.1)
+  operands_kept (other ∷ ids) (f ∷ fs) apart is =
       let parts = neither (bytes_eq id other) (list_any (bytes_eq id) ids) apart in
-      (added.others other parts.0 ∙ is.0, files_kept ids fs parts.1 is.1)
+      (added.others other parts.0 ∙ is.0, operands_kept ids fs parts.1 is.1)
 
 -- ---- what the definition makes of a word
 
@@ -67,6 +67,10 @@ ok_same a b e = cc
 pub else_taken : {A E : Type 0} (b : Bool) (fault : E) (r : Result A E) (a : A) → cond b (Err fault) r ≡ Ok a → (b ≡ false) × (r ≡ Ok a)
 else_taken true fault r a e = absurd cc
 else_taken false fault r a e = (refl, e)
+
+pub then_taken : {A E : Type 0} (b : Bool) (fault : E) (r : Result A E) (a : A) → cond b r (Err fault) ≡ Ok a → (b ≡ true) × (r ≡ Ok a)
+then_taken true fault r a e = (refl, e)
+then_taken false fault r a e = absurd cc
 
 with_passes_taken : (i : ℕ) (r : Result (List Pass) ListFault) (g h : Given) → with_passes i r g ≡ Ok h → (ps : List Pass) × (r ≡ Ok ps) × (record g { passes = Some ps; awaited = None } ≡ h)
 with_passes_taken i (Ok ps) g h e = (ps, refl, ok_same _ _ e)
@@ -117,7 +121,7 @@ module _ (ids : List Text) (i : ℕ) (v : Text) (g h : Given) (rows : List Row) 
           passes = (v, added.first, read.1);
           layout = value_kept added _ (codes "layout") g.layout refl holds.layout;
           check = value_kept added _ (codes "check") g.check refl holds.check;
-          files = files_kept added ids g.plain apart holds.files;
+          operands = operands_kept added ids g.plain apart holds.operands;
         };
         idles = refl;
         plain = refl;
@@ -134,7 +138,7 @@ module _ (ids : List Text) (i : ℕ) (v : Text) (g h : Given) (rows : List Row) 
           passes = value_kept added _ (codes "passes") g.passes refl holds.passes;
           layout = (v, added.first, read.1);
           check = value_kept added _ (codes "check") g.check refl holds.check;
-          files = files_kept added ids g.plain apart holds.files;
+          operands = operands_kept added ids g.plain apart holds.operands;
         };
         idles = refl;
         plain = refl;
@@ -151,7 +155,7 @@ module _ (ids : List Text) (i : ℕ) (v : Text) (g h : Given) (rows : List Row) 
           passes = value_kept added _ (codes "passes") g.passes refl holds.passes;
           layout = value_kept added _ (codes "layout") g.layout refl holds.layout;
           check = (v, added.first, read.1);
-          files = files_kept added ids g.plain apart holds.files;
+          operands = operands_kept added ids g.plain apart holds.operands;
         };
         idles = refl;
         plain = refl;
@@ -187,12 +191,19 @@ pub and_then_ok : {A B : Type 0} (next : A → Result B Usage) (r : Result A Usa
 and_then_ok next (Ok a) b e = (a, refl, e)
 and_then_ok next (Err fault) b e = absurd cc
 
+-- a word that is no option and that the command takes is put behind the others
+abbrev pub PutsWords : Command → Type 0
+PutsWords c = (i : ℕ) (w : Word) (g h : Given) → of_kind c i w g ≡ Ok h → with_plain i w g ≡ Ok h
+
+pub file_put : (i : ℕ) (w : Word) (g h : Given) → file_word i w g ≡ Ok h → with_plain i w g ≡ Ok h
+file_put i w g h e = (else_taken (bytes_eq w (codes "-") && list_any (λ f. bytes_eq f.word (codes "-")) g.plain) _ (with_plain i w g) h e).1
+
 -- all words are taken
 pub record AlongAll (shape : Shape) (ids : List Text) (g : Given) (from : Walk) (ws : List Word) : Type 0 where
   pub along : Along shape ids g (fold (walked shape.rules []) from ws)
   pub passes : walk_passes shape [] from ws ≡ true
 
-module _ (c : Command) (app : App) (ids : List Text) (t : Taking (settings_of c) (needed c) app ids) (files : (i : ℕ) (w : Word) (g : Given) → of_kind c i w g ≡ file_word i w g) where
+module _ (c : Command) (app : App) (ids : List Text) (t : Taking (settings_of c) (needed c) app ids) (puts : PutsWords c) where
   abbrev shape : Shape
   shape = (built app).top
 
@@ -201,7 +212,7 @@ module _ (c : Command) (app : App) (ids : List Text) (t : Taking (settings_of c)
 
   -- ---- options
 
-  -- the walk behind a value: nothing is awaited, and the files are those from before
+  -- the walk behind a value: nothing is awaited, and the words that are no options are those from before
   behind_value : (g h : Given) (rows : List Row) (p : Pending) → h.awaited ≡ None → h.plain ≡ g.plain
       → walk_at rows p idle (suc (length g.plain)) ≡ walk_at rows p (waiting_of h.awaited) (suc (length h.plain))
   behind_value g h rows p idles plain = ap₂ (λ s fs. walk_at rows p (waiting_of s) (suc (length fs))) (sym idles) (sym plain)
@@ -235,7 +246,7 @@ module _ (c : Command) (app : App) (ids : List Text) (t : Taking (settings_of c)
         rows = settled_rows shape.rules p rows;
         pending = Some (id_of s, []);
         stand = takes.begun rows p (suc (length g.plain));
-        holds = (refl, record { passes = stands.0.passes; layout = stands.0.layout; check = stands.0.check; files = stands.0.files }, same_given s new, takes);
+        holds = (refl, record { passes = stands.0.passes; layout = stands.0.layout; check = stands.0.check; operands = stands.0.operands }, same_given s new, takes);
       };
       turn = takes.begun_turn rows p (suc (length g.plain)) stands.1;
     })
@@ -274,36 +285,34 @@ module _ (c : Command) (app : App) (ids : List Text) (t : Taking (settings_of c)
             let taken = else_taken (is_given o.0 g) _ (with_setting any_pass i o.0 o.1 g) h is in
             option_met_next o met.0 met.1 taken.0 taken.1
 
-  -- ---- files
+  -- ---- words that are no options
 
-  file_taken : (i : ℕ) (w : Word) (g h : Given) → plain_word c i w g ≡ Ok h
+  operand_taken : (i : ℕ) (w : Word) (g h : Given) → plain_word c i w g ≡ Ok h
       → (nat_le (needed c) (length g.plain) ≡ false) × (record g { plain = g.plain ++ record { number = i; word = w } ∷ [] } ≡ h)
-  file_taken i [] g h e = absurd cc
-  file_taken i (b ∷ bs) g h e =
+  operand_taken i [] g h e = absurd cc
+  operand_taken i (b ∷ bs) g h e =
       let room = else_taken (nat_le (needed c) (length g.plain)) _ (of_kind c i (b ∷ bs) g) h e in
-      let word : file_word i (b ∷ bs) g ≡ Ok h = sym (files i (b ∷ bs) g) ∙ room.1 in
-      let taken = else_taken (bytes_eq (b ∷ bs) (codes "-") && list_any (λ f. bytes_eq f.word (codes "-")) g.plain) _ (with_plain i (b ∷ bs) g) h word in
-      (room.0, ok_same _ _ taken.1)
+      (room.0, ok_same _ _ (puts i (b ∷ bs) g h room.1))
 
-  file_next : (i : ℕ) (w : Word) (g h : Given) (rows : List Row) (p : Pending) → Stands shape ids None g rows p → g.awaited ≡ None → is_dashed w ≡ false
+  operand_next : (i : ℕ) (w : Word) (g h : Given) (rows : List Row) (p : Pending) → Stands shape ids None g rows p → g.awaited ≡ None → is_dashed w ≡ false
       → plain_word c i w g ≡ Ok h → Follows h (walk_at rows p idle (suc (length g.plain))) w
-  file_next i w g h rows p stands idles plain e =
-      let taken = file_taken i w g h e in
+  operand_next i w g h rows p stands idles plain e =
+      let taken = operand_taken i w g h e in
       let place = t.place g.plain taken.0 in
       let before : List Row = settled_rows shape.rules p rows in
-      let file : Numbered = record { number = i; word = w } in
-      let given : Given = record g { plain = g.plain ++ file ∷ [] } in
+      let operand : Numbered = record { number = i; word = w } in
+      let given : Given = record g { plain = g.plain ++ operand ∷ [] } in
       let pending : Pending = Some (place.id, w ∷ []) in
-      let no_row = place.free before stands.0.files in
+      let no_row = place.free before stands.0.operands in
       let added = place.added before w no_row in
       let is = plain_word_is w plain in
       let holds : Holds ids given (settled_rows shape.rules pending before) = record {
         passes = value_kept added _ (codes "passes") g.passes (place.apart of_passes) stands.0.passes;
         layout = value_kept added _ (codes "layout") g.layout (place.apart of_layout) stands.0.layout;
         check = value_kept added _ (codes "check") g.check (place.apart of_check) stands.0.check;
-        files = place.put file before _ added stands.0.files;
+        operands = place.put operand before _ added stands.0.operands;
       } in
-      let count : suc (length g.plain) ≡ length (g.plain ++ file ∷ []) = one_more g.plain file in
+      let count : suc (length g.plain) ≡ length (g.plain ++ operand ∷ []) = one_more g.plain operand in
       subst (λ x. Follows x (walk_at rows p idle (suc (length g.plain))) w) taken.1 (record {
         along = record {
           rows = before;
@@ -327,7 +336,7 @@ module _ (c : Command) (app : App) (ids : List Text) (t : Taking (settings_of c)
       go : (b : Bool) → is_dashed w ≡ b → cond b (option_word any_pass i (setting_among (settings_of c) w) g) (plain_word c i w g) ≡ Ok h
           → Follows h (walk_at rows p idle (suc (length g.plain))) w
       go true dashed is = option_next i w g h rows p stands is
-      go false plain is = file_next i w g h rows p stands idles plain is
+      go false plain is = operand_next i w g h rows p stands idles plain is
   next_at i w g h rows p (Some s) awaits stands e =
       subst (λ q. Follows h (walk_at rows q (option (id_of s)) (suc (length g.plain))) w) (sym stands.0) (value_next i w g h rows s stands.3 stands.1 stands.2 e)
 
@@ -344,4 +353,4 @@ module _ (c : Command) (app : App) (ids : List Text) (t : Taking (settings_of c)
       record { along = rest.along; passes = ap (λ b. b && walk_passes shape [] (walked shape.rules [] walk w) ws) next.turn ∙ rest.passes }
 
   pub nothing_along : Along shape ids nothing_given (walk_at [] None idle 1)
-  nothing_along = record { rows = []; pending = None; stand = refl; holds = (record { passes = refl; layout = refl; check = refl; files = t.no_files }, refl) }
+  nothing_along = record { rows = []; pending = None; stand = refl; holds = (record { passes = refl; layout = refl; check = refl; operands = t.no_operands }, refl) }

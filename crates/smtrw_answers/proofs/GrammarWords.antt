@@ -6,11 +6,11 @@ use Rattle.std.proofs.lemmas.List.{drop_all, get_or-map, length-map}
 use Rattle.passes.specs.Lists.{any_pass}
 use Rattle.smtrw_answers.specs.declared.status.Usage.{Usage}
 use Rattle.smtrw_answers.specs.declared.grammar.Seen.{Seen}
-use Rattle.smtrw_answers.specs.declared.grammar.Files.{Files}
-use Rattle.smtrw_answers.specs.declared.grammar.Files.TheVariants.{Absent, One, Two}
+use Rattle.smtrw_answers.specs.declared.grammar.Operands.{Operands}
+use Rattle.smtrw_answers.specs.declared.grammar.Operands.TheVariants.{Absent, One, Two}
 use Rattle.smtrw_answers.specs.declared.grammar.Plan.{Plan}
-use Rattle.smtrw_answers.specs.Words.{Word, Command, Given, nothing_given, word_behind, words_from, and_then, at_end, asked_of, Asked, asked, command_if, command_named, stands}
-use Rattle.smtrw_answers.specs.Asking.{Agrees, EndFits, StepFits, file_count, most_words, one_if}
+use Rattle.smtrw_answers.specs.Words.{Word, Command, Given, nothing_given, word_behind, words_from, and_then, at_end, asked_of, Asked, asked, command_named}
+use Rattle.smtrw_answers.specs.Asking.{Agrees, EndFits, StepFits, operand_count, most_words, one_if}
 
 -- the first k words were accepted
 pub record Met (c : Command) (ws : List Word) (k : ℕ) (s : Seen) : Type 0 where
@@ -20,7 +20,7 @@ pub record Met (c : Command) (ws : List Word) (k : ℕ) (s : Seen) : Type 0 wher
   pub few : k ≤ most_words s
 
 abbrev nothing_seen : Seen
-nothing_seen = record { passes = false; layout = false; check = false; files = Absent; reads_input = false; awaited = None }
+nothing_seen = record { passes = false; layout = false; check = false; operands = Absent; reads_input = false; awaited = None }
 
 pub none_met : (c : Command) (ws : List Word) → Met c ws 0 nothing_seen
 none_met c ws = record { given = nothing_given; agrees = record { passes = refl; layout = refl; check = refl; plain = refl; input = refl; awaited = refl; new = tt }; rest = refl; few = omega arith }
@@ -29,13 +29,13 @@ one_few : (b : Bool) → one_if b ≤ 1
 one_few true = omega arith
 one_few false = omega arith
 
-files_few : (fs : Files) → file_count fs ≤ 2
-files_few Absent = omega arith
-files_few (One i) = omega arith
-files_few (Two i j) = omega arith
+operands_few : (os : Operands) → operand_count os ≤ 2
+operands_few Absent = omega arith
+operands_few (One i) = omega arith
+operands_few (Two i j) = omega arith
 
 pub most_few : (s : Seen) → most_words s ≤ 9
-most_few s = omega (arith, one_few s.passes, one_few s.layout, one_few s.check, files_few s.files, one_few (is_some s.awaited))
+most_few s = omega (arith, one_few s.passes, one_few s.layout, one_few s.check, operands_few s.operands, one_few (is_some s.awaited))
 
 module _ (c : Command) (ws : List Word) (k : ℕ) (s : Seen) (w : Word) (lt : k < length ws) (at : w ≡ get_or ws k w) (m : Met c ws k s) where
   here : words_from any_pass c 2 ws nothing_given ≡ and_then (words_from any_pass c (suc (k + 2)) (drop (suc k) ws)) (word_behind any_pass c (k + 2) w m.given m.given.awaited)
@@ -76,9 +76,9 @@ all_met c ws k s r end m fits =
     subst (EndFits r) (sym asked) fits
 
 -- the words from the first one on
-pub asked_behind : (words rest : List Word) (name w : Word) (c : Command) → words ≡ name ∷ rest → w ≡ name → Some c ≡ command_if stands (command_named w)
+pub asked_behind : (words rest : List Word) (name w : Word) (c : Command) → words ≡ name ∷ rest → w ≡ name → Some c ≡ command_named w
     → asked words ≡ asked_of any_pass (Some c) rest
-asked_behind words rest name w c split same is = ap asked split ∙ ap (λ v. asked_of any_pass (command_if stands (command_named v)) rest) (sym same) ∙ ap (λ o. asked_of any_pass o rest) (sym is)
+asked_behind words rest name w c split same is = ap asked split ∙ ap (λ v. asked_of any_pass (command_named v) rest) (sym same) ∙ ap (λ o. asked_of any_pass o rest) (sym is)
 
 -- a word at its place
 pub placed_word : {S : Type 0} (text : S → Word) (xs : List S) (k : ℕ) (x : S) (w : Word) → k < length xs → x ≡ get_or xs k x → w ≡ text x

@@ -1,22 +1,29 @@
-mod OneText
-mod Promise
-mod ReadableValues
-mod ReadableTables
-mod EvaluatedTerms
-mod ReadableTexts
-mod ReadModels
 mod CarriedModels
 mod CarriedTexts
-mod Rows
+pub mod CarriedWords
+pub mod ClapCalls
+pub mod ClapCommands
+pub mod ClapMatches
 pub mod ClapRows
 pub mod ClapWalk
-pub mod ClapCommands
 pub mod ClapWords
-pub mod ClapMatches
-pub mod ClapCalls
-pub mod CarriedWords
-pub mod GrammarFiles
+mod DemoForms
+mod DemoLengths
+mod DemoLines
+mod DemoNames
+mod DemoScripts
+mod DemoTerms
+pub mod DemoWords
+pub mod ErrorLines
+mod EvaluatedTerms
 pub mod GrammarNames
 pub mod GrammarNumbers
+pub mod GrammarOperands
 pub mod GrammarWords
-pub mod ErrorLines
+mod OneText
+mod Promise
+mod ReadModels
+mod ReadableTables
+mod ReadableTexts
+mod ReadableValues
+mod Rows

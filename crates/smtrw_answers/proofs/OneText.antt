@@ -12,7 +12,7 @@ use Rattle.passes.specs.declared.names.Pass.{Pass}
 use Rattle.passes.specs.declared.names.Pass.TheVariants.{Rules}
 use Rattle.passes.specs.Led.{MadeBy, MayBecome, EachMayBecome, LeadsTo}
 use Rattle.passes.specs.Passed.{apply_pass, passed}
-use Rattle.smtrw_answers.specs.Laws.{is_rules, WithoutRulesOneText, EightWriteOneText}
+use Rattle.smtrw_answers.specs.Laws.{is_rules, WithoutRulesOneText, WithoutRulesOneList, EightWriteOneText}
 use Rattle.smtrw_answers.specs.Outputs.{commands, names_left}
 
 -- ---- without stored rules
@@ -22,9 +22,11 @@ one_list [] cs s rules ds r unruled led = led.0
 one_list (Rules ∷ ps) cs s rules ds r unruled led = absurd cc
 one_list (p ∷ ps) cs s rules ds r unruled led = one_list ps (apply_pass p cs s).0 (apply_pass p cs s).1 rules ds r unruled led
 
+pub without_rules_list : WithoutRulesOneList
+without_rules_list b ps rules cs unruled led = one_list ps (commands b) (names_left b) rules cs led.0 unruled led.1
+
 pub without_rules : WithoutRulesOneText
-without_rules b w ps rules layout unruled may =
-    may.2 ∙ ap (λ (ds : List (Command Term)). lines layout ds) (one_list ps (commands b) (names_left b) rules may.0 may.1.0 unruled may.1.1)
+without_rules b w ps rules layout unruled may = may.2 ∙ ap (λ (ds : List (Command Term)). lines layout ds) (without_rules_list b ps rules may.0 unruled may.1)
 
 -- ---- with stored rules among the eight
 

@@ -1,13 +1,15 @@
 -- What the program's code answers to its words.
-use Rattle.std.specs.Prelude.{◌≡◌, ℕ, Result, Ok, Err, IsOk}
+use Rattle.std.specs.Prelude.{◌≡◌, ◌≤◌, ℕ, Result, Ok, Err, IsOk}
 use Rattle.smtrw_answers.specs.declared.status.Usage.{Usage as UsageFault}
 use Rattle.smtrw_answers.specs.declared.words.File.{File}
 use Rattle.smtrw_answers.specs.declared.words.Asked.{Asked}
-use Rattle.smtrw_answers.specs.declared.words.Asked.TheVariants.{Rewrite, Translate, Extend, Stats}
+use Rattle.smtrw_answers.specs.declared.words.Asked.TheVariants.{Rewrite, Translate, Extend, Stats, Demo}
+use Rattle.smtrw_answers.specs.declared.words.Source.{Source}
+use Rattle.smtrw_answers.specs.declared.words.Source.TheVariants.{File as FromFile, Drawn}
 use Rattle.smtrw_answers.specs.declared.words.Carried.{Carried}
 use Rattle.smtrw_answers.specs.declared.words.WordsFault.{WordsFault}
 use Rattle.smtrw_answers.specs.declared.words.WordsFault.TheVariants.{Usage, Memory}
-use Rattle.smtrw_answers.specs.Words.{Numbered, Asked as AskedFor, rewrite, translate, extend, stats}
+use Rattle.smtrw_answers.specs.Words.{Numbered, Source as ScriptSource, of_file, drawn, greatest_size, Asked as AskedFor, rewrite, translate, extend, stats, demo}
 
 -- the word of a file, with its number
 abbrev pub numbered : File → Numbered
@@ -19,6 +21,11 @@ asked_seen (Rewrite ps l f) = rewrite ps l (numbered f)
 asked_seen (Translate ps k s m) = translate ps k (numbered s) (numbered m)
 asked_seen (Extend ps k s m) = extend ps k (numbered s) (numbered m)
 asked_seen (Stats f) = stats (numbered f)
+asked_seen (Demo seed size) = demo seed size
+
+abbrev pub source_seen : Source → ScriptSource
+source_seen (FromFile f) = of_file (numbered f)
+source_seen (Drawn seed size) = drawn seed size
 
 -- exactly what is asked for, or exactly the first fault; memory may be wanting only where there is no fault
 abbrev pub Answers : Result AskedFor UsageFault → Result Asked WordsFault → Type 0
@@ -44,3 +51,10 @@ abbrev pub GivesCarried : Result AskedFor UsageFault → Result Carried WordsFau
 GivesCarried (Ok a) (Ok c) = IsCarried a c
 GivesCarried (Ok a) (Err e) = e ≡ Memory
 GivesCarried (Err u) r = ⊥
+
+-- checks are counted from 1, and a demonstration has at least one step and at most so many
+abbrev pub IsInRange : AskedFor → Type 0
+IsInRange (translate ps k s m) = 1 ≤ k
+IsInRange (extend ps k s m) = 1 ≤ k
+IsInRange (demo seed size) = (1 ≤ size) × (size ≤ greatest_size)
+IsInRange _ = Unit {0}

@@ -1,5 +1,5 @@
 -- What the program's code makes of its words.
-use Rattle.std.specs.Prelude.{◌≡◌, ℕ, ◌+◌, ◌*◌, ◌≤◌, Bool, true, false, nat_le, if◌then◌else◌, Result, Ok, Err, Option, Some, None, is_some, option_map, List, [], ◌∷◌, ◌++◌, length, codes, bytes_eq}
+use Rattle.std.specs.Prelude.{◌≡◌, ℕ, ◌+◌, ◌*◌, ◌≤◌, Bool, true, false, ◌&&◌, nat_le, if◌then◌else◌, Result, Ok, Err, Option, Some, None, is_some, option_map, List, [], ◌∷◌, ◌++◌, length, codes, bytes_eq}
 use Rattle.std.specs.Borrow.{Bor}
 use Rattle.std.specs.List.{list_any}
 use Rattle.clap.specs.Matches.{first_value}
@@ -11,15 +11,15 @@ use Rattle.passes.specs.declared.names.ListFault.{ListFault}
 use Rattle.passes.specs.Lists.{pass_list}
 use Rattle.smtrw_answers.specs.declared.status.Usage.{Usage}
 use Rattle.smtrw_answers.specs.declared.grammar.Name.{Name}
-use Rattle.smtrw_answers.specs.declared.grammar.Name.TheVariants.{Rewrite, Translate, Extend, Stats}
+use Rattle.smtrw_answers.specs.declared.grammar.Name.TheVariants.{Rewrite, Translate, Extend, Stats, Demo}
 use Rattle.smtrw_answers.specs.declared.grammar.Setting.{Setting as CodeSetting}
 use Rattle.smtrw_answers.specs.declared.grammar.Setting.TheVariants.{Passes, Layout as LayoutOption, Check}
-use Rattle.smtrw_answers.specs.declared.grammar.Files.{Files}
-use Rattle.smtrw_answers.specs.declared.grammar.Files.TheVariants.{Absent, One, Two}
+use Rattle.smtrw_answers.specs.declared.grammar.Operands.{Operands}
+use Rattle.smtrw_answers.specs.declared.grammar.Operands.TheVariants.{Absent, One, Two}
 use Rattle.smtrw_answers.specs.declared.grammar.Seen.{Seen}
 use Rattle.smtrw_answers.specs.declared.grammar.Plan.{Plan}
 use Rattle.smtrw_answers.specs.declared.grammar.Plan.TheVariants as plan
-use Rattle.smtrw_answers.specs.Words.{Word, Numbered, Command, rewriting, translating, extending, counting, needed, Setting, of_passes, of_layout, of_check, Given, number_in, is_from, layout_named, Asked, rewrite, translate, extend, stats}
+use Rattle.smtrw_answers.specs.Words.{Word, Numbered, Command, rewriting, translating, extending, counting, demonstrating, needed, Setting, of_passes, of_layout, of_check, Given, number_in, is_from, is_up_to, greatest_size, layout_named, Asked, rewrite, translate, extend, stats, demo}
 
 -- ---- commands and options of the code
 
@@ -28,6 +28,7 @@ command_of Rewrite = rewriting
 command_of Translate = translating
 command_of Extend = extending
 command_of Stats = counting
+command_of Demo = demonstrating
 
 abbrev pub setting_of : CodeSetting → Setting
 setting_of Passes = of_passes
@@ -45,19 +46,19 @@ has_setting Passes s = s.passes
 has_setting LayoutOption s = s.layout
 has_setting Check s = s.check
 
-abbrev pub HasFiles : Files → List Numbered → Type 0
-HasFiles Absent plain = plain ≡ []
-HasFiles (One i) plain = (w : Word) × (plain ≡ record { number = i; word = w } ∷ [])
-HasFiles (Two i j) plain = (w : Word) × (v : Word) × (plain ≡ record { number = i; word = w } ∷ record { number = j; word = v } ∷ [])
+abbrev pub HasOperands : Operands → List Numbered → Type 0
+HasOperands Absent plain = plain ≡ []
+HasOperands (One i) plain = (w : Word) × (plain ≡ record { number = i; word = w } ∷ [])
+HasOperands (Two i j) plain = (w : Word) × (v : Word) × (plain ≡ record { number = i; word = w } ∷ record { number = j; word = v } ∷ [])
 
 -- standard input is among the files
 abbrev pub names_input : List Numbered → Bool
 names_input = list_any (λ f. bytes_eq f.word (codes "-"))
 
--- one file more, where the command takes one
-abbrev pub TakesFile : Command → List Numbered → Numbered → Option Files → Type 0
-TakesFile c plain f None = nat_le (needed c) (length plain) ≡ true
-TakesFile c plain f (Some files) = (nat_le (needed c) (length plain) ≡ false) × HasFiles files (plain ++ f ∷ [])
+-- one more, where the command takes one
+abbrev pub TakesOperand : Command → List Numbered → Numbered → Option Operands → Type 0
+TakesOperand c plain f None = nat_le (needed c) (length plain) ≡ true
+TakesOperand c plain f (Some operands) = (nat_le (needed c) (length plain) ≡ false) × HasOperands operands (plain ++ f ∷ [])
 
 -- an option whose value is awaited wasn't given before
 abbrev pub AwaitsNew : Option CodeSetting → Seen → Type 0
@@ -69,7 +70,7 @@ pub record Agrees (s : Seen) (g : Given) : Type 0 where
   pub passes : is_some g.passes ≡ s.passes
   pub layout : is_some g.layout ≡ s.layout
   pub check : is_some g.check ≡ s.check
-  pub plain : HasFiles s.files g.plain
+  pub plain : HasOperands s.operands g.plain
   pub input : names_input g.plain ≡ s.reads_input
   pub awaited : g.awaited ≡ option_map setting_of s.awaited
   pub new : AwaitsNew s.awaited s
@@ -78,14 +79,14 @@ abbrev pub one_if : Bool → ℕ
 one_if true = 1
 one_if false = 0
 
-abbrev pub file_count : Files → ℕ
-file_count Absent = 0
-file_count (One i) = 1
-file_count (Two i j) = 2
+abbrev pub operand_count : Operands → ℕ
+operand_count Absent = 0
+operand_count (One i) = 1
+operand_count (Two i j) = 2
 
 -- at least as many words as were met
 abbrev pub most_words : Seen → ℕ
-most_words s = 2 * one_if s.passes + 2 * one_if s.layout + 2 * one_if s.check + file_count s.files + one_if (is_some s.awaited)
+most_words s = 2 * one_if s.passes + 2 * one_if s.layout + 2 * one_if s.check + operand_count s.operands + one_if (is_some s.awaited)
 
 -- one more word was accepted, or has this fault
 abbrev pub StepFits : Seen → Result Seen Usage → Result Given Usage → Type 0
@@ -100,7 +101,7 @@ IsPlanOf (rewrite ps l f) p = p ≡ plan.Rewrite f.number
 IsPlanOf (translate ps k s m) p = p ≡ plan.Translate s.number m.number
 IsPlanOf (extend ps k s m) p = p ≡ plan.Extend s.number m.number
 IsPlanOf (stats f) p = p ≡ plan.Stats f.number
-IsPlanOf _ p = ⊥
+IsPlanOf (demo seed size) p = p ≡ plan.Demo
 
 abbrev pub EndFits : Result Plan Usage → Result Asked Usage → Type 0
 EndFits (Ok p) (Ok a) = IsPlanOf a p
@@ -123,6 +124,10 @@ layout_in (Some name) = layout_named name
 abbrev pub check_named : Word → Option ℕ
 check_named w = if is_from 1 (number_in w) then number_in w else None
 
+-- a demonstration has at least one step
+abbrev pub size_named : Word → Option ℕ
+size_named w = if is_from 1 (number_in w) && is_up_to greatest_size (number_in w) then number_in w else None
+
 -- the check of an option's value; the first one where it isn't given
 abbrev pub check_in : Option Word → Option ℕ
 check_in None = Some 1
@@ -142,6 +147,10 @@ IsCarrying _ = ⊥
 abbrev pub IsCounting : Result Asked Usage → Type 0
 IsCounting (Ok (stats f)) = Unit {0}
 IsCounting _ = ⊥
+
+abbrev pub IsDemonstrating : Result Asked Usage → Type 0
+IsDemonstrating (Ok (demo seed size)) = Unit {0}
+IsDemonstrating _ = ⊥
 
 abbrev pub GivesRewriting : Result Asked Usage → Found → Type 0
 GivesRewriting (Ok (rewrite ps l f)) found =
@@ -165,3 +174,14 @@ GivesCarrying _ found = ⊥
 abbrev pub GivesCounting : Result Asked Usage → Found → Type 0
 GivesCounting (Ok (stats f)) found = first_value found (codes "file") ≡ Some f.word
 GivesCounting _ found = ⊥
+
+-- the number of a word that is there
+abbrev pub number_of : Option Word → Option ℕ
+number_of None = None
+number_of (Some w) = number_in w
+
+abbrev pub GivesDemonstrating : Result Asked Usage → Found → Type 0
+GivesDemonstrating (Ok (demo seed size)) found =
+    (number_of (first_value found (codes "seed")) ≡ Some seed)
+    × (number_of (first_value found (codes "size")) ≡ Some size)
+GivesDemonstrating _ found = ⊥

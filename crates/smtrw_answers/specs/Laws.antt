@@ -1,6 +1,6 @@
--- The statements of the laws of what is written: that rewriting keeps its promise, where one text alone may be written, and
--- that carried models read back.
-use Rattle.std.specs.Prelude.{◌≡◌, ℕ, Bool, true, false, List, None, Ok, IsTrue}
+-- The statements of the laws of what is written: that rewriting keeps its promise, where one text alone may be written,
+-- that carried models read back, and that what `demo` makes is read.
+use Rattle.std.specs.Prelude.{◌≡◌, ◌≤◌, ℕ, Bool, true, false, List, length, None, Ok, IsTrue}
 use Rattle.std.specs.List.{list_any}
 use Rattle.smt_terms.specs.Fresh.{Supply}
 use Rattle.smt_terms.specs.Models.{Model}
@@ -14,11 +14,13 @@ use Rattle.smt_print.specs.declared.layout.Layout.{Layout}
 use Rattle.passes.specs.declared.names.Pass.{Pass}
 use Rattle.smt_print.specs.Text.{lines}
 use Rattle.passes.specs.declared.names.Pass.TheVariants.{Rules}
+use Rattle.passes.specs.Led.{Leads}
 use Rattle.passes.specs.Laws.{IsReady, AreEquivalent, CarriesModels}
 use Rattle.smtrw_answers.specs.Carrying.{translated, extended, signature_before, signature_behind, translated_text, extended_text}
-use Rattle.smtrw_answers.specs.Endings.{translate_end, extend_end}
+use Rattle.smtrw_answers.specs.Endings.{longest_text, translate_end, extend_end}
+use Rattle.smtrw_answers.specs.Words.{greatest_size}
 use Rattle.smtrw_answers.specs.Headline.{IsRewriting, are_equivalences}
-use Rattle.smtrw_answers.specs.Outputs.{commands, rewritten, MayBeWritten}
+use Rattle.smtrw_answers.specs.Outputs.{commands, names_left, rewritten, rewritten_commands, MayBeWritten, demo_script}
 
 -- of every accepted text, every list of passes, either layout, and any printable commands that such a list may have led to:
 -- they have the models of the text's, carried over the passes, and under equivalence passes they are equivalent to these
@@ -35,6 +37,10 @@ is_rules _ = false
 abbrev pub WithoutRulesOneText : Type 0
 WithoutRulesOneText = (b w : List ℕ) (ps : List Pass) (rules : List Name) (layout : Layout) → list_any is_rules ps ≡ false → MayBeWritten b ps rules layout w → w ≡ rewritten b ps layout
 
+-- and makes one list of commands
+abbrev pub WithoutRulesOneList : Type 0
+WithoutRulesOneList = (b : List ℕ) (ps : List Pass) (rules : List Name) (cs : List (Command Term)) → list_any is_rules ps ≡ false → Leads ps (commands b) (names_left b) rules cs → cs ≡ rewritten_commands b ps
+
 -- and so does any list where all rules are among the eight
 abbrev pub EightWriteOneText : Type 0
 EightWriteOneText = (b v w : List ℕ) (ps : List Pass) (rules : List Name) (layout : Layout) → IsTrue (all_eight rules) → MayBeWritten b ps rules layout v → MayBeWritten b ps rules layout w → v ≡ w
@@ -48,3 +54,11 @@ TranslatedTextsReadBack = (b : List ℕ) (ps : List Pass) (k : ℕ) (g out : Lis
 abbrev pub ExtendedTextsReadBack : Type 0
 ExtendedTextsReadBack = (b : List ℕ) (ps : List Pass) (k : ℕ) (g out : List ℕ) (m : Model) → extend_end b ps k g ≡ None → model_of g (signature_before b k) ≡ Ok m → extended_text b ps k g ≡ Ok out
     → model_of out (signature_behind b ps k) ≡ Ok (extended b ps k m)
+
+-- the script of a demonstration of one step or more is accepted
+abbrev pub DemoScriptsAreAccepted : Type 0
+DemoScriptsAreAccepted = (seed size : ℕ) → 1 ≤ size → fault (demo_script seed size) ≡ None
+
+-- and has no more bytes than may be read
+abbrev pub DemoScriptsAreShort : Type 0
+DemoScriptsAreShort = (seed size : ℕ) → size ≤ greatest_size → length (demo_script seed size) ≤ longest_text

@@ -1,6 +1,6 @@
 -- The words of the program: a command's name, and behind it its options and its file names or numbers, in any order. The
 -- words are read from the left, and the first fault counts.
-use Rattle.std.specs.Prelude.{ℕ, suc, Bool, true, false, not, ◌&&◌, nat_eq, nat_le, if◌then◌else◌, List, [], ◌∷◌, ◌++◌, length, drop, codes, bytes_eq, Result, Ok, Err, Option, Some, None, is_some}
+use Rattle.std.specs.Prelude.{ℕ, suc, Bool, false, not, ◌&&◌, nat_eq, nat_le, if◌then◌else◌, List, [], ◌∷◌, ◌++◌, length, drop, codes, bytes_eq, Result, Ok, Err, Option, Some, None, is_some}
 use Rattle.std.specs.List.{list_any, starts_with}
 use Rattle.std.specs.Str.Parse.{digits_value}
 use Rattle.smt_lex.specs.Lexicon.{is_numeral}
@@ -58,14 +58,6 @@ needed translating = 2
 needed extending = 2
 needed counting = 1
 needed demonstrating = 2
-
--- the commands that the program has so far; the name of another one is none
-abbrev pub stands : Command → Bool
-stands rewriting = true
-stands translating = true
-stands extending = true
-stands counting = true
-stands _ = false
 
 -- ---- options
 
@@ -237,13 +229,17 @@ abbrev pub asked_or_missing : ℕ → Option Asked → Result Asked Usage
 asked_or_missing i (Some a) = Ok a
 asked_or_missing i None = at i Missing
 
--- the word that names the script
-abbrev pub file_of : Asked → Numbered
-file_of (rewrite passes layout file) = file
-file_of (translate passes check file model) = file
-file_of (extend passes check file model) = file
-file_of (stats file) = file
-file_of (demo seed size) = record { number = 0; word = [] }
+-- where the script comes from: from a file, or from so many steps that are drawn from a seed
+pub data Source : Type 0 where
+  of_file : Numbered → Source
+  drawn : ℕ → ℕ → Source
+
+abbrev pub source_of : Asked → Source
+source_of (rewrite passes layout file) = of_file file
+source_of (translate passes check file model) = of_file file
+source_of (extend passes check file model) = of_file file
+source_of (stats file) = of_file file
+source_of (demo seed size) = drawn seed size
 
 -- the word that names the model, where the command reads one
 abbrev pub model_file_of : Asked → Option Numbered
@@ -256,19 +252,11 @@ abbrev pub at_end : Command → ℕ → Given → Option Setting → Result Aske
 at_end c i g (Some s) = at i Missing
 at_end c i g None = asked_or_missing i (asked_with c g g.plain)
 
-abbrev pub command_if : (Command → Bool) → Option Command → Option Command
-command_if test None = None
-command_if test (Some c) = if test c then Some c else None
-
 abbrev pub asked_of : (Pass → Bool) → Option Command → List Word → Result Asked Usage
 asked_of runs None ws = at 1 UnknownCommand
 asked_of runs (Some c) ws = and_then (λ g. at_end c (suc (suc (length ws))) g g.awaited) (words_from runs c 2 ws nothing_given)
 
--- what the words ask for, or their first fault, where there are the commands and passes that pass two tests
-abbrev pub asked_by : (Command → Bool) → (Pass → Bool) → List Word → Result Asked Usage
-asked_by has runs [] = at 1 Missing
-asked_by has runs (w ∷ ws) = asked_of runs (command_if has (command_named w)) ws
-
 -- what the words ask for, or their first fault
 abbrev pub asked : List Word → Result Asked Usage
-asked words = asked_by stands any_pass words
+asked [] = at 1 Missing
+asked (w ∷ ws) = asked_of any_pass (command_named w) ws

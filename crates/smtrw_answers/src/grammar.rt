@@ -1,9 +1,9 @@
 //! The grammar of the program's words: their first fault, met from the left, or what they name.
 
-ghost use Rattle.std.specs.Prelude.{◌≡◌, List, [], ◌∷◌, false, None, codes, map, nat_le, option_map, string_bytes};
+ghost use Rattle.std.specs.Prelude.{◌≡◌, List, [], ◌∷◌, ◌++◌, false, None, codes, map, nat_le, option_map, string_bytes};
 ghost use Rattle.passes.specs.Lists.{any_pass};
-ghost use Rattle.smtrw_answers.specs.Words.{asked, at_end as end_of, command_if, command_named, is_dashed, layout_named, needed, number_in, of_check, of_layout, of_passes, option_word, plain_word, setting_among, settings_of, stands, value_word, with_value, word_behind, Given as WordsGiven, Numbered};
-ghost use Rattle.smtrw_answers.specs.Asking.{Agrees, EndFits, HasFiles, StepFits, TakesFile, check_named, command_of, has_setting, option_seen, setting_of};
+ghost use Rattle.smtrw_answers.specs.Words.{asked, at_end as end_of, command_named, file_word, is_dashed, is_number_for, layout_named, needed, number_in, number_word, of_check, of_layout, of_passes, option_word, plain_word, setting_among, settings_of, value_word, with_value, word_behind, Given as WordsGiven, Numbered};
+ghost use Rattle.smtrw_answers.specs.Asking.{Agrees, EndFits, HasOperands, StepFits, TakesOperand, check_named, command_of, has_setting, option_seen, setting_of, size_named};
 
 use crate::status::{Usage, Why};
 use passes::{ListFault, parse_list};
@@ -13,6 +13,9 @@ use smt_print::Layout;
 /// The most digits that a number may have.
 const MOST_DIGITS: usize = 18;
 
+/// The most steps of a demonstration.
+const GREATEST_SIZE: u64 = 10_000;
+
 /// A command that the program has.
 #[derive(Clone, Copy)]
 enum Name {
@@ -20,14 +23,15 @@ enum Name {
     Translate,
     Extend,
     Stats,
+    Demo,
 }
 
 impl Name {
-    /// Whether the command takes a model beside the script.
-    fn takes_model(self) -> bool
+    /// Whether the command takes two words that are no options.
+    fn takes_two(self) -> bool
         ensures { result ≡ nat_le 2 (needed (command_of self)) }
     {
-        matches!(self, Name::Translate | Name::Extend)
+        matches!(self, Name::Translate | Name::Extend | Name::Demo)
     }
 }
 
@@ -39,23 +43,23 @@ enum Setting {
     Check,
 }
 
-/// The numbers of the words that name files, in order.
+/// The numbers of the words that are no options, in order: of those that name files, or write a seed and a size.
 #[derive(Clone, Copy)]
-enum Files {
+enum Operands {
     Absent,
     One(u32),
     Two(u32, u32),
 }
 
-impl Files {
-    /// These files and one more, where the command takes it.
-    fn with(self, command: Name, word: u32) -> Option<Files>
-        ensures { (plain : List Numbered) (f : Numbered) → HasFiles self plain → f.number ≡ word
-            → TakesFile (command_of command) plain f result }
+impl Operands {
+    /// These and one more, where the command takes it.
+    fn with(self, command: Name, word: u32) -> Option<Operands>
+        ensures { (plain : List Numbered) (f : Numbered) → HasOperands self plain → f.number ≡ word
+            → TakesOperand (command_of command) plain f result }
     {
         match self {
-            Files::Absent => Some(Files::One(word)),
-            Files::One(first) if command.takes_model() => Some(Files::Two(first, word)),
+            Operands::Absent => Some(Operands::One(word)),
+            Operands::One(first) if command.takes_two() => Some(Operands::Two(first, word)),
             _ => None,
         }
     }
@@ -70,8 +74,8 @@ struct Seen {
     layout: bool,
     /// The number of a check was given.
     check: bool,
-    /// The files so far.
-    files: Files,
+    /// The words so far that are no options.
+    operands: Operands,
     /// One of the files is standard input.
     reads_input: bool,
     /// The option whose value is the next word.
@@ -97,13 +101,14 @@ pub(crate) enum Plan {
     Translate { script: u32, model: u32 },
     Extend { script: u32, model: u32 },
     Stats { file: u32 },
+    Demo,
 }
 
 const NOTHING_SEEN: Seen = Seen {
     passes: false,
     layout: false,
     check: false,
-    files: Files::Absent,
+    operands: Operands::Absent,
     reads_input: false,
     awaited: None,
 };
@@ -134,7 +139,7 @@ fn fault(word: u32, why: Why) -> Usage
 }
 
 fn command_of_word(word: &str) -> Option<Name>
-    ensures { option_map command_of result ≡ command_if stands (command_named word.now) }
+    ensures { option_map command_of result ≡ command_named word.now }
 {
     if word == "rewrite" {
         Some(Name::Rewrite)
@@ -144,6 +149,8 @@ fn command_of_word(word: &str) -> Option<Name>
         Some(Name::Extend)
     } else if word == "stats" {
         Some(Name::Stats)
+    } else if word == "demo" {
+        Some(Name::Demo)
     } else {
         None
     }
@@ -157,7 +164,7 @@ fn word_met(command: Name, seen: Seen, number: u32, word: &str) -> Result<Seen, 
     match seen.awaited {
         Some(setting) => value_met(setting, seen, number, word),
         None if is_option(word) => option_met(command, seen, number, word),
-        None => file_met(command, seen, number, word),
+        None => operand_met(command, seen, number, word),
     }
 }
 
@@ -236,8 +243,15 @@ pub(crate) fn check_of_word(word: &str) -> Option<u64>
     }
 }
 
+/// The number of steps of a demonstration, at least 1 and at most 10,000.
+fn size_of_word(word: &str) -> Option<u64>
+    ensures { result ≡ size_named word.now }
+{
+    number_of_word(word).filter(|size| (1..=GREATEST_SIZE).contains(size))
+}
+
 /// The number that the digits of a word write, unless there are too many or a 0 leads them.
-fn number_of_word(word: &str) -> Option<u64>
+pub(crate) fn number_of_word(word: &str) -> Option<u64>
     ensures { result ≡ number_in word.now }
 {
     if word.len() > MOST_DIGITS || !is_numeral(word.as_bytes()) {
@@ -269,7 +283,7 @@ fn option_in(command: Name, word: &str) -> Option<(Setting, Option<&str>)>
     match command {
         Name::Rewrite => passes_option(word).or(layout_option(word)),
         Name::Translate | Name::Extend => passes_option(word).or(check_option(word)),
-        Name::Stats => None,
+        Name::Stats | Name::Demo => None,
     }
 }
 
@@ -303,26 +317,60 @@ fn check_option(word: &str) -> Option<(Setting, Option<&str>)>
     Some((Setting::Check, Some(number)))
 }
 
-/// A word that is no option: the name of a file.
-fn file_met(command: Name, seen: Seen, number: u32, word: &str) -> Result<Seen, Usage>
+/// A word that is no option: the name of a file, or a number.
+fn operand_met(command: Name, seen: Seen, number: u32, word: &str) -> Result<Seen, Usage>
     ensures { (g : WordsGiven) → Agrees seen g → g.awaited ≡ None
         → StepFits seen result (plain_word (command_of command) number word.now g) }
 {
     if word.is_empty() {
         return Err(fault(number, Why::BadValue));
     }
-    let Some(files) = seen.files.with(command, number) else {
+    let Some(operands) = seen.operands.with(command, number) else {
         return Err(fault(number, Why::Extra));
     };
+    match command {
+        Name::Demo => number_met(seen, operands, number, word),
+        _ => file_met(seen, operands, number, word),
+    }
+}
+
+/// The name of a file, which makes these operands of those that were seen.
+fn file_met(seen: Seen, operands: Operands, number: u32, word: &str) -> Result<Seen, Usage>
+    ensures { (g : WordsGiven) → Agrees seen g → g.awaited ≡ None
+        → HasOperands operands (g.plain ++ record { number = number; word = word.now } ∷ [])
+        → StepFits seen result (file_word number word.now g) }
+{
     let is_input = word == "-";
     if is_input && seen.reads_input {
         return Err(fault(number, Why::TwoInputs));
     }
     Ok(Seen {
-        files,
+        operands,
         reads_input: seen.reads_input || is_input,
         ..seen
     })
+}
+
+/// The seed of a demonstration, or its size behind the seed, which makes these operands of those that were seen.
+fn number_met(seen: Seen, operands: Operands, number: u32, word: &str) -> Result<Seen, Usage>
+    ensures { (g : WordsGiven) → Agrees seen g → g.awaited ≡ None
+        → HasOperands operands (g.plain ++ record { number = number; word = word.now } ∷ [])
+        → StepFits seen result (number_word number word.now g) }
+{
+    if !is_number_behind(seen.operands, word) {
+        return Err(fault(number, Why::BadValue));
+    }
+    Ok(Seen { operands, ..seen })
+}
+
+/// Whether the word is the number that may stand behind these: a seed, or a size behind the seed.
+fn is_number_behind(operands: Operands, word: &str) -> bool
+    ensures { (plain : List Numbered) → HasOperands operands plain → result ≡ is_number_for plain (number_in word.now) }
+{
+    match operands {
+        Operands::Absent => number_of_word(word).is_some(),
+        _ => size_of_word(word).is_some(),
+    }
 }
 
 /// What the words name, behind the last of them.
@@ -333,11 +381,12 @@ fn at_end(command: Name, seen: Seen, number: u32) -> Result<Plan, Usage>
     if seen.awaited.is_some() {
         return Err(fault(number, Why::Missing));
     }
-    match (command, seen.files) {
-        (Name::Rewrite, Files::One(file)) => Ok(Plan::Rewrite { file }),
-        (Name::Translate, Files::Two(script, model)) => Ok(Plan::Translate { script, model }),
-        (Name::Extend, Files::Two(script, model)) => Ok(Plan::Extend { script, model }),
-        (Name::Stats, Files::One(file)) => Ok(Plan::Stats { file }),
+    match (command, seen.operands) {
+        (Name::Rewrite, Operands::One(file)) => Ok(Plan::Rewrite { file }),
+        (Name::Translate, Operands::Two(script, model)) => Ok(Plan::Translate { script, model }),
+        (Name::Extend, Operands::Two(script, model)) => Ok(Plan::Extend { script, model }),
+        (Name::Stats, Operands::One(file)) => Ok(Plan::Stats { file }),
+        (Name::Demo, Operands::Two(_, _)) => Ok(Plan::Demo),
         _ => Err(fault(number, Why::Missing)),
     }
 }

@@ -3,9 +3,12 @@
 ghost use Rattle.smtrw_answers.specs.Laws.{
   RewritingKeepsItsPromise,
   WithoutRulesOneText,
+  WithoutRulesOneList,
   EightWriteOneText,
   TranslatedTextsReadBack,
   ExtendedTextsReadBack,
+  DemoScriptsAreAccepted,
+  DemoScriptsAreShort,
 };
 
 use model_texts::laws::{
@@ -37,6 +40,11 @@ pub fn without_rules_one_text()
     ensures { WithoutRulesOneText }
 {}
 
+/// And it makes one list of commands.
+pub fn without_rules_one_list()
+    ensures { WithoutRulesOneList }
+{}
+
 /// Where all stored rules are among the eight, a list of passes writes one text of a text.
 pub fn eight_write_one_text()
     ensures { EightWriteOneText }
@@ -59,3 +67,9 @@ pub fn carried_texts_read_back()
     printable_signatures_are_writable();
     printed_models_read_back();
 }
+
+/// The script of a demonstration is accepted and no longer than a script may be.
+pub fn demo_scripts_are_accepted()
+    ensures accepted { DemoScriptsAreAccepted }
+    ensures short { DemoScriptsAreShort }
+{}

@@ -13,12 +13,12 @@ mod words;
 
 pub use endings::{TOO_LONG, model_unread};
 pub use laws::{
-    carried_texts_read_back, eight_write_one_text, rewriting_keeps_its_promise,
-    without_rules_one_text,
+    carried_texts_read_back, demo_scripts_are_accepted, eight_write_one_text,
+    rewriting_keeps_its_promise, without_rules_one_list, without_rules_one_text,
 };
 pub use lines::complain;
 pub use status::{Status, Usage, Why};
-pub use words::{Asked, File, WordsFault, parse_words};
+pub use words::{Asked, File, Source, WordsFault, parse_words};
 
 #[cfg(test)]
 mod tests;

@@ -3,7 +3,7 @@
 ghost use Rattle.std.specs.Prelude.{◌≡◌, map, string_bytes, IfOk, IfErr};
 ghost use Rattle.clap.specs.Words.{found_of, kind_of};
 ghost use Rattle.smtrw_answers.specs.Words.{asked};
-ghost use Rattle.smtrw_answers.specs.Asking.{IsRewriting, IsCarrying, IsCounting, GivesRewriting, GivesCarrying, GivesCounting};
+ghost use Rattle.smtrw_answers.specs.Asking.{IsRewriting, IsCarrying, IsCounting, IsDemonstrating, GivesRewriting, GivesCarrying, GivesCounting, GivesDemonstrating};
 
 use clap::error::ErrorKind;
 use clap::{Arg, ArgMatches, Command, Error};
@@ -62,5 +62,20 @@ pub(crate) fn stats_matches<'a>(alloc: Global, words: &'a [String]) -> Result<Ar
     let command = Command::new(alloc, "stats")
         .disable_help_flag(true)
         .arg(file)?;
+    command.try_get_matches_from(words)
+}
+
+/// The values of the words of `demo`.
+pub(crate) fn demo_matches<'a>(alloc: Global, words: &'a [String]) -> Result<ArgMatches<'a>, Error>
+    requires { IsDemonstrating (asked (map string_bytes words.now)) }
+    ensures values { IfOk result (λ m. GivesDemonstrating (asked (map string_bytes words.entry.now)) (found_of m)) }
+    ensures memory { IfErr result (λ e. kind_of e ≡ ErrorKind.OutOfMemory) }
+{
+    let seed = Arg::new(alloc, "seed");
+    let size = Arg::new(alloc, "size");
+    let command = Command::new(alloc, "demo")
+        .disable_help_flag(true)
+        .arg(seed)?
+        .arg(size)?;
     command.try_get_matches_from(words)
 }

@@ -1,6 +1,6 @@
 //! Words with what they ask for or their first fault, and the line about a file.
 
-use crate::{Asked, Status, Usage, Why, WordsFault, complain, parse_words};
+use crate::{Asked, Source, Status, Usage, Why, WordsFault, complain, parse_words};
 use smt_io::MemSink;
 use smt_print::Layout;
 use std::alloc::{AllocError, Global};
@@ -23,9 +23,9 @@ fn has_fault(alloc: Global, line: &str, fault: Usage) -> Result<bool, AllocError
     }
 }
 
-const FAULTS: [(&str, u32, Why); 27] = [
+const FAULTS: [(&str, u32, Why); 33] = [
     ("rewrite", 2, Why::Missing),
-    ("demo 1 2", 1, Why::UnknownCommand),
+    ("show 1 2", 1, Why::UnknownCommand),
     ("rewrite a --check=1", 3, Why::BadOption),
     ("rewrite --passes nnf --passes=aig a", 4, Why::Repeated),
     ("rewrite --layout --passes a", 3, Why::BadValue),
@@ -51,6 +51,12 @@ const FAULTS: [(&str, u32, Why); 27] = [
     ("extend - a -", 4, Why::Extra),
     ("extend --passes foo a b", 3, Why::BadPass),
     ("translate --passes=rules,ackermann a b", 2, Why::AfterRules),
+    ("demo 5", 3, Why::Missing),
+    ("demo 1 0", 3, Why::BadValue),
+    ("demo 1 10001", 3, Why::BadValue),
+    ("demo 01 1", 2, Why::BadValue),
+    ("demo 1 2 3", 4, Why::Extra),
+    ("demo -5 1", 2, Why::BadOption),
 ];
 
 #[test]
@@ -219,7 +225,10 @@ fn carried_models(rt: HostRuntime) -> Result<(), Fail> {
 fn the_script_is_the_file(rt: HostRuntime) -> Result<(), Fail> {
     let words = words_of(rt.alloc(), "extend --check 2 a b")?;
     let file = match parse_words(rt.alloc(), words.as_slice()) {
-        Ok(asked) => asked.file().name,
+        Ok(asked) => match asked.source() {
+            Source::File(file) => file.name,
+            Source::Drawn { .. } => "",
+        },
         Err(_) => "",
     };
     assert!(rt; file == "a");
@@ -234,6 +243,35 @@ fn statistics(rt: HostRuntime) -> Result<(), Fail> {
         _ => "",
     };
     assert!(rt; file == "x");
+    Ok(())
+}
+
+/// Whether a line asks for a script of so many steps that are drawn from a seed.
+fn asks_to_draw(alloc: Global, line: &str, seed: u64, size: u64) -> Result<bool, AllocError> {
+    let words = words_of(alloc, line)?;
+    match parse_words(alloc, words.as_slice()) {
+        Ok(asked) => match asked.source() {
+            Source::Drawn {
+                seed: found_seed,
+                size: found_size,
+            } => Ok(found_seed == seed && found_size == size),
+            Source::File(_) => Ok(false),
+        },
+        Err(_) => Ok(false),
+    }
+}
+
+const DEMONSTRATIONS: [(&str, u64, u64); 3] = [
+    ("demo 1 2", 1, 2),
+    ("demo 0 10000", 0, 10_000),
+    ("demo 999999999999999999 1", 999_999_999_999_999_999, 1),
+];
+
+#[test]
+fn demonstrations(rt: HostRuntime) -> Result<(), Fail> {
+    for (line, seed, size) in &DEMONSTRATIONS {
+        assert!(rt; asks_to_draw(rt.alloc(), line, *seed, *size)?, "{line}");
+    }
     Ok(())
 }
 

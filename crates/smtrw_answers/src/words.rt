@@ -5,12 +5,12 @@
 
 ghost use Rattle.std.specs.Prelude.{◌≡◌, map, option_map, string_bytes, Ok};
 ghost use Rattle.smtrw_answers.specs.Words.{asked as asked_for};
-ghost use Rattle.smtrw_answers.specs.Asking.{EndFits, check_in, layout_in, passes_in};
+ghost use Rattle.smtrw_answers.specs.Asking.{EndFits, check_in, layout_in, number_of, passes_in};
 ghost use Rattle.smtrw_answers.specs.Asked.{Answers, CarriesFiles, GivesCarried};
 ghost use Rattle.smtrw_answers.specs.declared.grammar.Plan.TheVariants as a_plan;
 
-use crate::grammar::{Plan, check_of_word, layout_of_word, plan_of};
-use crate::matches::{carry_matches, rewrite_matches, stats_matches};
+use crate::grammar::{Plan, check_of_word, layout_of_word, number_of_word, plan_of};
+use crate::matches::{carry_matches, demo_matches, rewrite_matches, stats_matches};
 use crate::status::Usage;
 use passes::{ListFault, Passes, parse_list};
 use smt_print::Layout;
@@ -55,21 +55,39 @@ pub enum Asked<'a> {
     Stats {
         file: File<'a>,
     },
+    /// `demo`: a script of so many steps, at least 1 and at most 10,000, that are drawn from a seed.
+    Demo {
+        seed: u64,
+        size: u64,
+    },
+}
+
+/// Where the script comes from.
+#[derive(Clone, Copy, Debug)]
+pub enum Source<'a> {
+    /// It stands in a file.
+    File(File<'a>),
+    /// It is made in so many steps that are drawn from a seed.
+    Drawn { seed: u64, size: u64 },
 }
 
 impl<'a> Asked<'a> {
-    ghost use Rattle.smtrw_answers.specs.Asked.{asked_seen, numbered};
-    ghost use Rattle.smtrw_answers.specs.Words.{file_of};
+    ghost use Rattle.smtrw_answers.specs.Asked.{asked_seen, source_seen};
+    ghost use Rattle.smtrw_answers.specs.Words.{source_of};
 
-    /// The file of the script.
-    pub fn file(&self) -> File<'a>
-        ensures { numbered result ≡ file_of (asked_seen self.now) }
+    /// Where the script comes from.
+    pub fn source(&self) -> Source<'a>
+        ensures { source_seen result ≡ source_of (asked_seen self.now) }
     {
         match self {
-            Asked::Rewrite { file, .. } => *file,
-            Asked::Translate { script, .. } => *script,
-            Asked::Extend { script, .. } => *script,
-            Asked::Stats { file } => *file,
+            Asked::Rewrite { file, .. } => Source::File(*file),
+            Asked::Translate { script, .. } => Source::File(*script),
+            Asked::Extend { script, .. } => Source::File(*script),
+            Asked::Stats { file } => Source::File(*file),
+            Asked::Demo { seed, size } => Source::Drawn {
+                seed: *seed,
+                size: *size,
+            },
         }
     }
 }
@@ -105,6 +123,7 @@ pub fn parse_words<'a>(alloc: Global, words: &'a [String]) -> Result<Asked<'a>, 
         Ok(Plan::Translate { script, model }) => translate(alloc, words, script, model),
         Ok(Plan::Extend { script, model }) => extend(alloc, words, script, model),
         Ok(Plan::Stats { file }) => stats(alloc, words, file),
+        Ok(Plan::Demo) => demo(alloc, words),
     }
 }
 
@@ -222,6 +241,22 @@ fn stats<'a>(alloc: Global, words: &'a [String], word: u32) -> Result<Asked<'a>,
     })
 }
 
+fn demo<'a>(alloc: Global, words: &'a [String]) -> Result<Asked<'a>, WordsFault>
+    requires { EndFits (Ok a_plan.Demo) (asked_for (map string_bytes words.now)) }
+    ensures { Answers (asked_for (map string_bytes words.entry.now)) result }
+{
+    let Ok(matches) = demo_matches(alloc, words) else {
+        return Err(WordsFault::Memory);
+    };
+    let Some(seed) = number_of(matches.get_str("seed")) else {
+        unreachable!()
+    };
+    let Some(size) = number_of(matches.get_str("size")) else {
+        unreachable!()
+    };
+    Ok(Asked::Demo { seed, size })
+}
+
 /// The passes of an option's value; none where it isn't given.
 fn passes_of(value: Option<&str>) -> Result<Passes, ListFault>
     ensures { result ≡ passes_in (option_map (λ t. t.now) value.entry) }
@@ -249,5 +284,15 @@ fn check_of(value: Option<&str>) -> Option<u64>
     match value {
         None => Some(1),
         Some(number) => check_of_word(number),
+    }
+}
+
+/// The number of a word that is there.
+fn number_of(value: Option<&str>) -> Option<u64>
+    ensures { result ≡ number_of (option_map (λ t. t.now) value.entry) }
+{
+    match value {
+        None => None,
+        Some(number) => number_of_word(number),
     }
 }
