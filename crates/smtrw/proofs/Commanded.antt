@@ -1,5 +1,5 @@
 -- What is counted of commands, as the code holds them and as they are defined.
-use Rattle.std.proofs.Common.{◌≡◌, ◌∙◌, refl, ap, sym, ◌+◌, ◌<◌, Bool, cond, List, [], ◌∷◌, ◌++◌, length, arith}
+use Rattle.std.proofs.Common.{◌≡◌, ◌∙◌, refl, ap, sym, ◌+◌, ◌<◌, Bool, cond, List, [], ◌∷◌, ◌++◌, length, length-append, arith}
 use Rattle.std.specs.Prelude.{count_by}
 use Rattle.std.proofs.lemmas.List.{length-map}
 use Rattle.std.proofs.lemmas.List.Elements.{All-append, All-cons, All-head, All-tail}
@@ -12,7 +12,7 @@ use Rattle.script_read.specs.declared.scripts.Command.TheVariants.{Passed, Decla
 use Rattle.script_read.specs.CommandLists.{IsCommandOf, AreCommandsOf, command_of, commands_of, is_check}
 use Rattle.script_read.specs.Commands.{Command as CommandOf, checks, is_check as is_check_of}
 use Rattle.smtrw_answers.specs.Outputs.{asserted, assertions, is_declaration as is_declaration_of}
-use Rattle.smtrw.specs.Counted.{asserted_by, declarations_in, ids_of, is_declaration}
+use Rattle.smtrw.specs.Counted.{asserted_by, declarations_in, ids_of, is_assertion, is_declaration}
 
 asserted_term : (t : Formulas) (c : Command) → trees_at t (asserted_by c) ≡ asserted (command_of t c)
 asserted_term t (Passed text) = refl
@@ -83,6 +83,27 @@ checks_are t cs = counted_alike t is_check is_check_of (check_is t) cs
 
 pub assertions_are : (t : Formulas) (cs : List Command) → length (ids_of cs) ≡ length (assertions (commands_of t cs))
 assertions_are t cs = sym (length-map (ids_of cs) (tree t)) ∙ ap (λ (us : List Term). length us) (asserted_terms t cs)
+
+one_asserted : (t : Formulas) (c : Command) → cond (is_assertion c) 1 0 ≡ length (asserted (command_of t c))
+one_asserted t (Passed text) = refl
+one_asserted t (DeclareSort s) = refl
+one_asserted t (Declare f) = refl
+one_asserted t (Assert id number) = refl
+one_asserted t Check = refl
+one_asserted t (CheckAssuming ids) = refl
+one_asserted t (Push n) = refl
+one_asserted t (Pop n) = refl
+one_asserted t Reset = refl
+one_asserted t ResetAssertions = refl
+one_asserted t (Globals b) = refl
+one_asserted t Exit = refl
+
+pub assertions_counted : (t : Formulas) (cs : List Command) → count_by is_assertion cs ≡ length (assertions (commands_of t cs))
+assertions_counted t [] = refl
+assertions_counted t (c ∷ cs) =
+    sum_by-cons (λ c. cond (is_assertion c) 1 0) c cs
+    ∙ (λ i. one_asserted t c i + assertions_counted t cs i)
+    ∙ sym (length-append (asserted (command_of t c)) (assertions (commands_of t cs)))
 
 -- ---- numbers of the table
 

@@ -3,10 +3,10 @@ use Rattle.std.proofs.Common.{◌≡◌, refl, ℕ, ◌⊎◌, inl, inr, List, O
 use Rattle.smt_terms.specs.Sorts.{Name}
 use Rattle.smtrw_answers.specs.declared.status.Status.{Status}
 use Rattle.smtrw_answers.specs.declared.status.Status.TheVariants.{Done, Refused, Usage, ReadFailed, WriteFailed, OutOfMemory, ModelRefused, Beyond128, PassRefused}
-use Rattle.smtrw_answers.specs.Words.{Word, Numbered, Asked, file_of, model_file_of}
+use Rattle.smtrw_answers.specs.Words.{Word, Numbered, Source, of_file, drawn, Asked, source_of, model_file_of}
 use Rattle.smtrw_answers.specs.Endings.{end_of}
 use Rattle.smtrw.specs.Prepared.{IsEarly, EndsBefore}
-use Rattle.smtrw.specs.Run.{EndFits, IsComplete, NoneRose, OutFits, Promised, Quiet, ReadFits, RoseForModel, Texts, TextsFit, WriteFits}
+use Rattle.smtrw.specs.Run.{EndFits, IsComplete, NoneRose, NoneRoseOf, OutFits, Promised, Quiet, ReadFits, RoseForModel, RoseForScript, Texts, TextsFit, WriteFits}
 
 pub early_write : (before now : ℕ) (status : Status) → IsEarly status → WriteFits before now status
 early_write before now Done is = absurd is
@@ -58,17 +58,21 @@ none_rose : (before now : Word → ℕ) (word : ℕ) (o : Option Numbered) → R
 none_rose before now word None rose none = absurd rose
 none_rose before now word (Some file) rose none = none rose.1
 
+none_rose_of : (before now : Word → ℕ) (word : ℕ) (source : Source) → RoseForScript before now word source → NoneRoseOf before now source → ⊥
+none_rose_of before now word (of_file file) rose none = none rose.1
+none_rose_of before now word (drawn seed size) rose none = absurd rose
+
 ended : (end : Option Status) (status : Status) → end ≡ None → end ≡ Some status → ⊥
 ended end status fine is = absurd cc
 
 module _ (before now : Word → ℕ) (asked : Asked) where
   -- a text that isn't refused, from devices that don't fail, wants memory alone
-  memory_wanting : (end : Option Status) (status : Status) → IsEarly status → ReadFits before now status asked → EndFits end status → end ≡ None → NoneRose before now (Some (file_of asked)) → NoneRose before now (model_file_of asked)
+  memory_wanting : (end : Option Status) (status : Status) → IsEarly status → ReadFits before now status asked → EndFits end status → end ≡ None → NoneRoseOf before now (source_of asked) → NoneRose before now (model_file_of asked)
       → (status ≡ Done) ⊎ (status ≡ OutOfMemory)
   memory_wanting end Done early read fits fine script model = absurd early
   memory_wanting end (Refused r) early read fits fine script model = absurd (ended end (Refused r) fine fits)
   memory_wanting end (Usage u) early read fits fine script model = absurd (ended end (Usage u) fine fits)
-  memory_wanting end (ReadFailed word) early (inl rose) fits fine script model = absurd (script rose.1)
+  memory_wanting end (ReadFailed word) early (inl rose) fits fine script model = absurd (none_rose_of before now word (source_of asked) rose script)
   memory_wanting end (ReadFailed word) early (inr rose) fits fine script model = absurd (none_rose before now word (model_file_of asked) rose model)
   memory_wanting end WriteFailed early read fits fine script model = absurd early
   memory_wanting end OutOfMemory early read fits fine script model = inr refl

@@ -26,7 +26,9 @@ use Rattle.smtrw_answers.specs.declared.status.Status.TheVariants.{Done, Refused
 use Rattle.smtrw_answers.specs.Endings.{longest_text, too_long, refusal_of, script_end, passes_end, rewrite_end, or_later as status_or_later}
 use Rattle.smtrw_answers.specs.Faults.{status_of_lexing, status_of_passing, status_of_reading}
 use Rattle.smtrw_answers.specs.Outputs.{commands, names_left, read_or_none}
-use Rattle.smtrw.specs.Prepared.{EndsEarly, Writes}
+use Rattle.smtrw.specs.declared.rewriting.Rewriting.{Rewriting}
+use Rattle.smtrw.specs.Prepared.{EndsEarly}
+use Rattle.smtrw.specs.Rewriting.{EndsFor}
 
 -- the end of a text that isn't too long, by what reading it answers
 abbrev end_of : Result (List (Command Term) × Supply) Unaccepted → Option Status
@@ -74,18 +76,17 @@ reading_ends b short r is = ends_by b short ∙ refused_end r (script b) is
 
 -- ---- an accepted text
 
+pub faultless_ends : (b : List ℕ) → length b ≤ longest_text → fault b ≡ None → script_end b ≡ None
+faultless_ends b short is = ends_by b short ∙ ap (λ (u : Option Unaccepted). option_map refusal_of u) is
+
 pub accepted_ends : (b : List ℕ) → length b ≤ longest_text → (r : List (Command Term) × Supply) → script b ≡ Ok r → script_end b ≡ None
-accepted_ends b short r is = ends_by b short ∙ ap end_of is
+accepted_ends b short r is = faultless_ends b short (ap fault_of is)
 
--- ---- no memory
+-- ---- faults
 
-pub memory_ends : (end : Option Status) (IsText : List ℕ → Type 0) (r : Result (List ℕ) Status) → IsErrAnd r (λ s. s ≡ OutOfMemory) → Writes end IsText r
-memory_ends end IsText (Err s) is = subst (λ (status : Status). EndsEarly end status) (sym is) tt
-memory_ends end IsText (Ok w) is = absurd is
-
-pub writes_so : (end : Option Status) (IsText : List ℕ → Type 0) (r : Result (List ℕ) Status) (status : Status) → IsErrAnd r (λ s. s ≡ status) → EndsEarly end status → Writes end IsText r
-writes_so end IsText (Err s) status is ends = subst (λ (x : Status). EndsEarly end x) (sym is) ends
-writes_so end IsText (Ok w) status is ends = absurd is
+pub ends_so : (end : Option Status) (r : Result Rewriting Status) (status : Status) → IsErrAnd r (λ s. s ≡ status) → EndsEarly end status → EndsFor end r
+ends_so end (Err s) status is ends = subst (λ (x : Status). EndsEarly end x) (sym is) ends
+ends_so end (Ok w) status is ends = absurd is
 
 pub unread_ends : (b : List ℕ) → length b ≤ longest_text → (t : Formulas) (f : ScriptFault) → ReadsScript t b (Err f) → EndsEarly (script_end b) (status_of_reading f)
 unread_ends b short t (ScriptRefused r) reads = reading_ends b short r reads

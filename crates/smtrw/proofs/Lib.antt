@@ -1,8 +1,10 @@
-mod AskedChecks
+mod AskedNumbers
 mod CarriedModels
 mod Carriages
 mod Commanded
 mod Counts
+mod DemoScripts
+mod Demonstrations
 mod EarlyEnds
 mod EightRun
 mod Endings

@@ -1,5 +1,5 @@
 -- How a run ends, and what it prepares, by texts of which the script was read.
-use Rattle.std.proofs.Common.{◌≡◌, ap, subst, refl, ℕ, ◌<◌, inl, inr, List, length, Option, Some, None, Result, Ok, Err, arith}
+use Rattle.std.proofs.Common.{◌≡◌, ap, subst, sym, refl, ℕ, ◌<◌, inl, inr, List, length, Option, Some, None, Result, Ok, Err, arith}
 use Rattle.std.specs.Prelude.{IfOk, IfErr, IfSome}
 use Rattle.smt_io.specs.Counts.{NeverFalls, Rose}
 use Rattle.smt_io.specs.Told.{TookMore}
@@ -12,17 +12,18 @@ use Rattle.passes.specs.Carry.{back_stages, forth_stages}
 use Rattle.smtrw_answers.specs.declared.status.Status.{Status}
 use Rattle.smtrw_answers.specs.declared.status.Status.TheVariants.{Done, Refused, Usage, ReadFailed, WriteFailed, OutOfMemory, ModelRefused, Beyond128, PassRefused}
 use Rattle.smtrw_answers.specs.declared.words.Asked.{Asked as AskedSeen}
-use Rattle.smtrw_answers.specs.declared.words.Asked.TheVariants.{Rewrite, Translate, Extend, Stats}
+use Rattle.smtrw_answers.specs.declared.words.Asked.TheVariants.{Rewrite, Translate, Extend, Stats, Demo}
 use Rattle.smtrw_answers.specs.Asked.{asked_seen}
 use Rattle.smtrw_answers.specs.Carrying.{signature_before, signature_behind}
 use Rattle.smtrw_answers.specs.Headline.{IsRewriting}
-use Rattle.smtrw_answers.specs.Words.{Word, Numbered, Asked, rewrite, stats, file_of, model_file_of}
+use Rattle.smtrw_answers.specs.Words.{Word, Numbered, Source, of_file, drawn, Asked, rewrite, stats, demo, source_of, model_file_of}
 use Rattle.smtrw_answers.specs.Endings.{longest_text, too_long, or_later, end_of, script_end, check_end, passes_end, model_end, rewrite_end, stats_end, text_end}
-use Rattle.smtrw_answers.specs.Outputs.{commands, names_left, stats_lines, MayBeWritten}
-use Rattle.smtrw_answers.specs.Written.{IsOutputOf}
-use Rattle.smtrw.specs.Prepared.{EndsBefore, EndsEarly, IsPrepared, Promises, Writes, texts_beside}
+use Rattle.smtrw_answers.specs.Outputs.{commands, names_left, stats_lines, demo_line, MayBeWritten}
+use Rattle.smtrw.specs.declared.rewriting.Rewriting.{Rewriting}
+use Rattle.smtrw.specs.Prepared.{EndsBefore, EndsEarly, IsPrepared, Writes, texts_beside}
+use Rattle.smtrw.specs.Rewriting.{IsMadeBy}
 use Rattle.smtrw.proofs.Endings.{rewrite_end_code, script_end_is_no_pass, too_long_ends}
-use Rattle.smtrw.specs.Run.{EndFits, MayEnd, ReadFits, RoseFor, RoseForModel, Texts, TextsFit, WhereTold, check_end_of, model_text_of, passes_end_of, texts_of}
+use Rattle.smtrw.specs.Run.{EndFits, MayEnd, ReadFits, RoseForModel, RoseForScript, Texts, TextsFit, check_end_of, model_text_of, passes_end_of, script_text_of, texts_of}
 
 pub err_weaker : {A : Type 0} (r : Result A Status) (P Q : Status → Type 0) → ((s : Status) → P s → Q s) → IfErr r P → IfErr r Q
 err_weaker (Ok a) P Q to is = tt
@@ -34,40 +35,37 @@ ok_weaker (Err s) P Q to is = tt
 
 -- ---- a script alone
 
-module _ (b : List ℕ) (text : Word → Option (List ℕ)) (before now : Word → ℕ) (asked : Asked) (end : Option Status) (may : (code assertion : ℕ) → end ≡ Some (PassRefused code assertion) → MayEnd asked (PassRefused code assertion)) (fits : (s : Status) → EndFits end s → TextsFit (texts_beside b text asked) s asked) where
-  alone_ends : (status : Status) → EndsEarly end status → EndsBefore (texts_beside b text asked) before now asked status
-  alone_ends Done is = absurd is
-  alone_ends (Refused r) is = record { early = tt; words = tt; ends = tt; read = tt; texts = fits (Refused r) is }
-  alone_ends (Usage u) is = absurd is
-  alone_ends (ReadFailed word) is = absurd is
-  alone_ends WriteFailed is = absurd is
-  alone_ends OutOfMemory is = record { early = tt; words = tt; ends = tt; read = tt; texts = fits OutOfMemory tt }
-  alone_ends (ModelRefused code line byte) is = absurd is
-  alone_ends (Beyond128 assertion) is = absurd is
-  alone_ends (PassRefused code assertion) is = record { early = tt; words = tt; ends = may code assertion is; read = tt; texts = fits (PassRefused code assertion) is }
-
-  pub alone_before : (IsText : List ℕ → Type 0) (r : Result (List ℕ) Status) → Writes end IsText r → IfErr r (EndsBefore (texts_beside b text asked) before now asked)
-  alone_before IsText (Ok w) writes = tt
-  alone_before IsText (Err status) writes = alone_ends status writes
-
-  pub alone_prepared : (rules : List Name) (IsText : List ℕ → Type 0) → ((w : List ℕ) → IsText w → WhereTold (texts_beside b text asked) (λ b g. IsOutputOf rules asked b g w)) → (r : Result (List ℕ) Status) → Writes end IsText r → IfOk r (λ w. Promises (Some b) asked w)
-      → IfOk r (IsPrepared rules (texts_beside b text asked) asked)
-  alone_prepared rules IsText output (Ok w) writes promises = record { texts = fits Done writes.0; output = output w writes.1; promise = promises }
-  alone_prepared rules IsText output (Err status) writes promises = tt
+alone_ends : (b : List ℕ) (text : Word → Option (List ℕ)) (before now : Word → ℕ) (asked : Asked) (end : Option Status) → ((code assertion : ℕ) → end ≡ Some (PassRefused code assertion) → MayEnd asked (PassRefused code assertion)) → ((s : Status) → EndFits end s → TextsFit (texts_beside b text asked) s asked)
+    → (status : Status) → EndsEarly end status → EndsBefore (texts_beside b text asked) before now asked status
+alone_ends b text before now asked end may fits Done is = absurd is
+alone_ends b text before now asked end may fits (Refused r) is = record { early = tt; words = tt; ends = tt; read = tt; texts = fits (Refused r) is }
+alone_ends b text before now asked end may fits (Usage u) is = absurd is
+alone_ends b text before now asked end may fits (ReadFailed word) is = absurd is
+alone_ends b text before now asked end may fits WriteFailed is = absurd is
+alone_ends b text before now asked end may fits OutOfMemory is = record { early = tt; words = tt; ends = tt; read = tt; texts = fits OutOfMemory tt }
+alone_ends b text before now asked end may fits (ModelRefused code line byte) is = absurd is
+alone_ends b text before now asked end may fits (Beyond128 assertion) is = absurd is
+alone_ends b text before now asked end may fits (PassRefused code assertion) is = record { early = tt; words = tt; ends = may code assertion is; read = tt; texts = fits (PassRefused code assertion) is }
 
 -- ---- a script that isn't accepted, whatever the command
 
-end_refused : (a : AskedSeen) (b g : List ℕ) (status : Status) → script_end b ≡ Some status → end_of (asked_seen a) b g ≡ Some status
-end_refused (Rewrite ps l f) b g status is = ap (λ (o : Option Status). or_later o (passes_end b ps)) is
-end_refused (Translate ps k s m) b g status is =
-    ap (λ (o : Option Status). or_later o (or_later (check_end b k) (or_later (passes_end b ps) (text_end g (model_end (back_stages ps (commands b) (names_left b) k) (model_of g (signature_behind b ps k))))))) is
-end_refused (Extend ps k s m) b g status is =
-    ap (λ (o : Option Status). or_later o (or_later (check_end b k) (or_later (passes_end b ps) (text_end g (model_end (forth_stages ps (commands b) (names_left b) k) (model_of g (signature_before b k))))))) is
-end_refused (Stats f) b g status is = is
+-- one that is made is accepted
+abbrev pub IsSoundFor : Source → List ℕ → Type 0
+IsSoundFor (of_file file) b = Unit {0}
+IsSoundFor (drawn seed size) b = script_end b ≡ None
 
-texts_refused : (a : AskedSeen) (b : List ℕ) (m : Option (List ℕ)) (r : Refusal) → script_end b ≡ Some (Refused r) → TextsFit (record { script = Some b; model = m }) (Refused r) (asked_seen a)
-texts_refused a b None r is = ap (λ (o : Option Status). or_later o (or_later (check_end_of (asked_seen a) b) (passes_end_of (asked_seen a) b))) is
-texts_refused a b (Some g) r is = end_refused a b g (Refused r) is
+end_refused : (a : AskedSeen) (b g : List ℕ) → IsSoundFor (source_of (asked_seen a)) b → (status : Status) → script_end b ≡ Some status → end_of (asked_seen a) b g ≡ Some status
+end_refused (Rewrite ps l f) b g sound status is = ap (λ (o : Option Status). or_later o (passes_end b ps)) is
+end_refused (Translate ps k s m) b g sound status is =
+    ap (λ (o : Option Status). or_later o (or_later (check_end b k) (or_later (passes_end b ps) (text_end g (model_end (back_stages ps (commands b) (names_left b) k) (model_of g (signature_behind b ps k))))))) is
+end_refused (Extend ps k s m) b g sound status is =
+    ap (λ (o : Option Status). or_later o (or_later (check_end b k) (or_later (passes_end b ps) (text_end g (model_end (forth_stages ps (commands b) (names_left b) k) (model_of g (signature_before b k))))))) is
+end_refused (Stats f) b g sound status is = is
+end_refused (Demo seed size) b g sound status is = absurd cc
+
+texts_refused : (a : AskedSeen) (b : List ℕ) → IsSoundFor (source_of (asked_seen a)) b → (m : Option (List ℕ)) (r : Refusal) → script_end b ≡ Some (Refused r) → TextsFit (record { script = Some b; model = m }) (Refused r) (asked_seen a)
+texts_refused a b sound None r is = ap (λ (o : Option Status). or_later o (or_later (check_end_of (asked_seen a) b) (passes_end_of (asked_seen a) b))) is
+texts_refused a b sound (Some g) r is = end_refused a b g sound (Refused r) is
 
 memory_texts : (asked : Asked) (s m : Option (List ℕ)) → TextsFit (record { script = s; model = m }) OutOfMemory asked
 memory_texts asked None m = tt
@@ -82,32 +80,38 @@ unread_texts asked word (Some b) (Some g) = tt
 pub memory_before : (ts : Texts) (before now : Word → ℕ) (asked : Asked) → EndsBefore ts before now asked OutOfMemory
 memory_before ts before now asked = record { early = tt; words = tt; ends = tt; read = tt; texts = memory_texts asked ts.script ts.model }
 
-pub unread_before : (ts : Texts) (before now : Word → ℕ) (asked : Asked) (word : ℕ) → RoseFor before now word (file_of asked) → EndsBefore ts before now asked (ReadFailed word)
+pub unread_before : (ts : Texts) (before now : Word → ℕ) (asked : Asked) (word : ℕ) → RoseForScript before now word (source_of asked) → EndsBefore ts before now asked (ReadFailed word)
 unread_before ts before now asked word rose = record { early = tt; words = tt; ends = tt; read = inl rose; texts = unread_texts asked word ts.script ts.model }
 
-pub refused_before : (a : AskedSeen) (b : List ℕ) (m : Option (List ℕ)) (before now : Word → ℕ) (status : Status) → EndsEarly (script_end b) status → EndsBefore (record { script = Some b; model = m }) before now (asked_seen a) status
-refused_before a b m before now Done is = absurd is
-refused_before a b m before now (Refused r) is = record { early = tt; words = tt; ends = tt; read = tt; texts = texts_refused a b m r is }
-refused_before a b m before now (Usage u) is = absurd is
-refused_before a b m before now (ReadFailed word) is = absurd is
-refused_before a b m before now WriteFailed is = absurd is
-refused_before a b m before now OutOfMemory is = memory_before (record { script = Some b; model = m }) before now (asked_seen a)
-refused_before a b m before now (ModelRefused code line byte) is = absurd is
-refused_before a b m before now (Beyond128 assertion) is = absurd is
-refused_before a b m before now (PassRefused code assertion) is = absurd (script_end_is_no_pass b code assertion is)
+pub refused_before : (a : AskedSeen) (b : List ℕ) → IsSoundFor (source_of (asked_seen a)) b → (m : Option (List ℕ)) (before now : Word → ℕ) (status : Status) → EndsEarly (script_end b) status → EndsBefore (record { script = Some b; model = m }) before now (asked_seen a) status
+refused_before a b sound m before now Done is = absurd is
+refused_before a b sound m before now (Refused r) is = record { early = tt; words = tt; ends = tt; read = tt; texts = texts_refused a b sound m r is }
+refused_before a b sound m before now (Usage u) is = absurd is
+refused_before a b sound m before now (ReadFailed word) is = absurd is
+refused_before a b sound m before now WriteFailed is = absurd is
+refused_before a b sound m before now OutOfMemory is = memory_before (record { script = Some b; model = m }) before now (asked_seen a)
+refused_before a b sound m before now (ModelRefused code line byte) is = absurd is
+refused_before a b sound m before now (Beyond128 assertion) is = absurd is
+refused_before a b sound m before now (PassRefused code assertion) is = absurd (script_end_is_no_pass b code assertion is)
 
 -- a script that is too long
 longer : (text : List ℕ) (rest : Option (List ℕ)) (given given_now : ℕ) → TookMore (Some text) rest given given_now → longest_text < length text
 longer text (Some left) given given_now took = omega (arith, took)
 longer text None given given_now took = absurd took
 
-pub long_before : (a : AskedSeen) (text : Word → Option (List ℕ)) (rest : Option (List ℕ)) (given given_now : ℕ) (before now : Word → ℕ) → TookMore (text (file_of (asked_seen a)).word) rest given given_now
+pub long_before : (a : AskedSeen) (text : Word → Option (List ℕ)) (file : Numbered) → of_file file ≡ source_of (asked_seen a) → (rest : Option (List ℕ)) (given given_now : ℕ) (before now : Word → ℕ) → TookMore (text file.word) rest given given_now
     → EndsBefore (texts_of text (asked_seen a)) before now (asked_seen a) (Refused too_long)
-long_before a text rest given given_now before now took = record { early = tt; words = tt; ends = tt; read = tt; texts = by (text (file_of (asked_seen a)).word) took }
+long_before a text file named rest given given_now before now took = record { early = tt; words = tt; ends = tt; read = tt; texts = subst Fits named (by (text file.word) took) }
   where
-    by : (o : Option (List ℕ)) → TookMore o rest given given_now → TextsFit (record { script = o; model = model_text_of (model_file_of (asked_seen a)) text }) (Refused too_long) (asked_seen a)
+    model : Option (List ℕ)
+    model = model_text_of (model_file_of (asked_seen a)) text
+
+    Fits : Source → Type 0
+    Fits source = TextsFit (record { script = script_text_of source text; model = model }) (Refused too_long) (asked_seen a)
+
+    by : (o : Option (List ℕ)) → TookMore o rest given given_now → TextsFit (record { script = o; model = model }) (Refused too_long) (asked_seen a)
     by None took = tt
-    by (Some b) took = texts_refused a b (model_text_of (model_file_of (asked_seen a)) text) too_long (too_long_ends b (longer b rest given given_now took))
+    by (Some b) took = texts_refused a b (subst (λ (source : Source). IsSoundFor source b) named tt) model too_long (too_long_ends b (longer b rest given given_now took))
 
 -- ---- how the script was read
 
@@ -119,8 +123,12 @@ module _ (asked : Asked) (before middle now : Word → ℕ) (falls : (w : Word) 
   rose_for_model word None is = is
   rose_for_model word (Some file) is = (is.0, rose_since (before file.word) (middle file.word) (now file.word) (falls file.word) is.1)
 
+  rose_for_script : (word : ℕ) (source : Source) → RoseForScript middle now word source → RoseForScript before now word source
+  rose_for_script word (of_file file) is = (is.0, rose_since (before file.word) (middle file.word) (now file.word) (falls file.word) is.1)
+  rose_for_script word (drawn seed size) is = is
+
   pub fails_since : (status : Status) → ReadFits middle now status asked → ReadFits before now status asked
-  fails_since (ReadFailed word) (inl is) = inl (is.0, rose_since (before (file_of asked).word) (middle (file_of asked).word) (now (file_of asked).word) (falls (file_of asked).word) is.1)
+  fails_since (ReadFailed word) (inl is) = inl (rose_for_script word (source_of asked) is)
   fails_since (ReadFailed word) (inr is) = inr (rose_for_model word (model_file_of asked) is)
   fails_since Done is = tt
   fails_since (Refused r) is = tt
@@ -137,12 +145,12 @@ module _ (asked : Asked) (b : List ℕ) (text later : Word → Option (List ℕ)
   model_stays (Some file) = stay file.word
 
   -- the told texts, of which the script is b where it is told
-  module _ (whole : IfSome (text (file_of asked).word) (λ t. b ≡ t)) where
+  module _ (whole : IfSome (script_text_of (source_of asked) text) (λ t. b ≡ t)) where
     same_beside : texts_beside b later asked ≡ texts_beside b text asked
     same_beside i = record { script = Some b; model = model_stays (model_file_of asked) i }
 
     told : (P : Texts → Type 0) → ((m : Option (List ℕ)) → P (record { script = None; model = m })) → P (texts_beside b later asked) → P (texts_of text asked)
-    told P untold is = by (text (file_of asked).word) whole
+    told P untold is = by (script_text_of (source_of asked) text) whole
       where
         by : (o : Option (List ℕ)) → IfSome o (λ t. b ≡ t) → P (record { script = o; model = model_text_of (model_file_of asked) text })
         by None w = untold (model_text_of (model_file_of asked) text)
@@ -167,33 +175,32 @@ counting_may : (b : List ℕ) (file : Numbered) (code assertion : ℕ) → stats
 counting_may b file code assertion is = absurd (script_end_is_no_pass b code assertion is)
 
 module _ (b d : List ℕ) (same : d ≡ b) (text : Word → Option (List ℕ)) where
-  pub rewriting_before : (before now : Word → ℕ) (ps : List Pass) (layout : Layout) (file : Numbered) (rules : List Name) (r : Result (List ℕ) Status) → Writes (rewrite_end d ps) (MayBeWritten d ps rules layout) r
-      → IfErr r (EndsBefore (texts_beside b text (rewrite ps layout file)) before now (rewrite ps layout file))
-  rewriting_before before now ps layout file rules r writes =
-      alone_before b text before now (rewrite ps layout file) (rewrite_end b ps) (rewriting_may b ps layout file) (λ s fits. fits) (MayBeWritten b ps rules layout) r
-      (subst (λ (x : List ℕ). Writes (rewrite_end x ps) (MayBeWritten x ps rules layout) r) same writes)
+  pub rewriting_before : (before now : Word → ℕ) (ps : List Pass) (layout : Layout) (file : Numbered) (status : Status) → EndsEarly (rewrite_end d ps) status → EndsBefore (texts_beside b text (rewrite ps layout file)) before now (rewrite ps layout file) status
+  rewriting_before before now ps layout file status ends =
+      alone_ends b text before now (rewrite ps layout file) (rewrite_end b ps) (rewriting_may b ps layout file) (λ s fits. fits) status
+      (subst (λ (x : List ℕ). EndsEarly (rewrite_end x ps) status) same ends)
 
-  pub rewriting_prepared : (ps : List Pass) (layout : Layout) (file : Numbered) (rules : List Name) (r : Result (List ℕ) Status) → Writes (rewrite_end d ps) (MayBeWritten d ps rules layout) r → IfOk r (λ w. IsRewriting d ps w)
-      → IfOk r (IsPrepared rules (texts_beside b text (rewrite ps layout file)) (rewrite ps layout file))
-  rewriting_prepared ps layout file rules r writes promises =
-      alone_prepared b text (λ _. 0) (λ _. 0) (rewrite ps layout file) (rewrite_end b ps) (rewriting_may b ps layout file) (λ s fits. fits) rules (MayBeWritten b ps rules layout) (λ w is. is) r
-      (subst (λ (x : List ℕ). Writes (rewrite_end x ps) (MayBeWritten x ps rules layout) r) same writes)
-      (subst (λ (x : List ℕ). IfOk r (λ w. IsRewriting x ps w)) same promises)
+  pub rewriting_prepared : (ps : List Pass) (layout : Layout) (file : Numbered) (rules : List Name) (r : Rewriting) → rewrite_end d ps ≡ None → IsMadeBy d ps rules layout r → IsRewriting d ps r.text
+      → IsPrepared rules (texts_beside b text (rewrite ps layout file)) (rewrite ps layout file) r.text
+  rewriting_prepared ps layout file rules r ends made promises = record {
+    texts = subst (λ (x : List ℕ). rewrite_end x ps ≡ None) same ends;
+    output = subst (λ (x : List ℕ). MayBeWritten x ps rules layout r.text) same (made.0, made.1, made.2);
+    promise = subst (λ (x : List ℕ). IsRewriting x ps r.text) same promises;
+  }
 
   pub counting_before : (before now : Word → ℕ) (file : Numbered) (r : Result (List ℕ) Status) → Writes (stats_end d) (λ w. w ≡ stats_lines d) r → IfErr r (EndsBefore (texts_beside b text (stats file)) before now (stats file))
-  counting_before before now file r writes =
-      alone_before b text before now (stats file) (stats_end b) (counting_may b file) (λ s fits. fits) (λ w. w ≡ stats_lines b) r
-      (subst (λ (x : List ℕ). Writes (stats_end x) (λ w. w ≡ stats_lines x) r) same writes)
+  counting_before before now file (Ok w) writes = tt
+  counting_before before now file (Err status) writes =
+      alone_ends b text before now (stats file) (stats_end b) (counting_may b file) (λ s fits. fits) status
+      (subst (λ (x : List ℕ). EndsEarly (stats_end x) status) same writes)
 
   pub counting_prepared : (file : Numbered) (rules : List Name) (r : Result (List ℕ) Status) → Writes (stats_end d) (λ w. w ≡ stats_lines d) r → IfOk r (IsPrepared rules (texts_beside b text (stats file)) (stats file))
-  counting_prepared file rules r writes =
-      alone_prepared b text (λ _. 0) (λ _. 0) (stats file) (stats_end b) (counting_may b file) (λ s fits. fits) rules (λ w. w ≡ stats_lines b) (λ w is. is) r
-      (subst (λ (x : List ℕ). Writes (stats_end x) (λ w. w ≡ stats_lines x) r) same writes)
-      (all_ok r)
-    where
-      all_ok : (q : Result (List ℕ) Status) → IfOk q (λ w. Unit {0})
-      all_ok (Ok w) = tt
-      all_ok (Err s) = tt
+  counting_prepared file rules (Ok w) writes = record {
+    texts = subst (λ (x : List ℕ). stats_end x ≡ None) same writes.0;
+    output = subst (λ (x : List ℕ). w ≡ stats_lines x) same writes.1;
+    promise = tt;
+  }
+  counting_prepared file rules (Err status) writes = tt
 
   -- those that carry a model, of the bytes that were read
   pub read_before : (before now : Word → ℕ) (asked : Asked) (r : Result (List ℕ) Status) → IfErr r (EndsBefore (texts_beside d text asked) before now asked) → IfErr r (EndsBefore (texts_beside b text asked) before now asked)
@@ -201,3 +208,15 @@ module _ (b d : List ℕ) (same : d ≡ b) (text : Word → Option (List ℕ)) w
 
   pub read_prepared : (rules : List Name) (asked : Asked) (r : Result (List ℕ) Status) → IfOk r (IsPrepared rules (texts_beside d text asked) asked) → IfOk r (IsPrepared rules (texts_beside b text asked) asked)
   read_prepared rules asked r is = subst (λ (x : List ℕ). IfOk r (IsPrepared rules (texts_beside x text asked) asked)) same is
+
+-- ---- the command that makes its script
+
+module _ (seed size : ℕ) (b : List ℕ) (text : Word → Option (List ℕ)) (r : Result (List ℕ) Status) where
+  pub demonstration_before : (before now : Word → ℕ) → IfErr r (λ status. status ≡ OutOfMemory) → IfErr r (EndsBefore (texts_beside b text (demo seed size)) before now (demo seed size))
+  demonstration_before before now =
+      err_weaker r (λ status. status ≡ OutOfMemory) (EndsBefore (texts_beside b text (demo seed size)) before now (demo seed size))
+      (λ status is. subst (EndsBefore (texts_beside b text (demo seed size)) before now (demo seed size)) (sym is) (memory_before (texts_beside b text (demo seed size)) before now (demo seed size)))
+
+  pub demonstration_prepared : (rules : List Name) → IfOk r (λ w. w ≡ demo_line seed size) → IfOk r (IsPrepared rules (texts_beside b text (demo seed size)) (demo seed size))
+  demonstration_prepared rules =
+      ok_weaker r (λ w. w ≡ demo_line seed size) (IsPrepared rules (texts_beside b text (demo seed size)) (demo seed size)) (λ w is. record { texts = refl; output = is; promise = tt })

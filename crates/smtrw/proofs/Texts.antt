@@ -10,15 +10,15 @@ use Rattle.smt_print.specs.declared.layout.Layout.{Layout}
 use Rattle.smt_print.specs.Text.{lines}
 use Rattle.passes.specs.declared.names.Pass.{Pass}
 use Rattle.passes.specs.Laws.{AreCarried}
-use Rattle.passes.specs.Led.{LeadsTo}
+use Rattle.passes.specs.Led.{Leads, LeadsTo}
 use Rattle.smtrw_answers.specs.Headline.{IsRewriting}
 use Rattle.smtrw_answers.specs.Laws.{RewritingKeepsItsPromise}
-use Rattle.smtrw_answers.specs.Outputs.{read_or_none, MayBeWritten}
+use Rattle.smtrw_answers.specs.Outputs.{commands, names_left, read_or_none}
 
-pub may_be_written : (b : List ℕ) (read : List (Command Term) × Supply) → script b ≡ Ok read → (ps : List Pass) (rules : List Name) (layout : Layout) (ds : List (Command Term)) (left : Supply) → LeadsTo ps read.0 read.1 rules ds left → (w : List ℕ) → w ≡ lines layout ds → MayBeWritten b ps rules layout w
-may_be_written b read is ps rules layout ds left led w written =
+pub leads : (b : List ℕ) (read : List (Command Term) × Supply) → script b ≡ Ok read → (ps : List Pass) (rules : List Name) (ds : List (Command Term)) (left : Supply) → LeadsTo ps read.0 read.1 rules ds left → Leads ps (commands b) (names_left b) rules ds
+leads b read is ps rules ds left led =
     let Led : Result (List (Command Term) × Supply) Unaccepted → Type 0 = λ r. LeadsTo ps (read_or_none r).0 (read_or_none r).1 rules ds left in
-    (ds, (left, subst Led (sym is) led), written)
+    (left, subst Led (sym is) led)
 
 pub promised : RewritingKeepsItsPromise → (b : List ℕ) (read : List (Command Term) × Supply) → script b ≡ Ok read → (ps : List Pass) (layout : Layout) (ds : List (Command Term)) (left : Supply) → AreCarried ps read.0 ds read.1 left → (w : List ℕ) → w ≡ lines layout ds → IsRewriting b ps w
 promised law b read is ps layout ds left carried w written =

@@ -37,12 +37,6 @@ translation script c = translate c.passes.now c.check script (numbered c.model)
 abbrev pub extension : Numbered → Carriage → Asked
 extension script c = extend c.passes.now c.check script (numbered c.model)
 
--- checks are counted from 1
-abbrev pub CountsFromOne : Asked → Type 0
-CountsFromOne (translate passes check script model) = 1 ≤ check
-CountsFromOne (extend passes check script model) = 1 ≤ check
-CountsFromOne _ = Unit {0}
-
 -- ---- the script and the passes
 
 -- a script, or the number of a check, ends the run so before the passes

@@ -17,6 +17,10 @@ abbrev pub asserted_by : Command → List NodeId
 asserted_by (Assert id number) = id ∷ []
 asserted_by _ = []
 
+abbrev pub is_assertion : Command → Bool
+is_assertion (Assert id number) = true
+is_assertion _ = false
+
 -- the formulas of the assertions
 abbrev pub ids_of : List Command → List NodeId
 ids_of cs = flat_map asserted_by cs

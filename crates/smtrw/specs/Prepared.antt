@@ -4,8 +4,9 @@ use Rattle.smt_io.specs.Told.{with_bytes}
 use Rattle.smt_terms.specs.Sorts.{Name}
 use Rattle.smtrw_answers.specs.declared.status.Status.{Status}
 use Rattle.smtrw_answers.specs.declared.status.Status.TheVariants.{Done, Refused, WriteFailed, OutOfMemory, PassRefused}
-use Rattle.smtrw_answers.specs.Words.{Word, Asked, rewrite, model_file_of}
+use Rattle.smtrw_answers.specs.Words.{Word, Source, of_file, drawn, Asked, rewrite, model_file_of}
 use Rattle.smtrw_answers.specs.Headline.{IsRewriting}
+use Rattle.smtrw_answers.specs.Outputs.{demo_script}
 use Rattle.smtrw_answers.specs.Written.{IsOutputOf}
 use Rattle.smtrw.specs.Run.{MayEnd, ReadFits, Texts, TextsFit, WhereTold, WordsFit, model_text_of}
 
@@ -28,6 +29,11 @@ Writes end IsText (Err status) = EndsEarly end status
 -- a script that was read, with the model's text as it is told
 abbrev pub texts_beside : List ℕ → (Word → Option (List ℕ)) → Asked → Texts
 texts_beside b text asked = record { script = Some b; model = model_text_of (model_file_of asked) text }
+
+-- a script that is drawn from a seed was made
+abbrev pub IsMadeFor : Source → List ℕ → Type 0
+IsMadeFor (of_file file) b = Unit {0}
+IsMadeFor (drawn seed size) b = b ≡ demo_script seed size
 
 -- a status at which nothing was sent
 abbrev pub IsEarly : Status → Type 0

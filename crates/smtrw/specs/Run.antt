@@ -7,9 +7,10 @@ use Rattle.smtrw_answers.specs.declared.status.Usage.{Usage as UsageFault}
 use Rattle.smtrw_answers.specs.declared.status.Status.{Status}
 use Rattle.smtrw_answers.specs.declared.status.Why.TheVariants.{NoSuchCheck}
 use Rattle.smtrw_answers.specs.declared.status.Status.TheVariants.{Done, Refused, Usage, ReadFailed, WriteFailed, OutOfMemory, ModelRefused, Beyond128, PassRefused}
-use Rattle.smtrw_answers.specs.Words.{Word, Numbered, Asked, rewrite, translate, extend, file_of, model_file_of}
+use Rattle.smtrw_answers.specs.Words.{Word, Numbered, Source, of_file, drawn, Asked, rewrite, translate, extend, source_of, model_file_of}
 use Rattle.smtrw_answers.specs.Endings.{or_later, script_end, check_end, passes_end, end_of}
 use Rattle.smtrw_answers.specs.Headline.{IsRewriting}
+use Rattle.smtrw_answers.specs.Outputs.{demo_script}
 use Rattle.smtrw_answers.specs.Written.{IsOutputOf}
 
 -- ---- the words
@@ -54,7 +55,7 @@ MayEnd asked _ = Unit {0}
 
 -- ---- the texts that the words name
 
--- each where it is told; a command that reads no model has an empty one
+-- each where it is told: a script that is made always is, and a command that reads no model has an empty one
 pub record Texts : Type 0 where
   pub script : Option (List ℕ)
   pub model : Option (List ℕ)
@@ -63,8 +64,12 @@ abbrev pub model_text_of : Option Numbered → (Word → Option (List ℕ)) → 
 model_text_of None text = Some []
 model_text_of (Some file) text = text file.word
 
+abbrev pub script_text_of : Source → (Word → Option (List ℕ)) → Option (List ℕ)
+script_text_of (of_file file) text = text file.word
+script_text_of (drawn seed size) text = Some (demo_script seed size)
+
 abbrev pub texts_of : (Word → Option (List ℕ)) → Asked → Texts
-texts_of text asked = record { script = text (file_of asked).word; model = model_text_of (model_file_of asked) text }
+texts_of text asked = record { script = script_text_of (source_of asked) text; model = model_text_of (model_file_of asked) text }
 
 -- of both texts, where they are told
 abbrev pub WhereTold : Texts → (List ℕ → List ℕ → Type 0) → Type 0
@@ -76,13 +81,17 @@ WhereTold ts P = elim ts.script [ None ↦ Unit {0} | Some b ↦ elim ts.model [
 abbrev pub RoseFor : (Word → ℕ) → (Word → ℕ) → ℕ → Numbered → Type 0
 RoseFor before now word file = (word ≡ file.number) × Rose (before file.word) (now file.word)
 
+abbrev pub RoseForScript : (Word → ℕ) → (Word → ℕ) → ℕ → Source → Type 0
+RoseForScript before now word (of_file file) = RoseFor before now word file
+RoseForScript before now word (drawn seed size) = ⊥
+
 abbrev pub RoseForModel : (Word → ℕ) → (Word → ℕ) → ℕ → Option Numbered → Type 0
 RoseForModel before now word None = ⊥
 RoseForModel before now word (Some file) = RoseFor before now word file
 
 -- `ReadFailed` comes only where the count of faults rose that the inputs have for the file at its word
 abbrev pub ReadFits : (Word → ℕ) → (Word → ℕ) → Status → Asked → Type 0
-ReadFits before now (ReadFailed word) asked = RoseFor before now word (file_of asked) ⊎ RoseForModel before now word (model_file_of asked)
+ReadFits before now (ReadFailed word) asked = RoseForScript before now word (source_of asked) ⊎ RoseForModel before now word (model_file_of asked)
 ReadFits before now _ asked = Unit {0}
 
 -- `WriteFailed` comes only where the output's count of faults rose
@@ -155,9 +164,13 @@ abbrev pub NoneRose : (Word → ℕ) → (Word → ℕ) → Option Numbered → 
 NoneRose before now None = Unit {0}
 NoneRose before now (Some file) = Rose (before file.word) (now file.word) → ⊥
 
+abbrev pub NoneRoseOf : (Word → ℕ) → (Word → ℕ) → Source → Type 0
+NoneRoseOf before now (of_file file) = NoneRose before now (Some file)
+NoneRoseOf before now (drawn seed size) = Unit {0}
+
 -- told texts that aren't refused are answered, where no device fails and memory is there
 abbrev pub IsComplete : Texts → (Word → ℕ) → (Word → ℕ) → ℕ → ℕ → Status → Asked → Type 0
 IsComplete ts reads_before reads_now before now status asked =
     WhereTold ts
-    (λ b g. end_of asked b g ≡ None → NoneRose reads_before reads_now (Some (file_of asked)) → NoneRose reads_before reads_now (model_file_of asked) →
+    (λ b g. end_of asked b g ≡ None → NoneRoseOf reads_before reads_now (source_of asked) → NoneRose reads_before reads_now (model_file_of asked) →
     (Rose before now → ⊥) → (status ≡ Done) ⊎ (status ≡ OutOfMemory))

@@ -1,12 +1,13 @@
 //! The program `smtrw`: it reads a script of SMT-LIB 2.6, rewrites its assertions by named passes and prints it again
-//! (`rewrite`), carries a model of a check over the passes (`translate`, `extend`), or tells how much stands in the script
-//! (`stats`). `run` is all of it, over sources and sinks of bytes; its contract has the sentence that the program is for, that a
+//! (`rewrite`), carries a model of a check over the passes (`translate`, `extend`), tells how much stands in the script
+//! (`stats`), or shows what becomes of a script that it makes (`demo`). `run` is all of it, over sources and sinks of bytes; its contract has the sentence that the program is for, that a
 //! script which was rewritten means what it meant before.
 
 #![tactic(auto)]
 
 mod carrying;
 mod counting;
+mod demo;
 mod rewriting;
 mod run;
 mod standard;

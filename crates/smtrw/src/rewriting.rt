@@ -1,17 +1,17 @@
 //! `rewrite`: the script behind the passes, printed again.
 
-ghost use Rattle.std.specs.Prelude.{◌≡◌, ◌≤◌, false, length, IfOk};
+ghost use Rattle.std.specs.Prelude.{◌≡◌, ◌≤◌, false, length, count_by, IfOk};
 ghost use Rattle.script_terms.specs.Places.{IsRead};
 ghost use Rattle.smt_io.specs.Told.{longest_text};
 ghost use Rattle.passes.specs.Lists.{groups_after_rules};
 ghost use Rattle.smtrw_answers.specs.Endings.{rewrite_end};
 ghost use Rattle.smtrw_answers.specs.Headline.{IsRewriting};
-ghost use Rattle.smtrw_answers.specs.Outputs.{MayBeWritten};
-ghost use Rattle.smtrw.specs.Prepared.{Writes};
+ghost use Rattle.smtrw.specs.Counted.{is_assertion};
+ghost use Rattle.smtrw.specs.Rewriting.{EndsFor, IsMadeBy};
 
 use passes::{Passes, run_passes};
 use rule_book::{Named, RuleBook};
-use script_read::{names_left_are_new, read_script, reading_gives_a_printable_script};
+use script_read::{Command, names_left_are_new, read_script, reading_gives_a_printable_script};
 use smt_io::Pieces;
 use smt_lex::Forest;
 use smt_print::{Layout, script_into};
@@ -20,18 +20,28 @@ use std::alloc::Global;
 use std::mem::ManuallyDrop;
 use term_table::Table;
 
-/// The text of a script behind the passes, in a layout. Stored rules are asked by the pass `rules`.
+/// A script behind passes.
+#[derive(Drop)]
+pub struct Rewriting {
+    /// Its text.
+    pub text: Pieces,
+    /// How many assertions it has.
+    pub assertions: u64,
+}
+
+/// A script behind the passes, in a layout. Stored rules are asked by the pass `rules`.
 pub fn rewritten(
     alloc: Global,
     forest: Forest,
     passes: &Passes,
     layout: Layout,
     book: &RuleBook,
-) -> Result<Pieces, Status>
+) -> Result<Rewriting, Status>
     requires read { IsRead forest }
     requires short { length forest.bytes ≤ longest_text }
-    ensures text { Writes (rewrite_end forest.bytes passes.now) (MayBeWritten forest.bytes passes.now (⟦<RuleBook as Named>⟧.names book.now) layout) result }
-    ensures promise { IfOk result (λ w. IsRewriting forest.bytes passes.now w) }
+    ensures ends { EndsFor (rewrite_end forest.bytes passes.now) result }
+    ensures made { IfOk result (λ r. IsMadeBy forest.bytes passes.now (⟦<RuleBook as Named>⟧.names book.now) layout r) }
+    ensures promise { IfOk result (λ r. IsRewriting forest.bytes passes.now r.text) }
 {
     rewriting_keeps_its_promise();
     reading_gives_a_printable_script();
@@ -46,7 +56,8 @@ pub fn rewritten(
     let table = ManuallyDrop::new(table);
     let mut text = Pieces::over(alloc, bytes);
     script_into(alloc, &table, &script, layout, &mut text)?;
-    Ok(text)
+    let assertions = assertions(script.commands.as_slice());
+    Ok(Rewriting { text, assertions })
 }
 
 /// No pass of a list that makes groups stands behind `rules`.
@@ -54,4 +65,17 @@ pub fn know_passes(passes: &Passes)
     ensures { groups_after_rules passes.now ≡ false }
 {
     passes.len();
+}
+
+/// How many of the commands are assertions.
+fn assertions(commands: &[Command]) -> u64
+    ensures { result ≡ count_by is_assertion commands.now }
+{
+    commands.iter().filter(|c| is_assertion(c)).count() as u64
+}
+
+fn is_assertion(command: &Command) -> bool
+    ensures { result ≡ is_assertion command.now }
+{
+    matches!(command, Command::Assert { .. })
 }

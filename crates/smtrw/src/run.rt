@@ -4,24 +4,26 @@ ghost use Rattle.std.specs.Prelude.{◌≡◌, ◌≤◌, ◌⊎◌, map, string
 ghost use Rattle.smt_io.specs.Counts.{Rose};
 ghost use Rattle.smt_io.specs.Told.{longest_text, with_bytes};
 ghost use Rattle.smtrw_answers.specs.Answers.{err_line};
-ghost use Rattle.smtrw_answers.specs.Asked.{asked_seen};
+ghost use Rattle.smtrw_answers.specs.Asked.{IsInRange, asked_seen};
 ghost use Rattle.smtrw_answers.specs.Said.{GotPrefix};
-ghost use Rattle.smtrw_answers.specs.Words.{asked};
-ghost use Rattle.smtrw.specs.Carrying.{CountsFromOne};
-ghost use Rattle.smtrw.specs.Prepared.{Delivers, EndsBefore, IsPrepared, texts_beside};
+ghost use Rattle.smtrw_answers.specs.Words.{asked, source_of};
+ghost use Rattle.smtrw.specs.Prepared.{Delivers, EndsBefore, IsMadeFor, IsPrepared, texts_beside};
 ghost use Rattle.smtrw.specs.Run.{IsComplete, MayEnd, OutFits, Promised, Quiet, ReadFits, TextsFit, WhereAsked, WordsFit, WriteFits, texts_of};
 
 use crate::carrying::{Carriage, extended, translated};
 use crate::counting::counted;
+use crate::demo::{demo_script, demonstrated};
 use crate::rewriting::rewritten;
 use rule_book::{Named, RuleBook};
 use smt_io::{Inputs, Pieces, ReadFault, Sink, read_all, send_pieces};
 use smt_lex::{Until, scan};
-use smtrw_answers::{Asked, Status, TOO_LONG, WordsFault, complain, parse_words};
+use smtrw_answers::{
+    Asked, Source, Status, TOO_LONG, WordsFault, complain, demo_scripts_are_accepted, parse_words,
+};
 use std::alloc::Global;
 
-/// Does all that the program does: reads the script that the words name, and the model's text where they name one, writes to
-/// `out` what they ask for, and says on `err` what went wrong. Stored rules are asked by the pass `rules`. The whole text is
+/// Does all that the program does: reads the script that the words name, or makes that of a demonstration, reads the model's
+/// text where they name one, writes to `out` what they ask for, and says on `err` what went wrong. Stored rules are asked by the pass `rules`. The whole text is
 /// made before its first byte is sent.
 pub fn run<I: Inputs, O: Sink, E: Sink>(
     alloc: Global,
@@ -82,7 +84,7 @@ fn carry_out<I: Inputs, O: Sink>(
     out: &mut O,
     book: &RuleBook,
 ) -> Status
-    requires first { CountsFromOne (asked_seen asked.now) }
+    requires range { IsInRange (asked_seen asked.now) }
     ensures words { WordsFit (Ok (asked_seen asked.now)) result }
     ensures ends { MayEnd (asked_seen asked.now) result }
     ensures read { ReadFits (I.faults inputs.old) (I.faults inputs.new) result (asked_seen asked.now) }
@@ -106,11 +108,18 @@ fn prepare<I: Inputs>(
     inputs: &mut I,
     book: &RuleBook,
 ) -> Result<Pieces, Status>
-    requires first { CountsFromOne (asked_seen asked.now) }
+    requires range { IsInRange (asked_seen asked.now) }
     ensures before { IfErr result (EndsBefore (texts_of (I.text inputs.old) (asked_seen asked.now)) (I.faults inputs.old) (I.faults inputs.new) (asked_seen asked.now)) }
     ensures text { IfOk result (IsPrepared (⟦<RuleBook as Named>⟧.names book.now) (texts_of (I.text inputs.old) (asked_seen asked.now)) (asked_seen asked.now)) }
 {
-    let file = asked.file();
+    let file = match asked.source() {
+        Source::File(file) => file,
+        Source::Drawn { seed, size } => {
+            demo_scripts_are_accepted();
+            let bytes = demo_script(alloc, seed, size)?;
+            return written(alloc, asked, bytes, inputs, book);
+        }
+    };
     match read_all(alloc, inputs, file.name) {
         Ok(bytes) => written(alloc, asked, bytes, inputs, book),
         Err(ReadFault::Failed) => Err(Status::ReadFailed { word: file.word }),
@@ -120,7 +129,7 @@ fn prepare<I: Inputs>(
 }
 
 /// What is written of a script, and of the model's text that is read where the command carries one. The bytes are no more than
-/// may be read.
+/// may be read, and those that `demo` makes where it is asked for.
 fn written<I: Inputs>(
     alloc: Global,
     asked: &Asked,
@@ -129,13 +138,18 @@ fn written<I: Inputs>(
     book: &RuleBook,
 ) -> Result<Pieces, Status>
     requires short { vec_len bytes ≤ longest_text }
-    requires first { CountsFromOne (asked_seen asked.now) }
+    requires made { IsMadeFor (source_of (asked_seen asked.now)) bytes.items }
+    requires range { IsInRange (asked_seen asked.now) }
     ensures before { IfErr result (EndsBefore (texts_beside bytes.items (I.text inputs.old) (asked_seen asked.now)) (I.faults inputs.old) (I.faults inputs.new) (asked_seen asked.now)) }
     ensures text { IfOk result (IsPrepared (⟦<RuleBook as Named>⟧.names book.now) (texts_beside bytes.items (I.text inputs.old) (asked_seen asked.now)) (asked_seen asked.now)) }
 {
+    demo_scripts_are_accepted();
     let forest = scan(alloc, bytes, Until::Exit)?;
     match asked {
-        Asked::Rewrite { passes, layout, .. } => rewritten(alloc, forest, passes, *layout, book),
+        Asked::Rewrite { passes, layout, .. } => {
+            let rewriting = rewritten(alloc, forest, passes, *layout, book)?;
+            Ok(rewriting.text)
+        }
         Asked::Translate {
             passes,
             check,
@@ -163,6 +177,7 @@ fn written<I: Inputs>(
             extended(alloc, &forest, &carriage, inputs, book)
         }
         Asked::Stats { .. } => counted(alloc, &forest),
+        Asked::Demo { seed, size } => demonstrated(alloc, forest, *seed, *size, book),
     }
 }
 

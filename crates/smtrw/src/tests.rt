@@ -10,6 +10,7 @@ use std::process::Abort;
 use std::test::Fail;
 
 mod carried_models;
+mod demonstrations;
 mod devices;
 mod endless;
 mod large;

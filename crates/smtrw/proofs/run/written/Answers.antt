@@ -1,19 +1,20 @@
-use Rattle.std.proofs.Common.{◌≡◌, ℕ, ◌≤◌, List, length, Option, Result, subst, sym}
+use Rattle.std.proofs.Common.{◌≡◌, ℕ, ◌≤◌, List, length, Option, Result, Ok, subst, sym}
 use Rattle.std.specs.Prelude.{IfErr, IfOk}
 use Rattle.smt_terms.specs.Sorts.{Name}
 use Rattle.smtrw_answers.specs.declared.status.Status.{Status}
 use Rattle.smtrw_answers.specs.declared.words.Asked.{Asked}
-use Rattle.smtrw_answers.specs.declared.words.Asked.TheVariants.{Rewrite, Translate, Extend, Stats}
+use Rattle.smtrw_answers.specs.declared.words.Asked.TheVariants.{Rewrite, Translate, Extend, Stats, Demo}
 use Rattle.smtrw_answers.specs.Asked.{asked_seen, numbered}
 use Rattle.smtrw_answers.specs.Endings.{longest_text}
 use Rattle.smtrw_answers.specs.Faults.{status_of_lexing}
 use Rattle.smtrw_answers.specs.Words.{Word, model_file_of}
-use Rattle.smtrw.specs.Carrying.{CountsFromOne}
+use Rattle.smtrw_answers.specs.Asked.{IsInRange}
 use Rattle.smtrw.specs.Prepared.{EndsBefore, IsPrepared, texts_beside}
 use Rattle.smtrw.specs.Run.{model_text_of}
 use Rattle.smtrw.proofs.CarriedModels.{if_refused}
 use Rattle.smtrw.proofs.Endings.{lexing_ends}
-use Rattle.smtrw.proofs.ReadTexts.{counting_before, counting_prepared, read_before, read_prepared, refused_before, rewriting_before, rewriting_prepared}
+use Rattle.smtrw.proofs.Demonstrations.{made_is_sound}
+use Rattle.smtrw.proofs.ReadTexts.{counting_before, counting_prepared, demonstration_before, demonstration_prepared, read_before, read_prepared, refused_before, rewriting_before, rewriting_prepared}
 use Rattle.smtrw.proofs.run.written.Goals as goal
 
 -- what holds of the command that was found holds of what was asked
@@ -32,26 +33,32 @@ returns-in_err-forest-clause-before g c =
     let text = g.I.Inputs.text c.args.inputs.now in
     let faults = g.I.Inputs.faults c.args.inputs.now in
     let fault = c.in_err-forest.field-0.0 in
+    let laws = c.demo_scripts_are_accepted.ensures in
     let short : length b ≤ longest_text = subst (λ (n : ℕ). n ≤ longest_text) c.args.bytes.ok.0 c.requires.short in
     if_refused _ (EndsBefore (texts_beside b text a) faults faults a) (status_of_lexing fault) c.from_residual.ensures.1
-    (refused_before c.args.asked.now b (model_text_of (model_file_of a) text) faults faults (status_of_lexing fault) (lexing_ends b short fault c.in_err-forest.ensures.fault))
+    (refused_before c.args.asked.now b (made_is_sound laws.accepted laws.short b a c.requires.range c.requires.made) (model_text_of (model_file_of a) text) faults faults (status_of_lexing fault) (lexing_ends b short fault c.in_err-forest.ensures.fault))
 
-pub returns-in-Rewrite-clause-before : goal.returns-in-Rewrite-clause-before
-returns-in-Rewrite-clause-before g c =
+pub returns-in_err-rewriting-in-Rewrite-clause-before : goal.returns-in_err-rewriting-in-Rewrite-clause-before
+returns-in_err-rewriting-in-Rewrite-clause-before g c =
     let b = c.args.bytes.items in
     let text = g.I.Inputs.text c.args.inputs.now in
     let faults = g.I.Inputs.faults c.args.inputs.now in
     let found : Asked = Rewrite c.in-Rewrite.passes c.in-Rewrite.layout c.in-Rewrite.file in
-    before_asked b text faults faults c.rewritten.result c.args.asked.now found c.in-Rewrite.is
-    (rewriting_before b c.in_ok-forest.forest.bytes c.in_ok-forest.ensures.bytes text faults faults c.in-Rewrite.passes c.in-Rewrite.layout (numbered c.in-Rewrite.file) _ c.rewritten.result c.rewritten.ensures.text)
+    let status = c.in_err-rewriting-in-Rewrite.field-0.0 in
+    let result = c.from_residual-in_err-rewriting-in-Rewrite.result in
+    before_asked b text faults faults result c.args.asked.now found c.in-Rewrite.is
+    (if_refused result (EndsBefore (texts_beside b text (asked_seen found)) faults faults (asked_seen found)) status c.from_residual-in_err-rewriting-in-Rewrite.ensures.1
+    (rewriting_before b c.in_ok-forest.forest.bytes c.in_ok-forest.ensures.bytes text faults faults c.in-Rewrite.passes c.in-Rewrite.layout (numbered c.in-Rewrite.file) status c.in_err-rewriting-in-Rewrite.ensures.ends))
 
-pub returns-in-Rewrite-clause-text : goal.returns-in-Rewrite-clause-text
-returns-in-Rewrite-clause-text g c =
+pub returns-in_ok-rewriting-in-Rewrite-clause-text : goal.returns-in_ok-rewriting-in-Rewrite-clause-text
+returns-in_ok-rewriting-in-Rewrite-clause-text g c =
     let b = c.args.bytes.items in
     let text = g.I.Inputs.text c.args.inputs.now in
     let found : Asked = Rewrite c.in-Rewrite.passes c.in-Rewrite.layout c.in-Rewrite.file in
-    prepared_asked _ b text c.rewritten.result c.args.asked.now found c.in-Rewrite.is
-    (rewriting_prepared b c.in_ok-forest.forest.bytes c.in_ok-forest.ensures.bytes text c.in-Rewrite.passes c.in-Rewrite.layout (numbered c.in-Rewrite.file) _ c.rewritten.result c.rewritten.ensures.text c.rewritten.ensures.promise)
+    let rewriting = c.in_ok-rewriting-in-Rewrite.rewriting in
+    let made = c.in_ok-rewriting-in-Rewrite.ensures in
+    prepared_asked _ b text (Ok rewriting.text) c.args.asked.now found c.in-Rewrite.is
+    (rewriting_prepared b c.in_ok-forest.forest.bytes c.in_ok-forest.ensures.bytes text c.in-Rewrite.passes c.in-Rewrite.layout (numbered c.in-Rewrite.file) _ rewriting made.ends made.made made.promise)
 
 pub returns-in-Translate-clause-before : goal.returns-in-Translate-clause-before
 returns-in-Translate-clause-before g c =
@@ -104,14 +111,29 @@ returns-in-Stats-clause-text g c =
     prepared_asked _ b text c.counted.result c.args.asked.now (Stats c.in-Stats.file) c.in-Stats.is
     (counting_prepared b c.in_ok-forest.forest.bytes c.in_ok-forest.ensures.bytes text (numbered c.in-Stats.file) _ c.counted.result c.counted.ensures)
 
+pub returns-in-Demo-clause-before : goal.returns-in-Demo-clause-before
+returns-in-Demo-clause-before g c =
+    let b = c.args.bytes.items in
+    let text = g.I.Inputs.text c.args.inputs.now in
+    let faults = g.I.Inputs.faults c.args.inputs.now in
+    before_asked b text faults faults c.demonstrated.result c.args.asked.now (Demo c.in-Demo.seed c.in-Demo.size) c.in-Demo.is
+    (demonstration_before c.in-Demo.seed c.in-Demo.size b text c.demonstrated.result faults faults c.demonstrated.ensures.memory)
+
+pub returns-in-Demo-clause-text : goal.returns-in-Demo-clause-text
+returns-in-Demo-clause-text g c =
+    let b = c.args.bytes.items in
+    let text = g.I.Inputs.text c.args.inputs.now in
+    prepared_asked _ b text c.demonstrated.result c.args.asked.now (Demo c.in-Demo.seed c.in-Demo.size) c.in-Demo.is
+    (demonstration_prepared c.in-Demo.seed c.in-Demo.size b text c.demonstrated.result _ c.demonstrated.ensures.line)
+
 pub translated-requires-clause-first : goal.translated-requires-clause-first
 translated-requires-clause-first g c =
     let found : Asked = Translate c.in-Translate.passes c.in-Translate.check c.in-Translate.script c.in-Translate.model in
     let is : c.args.asked.now ≡ found = c.in-Translate.is in
-    subst (λ (a : Asked). CountsFromOne (asked_seen a)) is c.requires.first
+    subst (λ (a : Asked). IsInRange (asked_seen a)) is c.requires.range
 
 pub extended-requires-clause-first : goal.extended-requires-clause-first
 extended-requires-clause-first g c =
     let found : Asked = Extend c.in-Extend.passes c.in-Extend.check c.in-Extend.script c.in-Extend.model in
     let is : c.args.asked.now ≡ found = c.in-Extend.is in
-    subst (λ (a : Asked). CountsFromOne (asked_seen a)) is c.requires.first
+    subst (λ (a : Asked). IsInRange (asked_seen a)) is c.requires.range
