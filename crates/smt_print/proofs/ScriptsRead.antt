@@ -123,7 +123,7 @@ abbrev LineFor : List ℕ → (Form → Type 0) → List (Command Term) → Type
 LineFor text Is cs = (l : CommandLine text Is) × EndsOrGoesOn l.line.lexed cs
 
 -- the line of a command that isn't `exit`
-command_line : (name : List ℕ) (parts : List Form) (Is : Form → Type 0) (cs : List (Command Term)) → IsWritten (command_form name parts) → is_exit_word Word name ≡ false → ((p : ℕ) → Is (placed p (command_form name parts)))
+pub command_line : (name : List ℕ) (parts : List Form) (Is : Form → Type 0) (cs : List (Command Term)) → IsWritten (command_form name parts) → is_exit_word Word name ≡ false → ((p : ℕ) → Is (placed p (command_form name parts)))
     → LineFor (form_text (command_form name parts)) Is cs
 command_line name parts Is cs written other is =
     (record { form_at = λ p. placed p (command_form name parts); line = form_line (command_form name parts) written; is = is }, inl (list_goes_on (record { item = Word; start = 0; text = name }) (forms_of_list parts) written other))
@@ -159,7 +159,7 @@ nothing_follows : (cs : List (Command Term)) → may_be_followed exit cs ≡ tru
 nothing_follows [] h = refl
 nothing_follows (c ∷ cs) h = absurd (cc)
 
-line_before : (form : Term → Form) → WrittenFor form → (c : Command Term) (cs : List (Command Term)) (begun : Bool) (st : State Term) (bs : List ReadBinding) → Tracks st bs → may_stand begun st c ≡ true → may_be_followed c cs ≡ true
+pub line_before : (form : Term → Form) → WrittenFor form → (c : Command Term) (cs : List (Command Term)) (begun : Bool) (st : State Term) (bs : List ReadBinding) → Tracks st bs → may_stand begun st c ≡ true → may_be_followed c cs ≡ true
     → LineFor (command_text form c) (IsFormOf form c) cs
 line_before form written (passed text) cs begun st bs tracks may follow =
     let l = passed_line text may in
@@ -189,7 +189,7 @@ line_before form written exit cs begun st bs tracks may follow =
     let is : IsWritten (command_form (codes "exit") []) = (word_written (codes "exit") refl, tt) in
     (record { form_at = λ p. placed p (command_form (codes "exit") []); line = form_line (command_form (codes "exit") []) is; is = λ p. (p, refl) }, inr (exit_ends, nothing_follows cs follow))
 
-all_lines : (form : Term → Form) → WrittenFor form → (cs : List (Command Term)) (begun : Bool) (st : State Term) (bs : List ReadBinding) → Tracks st bs → printable_from begun st cs ≡ true → AllLines form (IsFormOf form) cs
+pub all_lines : (form : Term → Form) → WrittenFor form → (cs : List (Command Term)) (begun : Bool) (st : State Term) (bs : List ReadBinding) → Tracks st bs → printable_from begun st cs ≡ true → AllLines form (IsFormOf form) cs
 all_lines form written [] begun st bs tracks may = tt
 all_lines form written (c ∷ cs) begun st bs tracks may =
     let a = both_true (may_stand begun st c) (may_be_followed c cs && printable_from (fixes begun c) (after c st) cs) may in

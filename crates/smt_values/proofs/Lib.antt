@@ -3,6 +3,7 @@ pub mod ApplyLaws
 pub mod Bits
 pub mod Compounds
 pub mod Derived
+pub mod FlatKeys
 pub mod IntegerLaws
 pub mod Numbered
 pub mod OperandLaws

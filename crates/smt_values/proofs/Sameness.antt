@@ -1,5 +1,5 @@
 -- Sameness of arrays, pair by pair.
-use Rattle.std.proofs.Common.{◌≡◌, ℕ, zero, suc, ◌+◌, ◌<◌, ◌≤◌, Bool, true, false, cond, ◌&&◌, ◌||◌, List, [], ◌∷◌, length, get_or, Option, Some, None, refl, ap, sym, ◌∙◌, arith, true≢false, below_more, ◌-◌}
+use Rattle.std.proofs.Common.{◌≡◌, ℕ, zero, suc, ◌<◌, ◌≤◌, Bool, true, false, cond, ◌&&◌, ◌||◌, List, [], ◌∷◌, length, get_or, Option, Some, None, refl, ap, sym, ◌∙◌, arith, true≢false, below_more, ◌-◌}
 use Rattle.std.proofs.lemmas.Bool.{false_from_ne_true}
 use Rattle.smt_terms.specs.Term.{universal}
 use Rattle.std.specs.Prelude.{is_some}
@@ -8,7 +8,7 @@ use Rattle.smt_terms.specs.Values as plain
 use Rattle.smt_terms.specs.Values.{Pairs, no_pairs, pair, is_key, value_at, every_pair, is_value, Sizes}
 use Rattle.smt_terms.proofs.Tests.{both_true, and_true}
 use Rattle.smt_terms.proofs.Same.{array_value}
-use Rattle.smt_values.specs.Tables.{Table, as_value}
+use Rattle.smt_values.specs.Tables.{Table, as_value, pair_at}
 use Rattle.smt_values.specs.Places.{place_from}
 use Rattle.smt_values.specs.Meaning.{meaning, pairs_of}
 use Rattle.smt_values.specs.Numbered.{last_number}
@@ -59,24 +59,27 @@ value_at-nowhere n alike k (pair j v ps) d e = by (λ h. value_at-nowhere (suc n
 place_is : (m n : ℕ) → Some m ≡ Some n → m ≡ n
 place_is m n e = cc
 
+value_is : (j i v u : plain.Value) → ◌≡◌ {A = Option (plain.Value × plain.Value)} (Some (j, v)) (Some (i, u)) → v ≡ u
+value_is j i v u e = let pairs : ◌≡◌ {A = plain.Value × plain.Value} (j, v) (i, u) = cc in ap (λ (p : plain.Value × plain.Value). p.1) pairs
+
 -- and at one that stands at a place
-pub value_at-place : (n m : ℕ) (alike : plain.Value → plain.Value → Bool) (k : plain.Value) (ps : List Pair) (d : plain.Value) → place_from n alike k (pairs_of ps) ≡ Some m
-    → (n ≤ m) × (m < n + length ps) × ((p : Pair) → p ≡ get_or ps (m - n) p → value_at alike k (pairs_of ps) d ≡ meaning p.value)
-value_at-place n m alike k [] d e = absurd (true≢false (sym (ap is_some e)))
-value_at-place n m alike k (q ∷ ps) d e = by (λ h. value_at-place (suc n) m alike k ps d h) (alike (meaning q.key) k) e
+pub value_at-place : (n m : ℕ) (alike : plain.Value → plain.Value → Bool) (k : plain.Value) (ps : Pairs) (d : plain.Value) → place_from n alike k ps ≡ Some m
+    → (n ≤ m) × ((i u : plain.Value) → pair_at ps (m - n) ≡ Some (i, u) → value_at alike k ps d ≡ u)
+value_at-place n m alike k no_pairs d e = absurd (true≢false (sym (ap is_some e)))
+value_at-place n m alike k (pair j v ps) d e = by (λ h. value_at-place (suc n) m alike k ps d h) (alike j k) e
   where
-    by : (place_from (suc n) alike k (pairs_of ps) ≡ Some m → (suc n ≤ m) × (m < suc n + length ps) × ((p : Pair) → p ≡ get_or ps (m - suc n) p → value_at alike k (pairs_of ps) d ≡ meaning p.value))
-        → (b : Bool) → cond {A = Option ℕ} b (Some n) (place_from (suc n) alike k (pairs_of ps)) ≡ Some m
-        → (n ≤ m) × (m < n + length (q ∷ ps)) × ((p : Pair) → p ≡ get_or (q ∷ ps) (m - n) p → cond b (meaning q.value) (value_at alike k (pairs_of ps) d) ≡ meaning p.value)
+    by : (place_from (suc n) alike k ps ≡ Some m → (suc n ≤ m) × ((i u : plain.Value) → pair_at ps (m - suc n) ≡ Some (i, u) → value_at alike k ps d ≡ u))
+        → (b : Bool) → cond {A = Option ℕ} b (Some n) (place_from (suc n) alike k ps) ≡ Some m
+        → (n ≤ m) × ((i u : plain.Value) → pair_at (pair j v ps) (m - n) ≡ Some (i, u) → cond b v (value_at alike k ps d) ≡ u)
     by rest true e =
         let same : n ≡ m = place_is n m e in
         let none : m - n ≡ 0 = omega arith in
-        (omega arith, omega arith, λ p at. ap (λ (x : Pair). meaning x.value) (sym (at ∙ ap (λ i. get_or (q ∷ ps) i p) none)))
+        (omega arith, λ i u at. value_is j i v u (ap (pair_at (pair j v ps)) (sym none) ∙ at))
     by rest false e =
         let r = rest e in
         let low : suc n ≤ m = r.0 in
         let more : m - n ≡ suc (m - suc n) = omega arith in
-        (omega arith, omega arith, λ p at. r.2 p (at ∙ ap (λ i. get_or (q ∷ ps) i p) more))
+        (omega arith, λ i u at. r.1 i u (ap (pair_at (pair j v ps)) (sym more) ∙ at))
 
 -- ---- keys that are all values of the index sort
 

@@ -2,6 +2,7 @@ pub mod Applied
 pub mod Codes
 pub mod Compounds
 pub mod Deep
+pub mod FlatKeys
 pub mod Laws
 pub mod Meaning
 pub mod Numbered

@@ -6,7 +6,7 @@ ghost use Rattle.smt_values.specs.Meaning.{meaning, pairs_of, IsHeld, AreHeld};
 ghost use Rattle.smt_values.specs.Places.{place_from};
 ghost use Rattle.smt_values.specs.SizeTable.{sizes_by};
 ghost use Rattle.smt_values.specs.SortIds.{sort_at, IsSortId};
-ghost use Rattle.smt_values.specs.Tables.{as_value};
+ghost use Rattle.smt_values.specs.Tables.{as_value, count};
 ghost use Rattle.smt_values.specs.Valid.{IsValue, HasKeys, agree_at, cover_at, has_number};
 ghost use Rattle.smt_values.specs.Numbered.{numbered, numbered_at, last_number, IsNumberAt};
 ghost use Rattle.smt_terms.specs.Sorts.{Name, array, free_sort};
@@ -15,6 +15,7 @@ ghost use Rattle.smt_terms.specs.Values.{is_value, is_key};
 #[cfg(test)]
 mod tests;
 
+use crate::flat_keys::flat_key;
 use crate::scalar::Scalar;
 use crate::sizes::Sizes;
 use crate::sort_table::SortTable;
@@ -147,7 +148,7 @@ fn has_key(array: &ArrayValue, key: &Value, index: SortId, sorts: &SortTable, si
     requires keys { HasKeys (sort_at sorts.now index) (sizes_by sorts.now sizes.now) array.now.pairs }
     ensures { result ≡ is_key (plain.same (sort_at sorts.now index) (sizes_by sorts.now sizes.now)) (meaning key.now) array.now.pairs }
 {
-    find(array.pairs(), key, index, sorts, sizes).is_some()
+    find(array, key, index, sorts, sizes).is_some()
 }
 
 fn last_of(sort: SortId, sorts: &SortTable, sizes: &Sizes) -> Option<u128>
@@ -185,8 +186,30 @@ fn value_of(sort: SortId, number: u128) -> Value
     }
 }
 
+// The place of a key.
 #[cycle(sameness)]
 fn find(
+    array: &ArrayValue,
+    key: &Value,
+    index: SortId,
+    sorts: &SortTable,
+    sizes: &Sizes,
+) -> Option<usize>
+    requires index { IsSortId sorts.now index }
+    requires key { IsValue (sort_at sorts.now index) (sizes_by sorts.now sizes.now) key.now }
+    requires keys { HasKeys (sort_at sorts.now index) (sizes_by sorts.now sizes.now) array.now.pairs }
+    ensures within { IfSome result (λ i. i < count array.now.pairs) }
+    ensures place { result ≡ place_from 0 (plain.same (sort_at sorts.now index) (sizes_by sorts.now sizes.now)) (meaning key.now) array.now.pairs }
+{
+    match (array.places(), flat_key(key)) {
+        (Some(places), Some(flat)) => places.get_index_of(&flat),
+        _ => find_among(array.pairs(), key, index, sorts, sizes),
+    }
+}
+
+// The place of a key among pairs that are searched one by one.
+#[cycle(sameness)]
+fn find_among(
     pairs: &[Pair],
     key: &Value,
     index: SortId,
@@ -223,9 +246,8 @@ pub fn select<'a>(
     ensures value { meaning result.now ≡ plain.select (sort_at sorts.now index) (sizes_by sorts.now sizes.now) (as_value array.now) (meaning key.now) }
     ensures held { IsHeld result.now }
 {
-    let pairs = array.pairs();
-    match find(pairs, key, index, sorts, sizes) {
-        Some(i) => &pairs[i].value,
+    match find(array, key, index, sorts, sizes) {
+        Some(i) => array.pair(i).1,
         None => array.fallback(),
     }
 }
@@ -248,7 +270,7 @@ pub fn store(
     ensures { IfOk result (λ a. as_value a ≡ plain.store (sort_at sorts.now index) (sizes_by sorts.now sizes.now) (as_value array) (meaning key) (meaning value)) }
 {
     let mut array = array;
-    match find(array.pairs(), &key, index, sorts, sizes) {
+    match find(&array, &key, index, sorts, sizes) {
         Some(i) => {
             array.set_value(i, value);
             Ok(array)

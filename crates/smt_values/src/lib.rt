@@ -6,6 +6,7 @@
 
 pub mod apply;
 pub mod array;
+pub mod flat_keys;
 pub mod laws;
 pub mod scalar;
 pub mod sizes;
@@ -14,6 +15,7 @@ pub mod value;
 
 pub use apply::{Beyond128, apply_scalar};
 pub use array::{copy_value, default_value, same, select, store};
+pub use flat_keys::{FlatKey, flat_key};
 pub use scalar::Scalar;
 pub use sizes::Sizes;
 pub use smt_terms::{Op, SortId, SymId};

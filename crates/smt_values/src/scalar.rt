@@ -2,7 +2,7 @@
 
 /// A truth value, a whole number, or the bits of a bit vector as a number. A scalar is valid where its whole number has a
 /// magnitude of at most 2^127 - 1, or its width is from 1 to 128 and its bits are below `2^width`.
-#[derive(Clone, Copy, Debug, PartialEq, Eq)]
+#[derive(Clone, Copy, Debug, PartialEq, Eq, Hash)]
 pub enum Scalar {
     /// A truth value, of the sort `Bool`.
     Truth(bool),

@@ -1,12 +1,20 @@
 //! Values: scalars, elements of declared sorts, and arrays.
 
-ghost use Rattle.std.specs.Prelude.{◌≡◌, ◌<◌, OnOk, Some};
-ghost use Rattle.smt_terms.specs.Values.{no_pairs};
+ghost use Rattle.std.specs.Prelude.{◌≡◌, ◌<◌, OnOk, Some, IfOk, IfSome};
+ghost use Rattle.smt_terms.specs.Values as plain;
+ghost use Rattle.smt_terms.specs.Values.{no_pairs, Pairs};
+ghost use Rattle.smt_values.specs.FlatKeys.{AreKeysOf};
+ghost use Rattle.smt_values.specs.Meaning.{meaning, pairs_of, IsHeld, AreHeld};
 ghost use Rattle.smt_values.specs.Tables.{count, pair_at, with_value_at, with_pair};
 
+use crate::flat_keys::{FlatKey, flat_key};
 use crate::scalar::Scalar;
+use indexmap::IndexSet;
 use std::alloc::{AllocError, Global};
 use std::marker::Model;
+
+/// So many pairs are searched one by one: with one more, their keys are found by hashing.
+const FEW_PAIRS: usize = 15;
 
 /// An array: a default value, and pairs of a key and the value there, in an order that is kept.
 #[cycle(values)]
@@ -14,6 +22,8 @@ use std::marker::Model;
 pub struct ArrayValue {
     pub(crate) fallback: Value,
     pub(crate) pairs: Vec<Pair>,
+    // The keys of all pairs, each at the place of its pair: only where there are many pairs, and no key is an array.
+    places: Option<IndexSet<FlatKey>>,
 }
 
 /// A value of a sort: a scalar, the element of a declared sort by its number, or an array.
@@ -43,11 +53,13 @@ impl Model for ArrayValue {
 
     ghost coded = { coded_table };
 
+    ghost use Rattle.std.specs.Prelude.{IfSome};
+    ghost use Rattle.smt_values.specs.FlatKeys.{AreKeysOf};
     ghost use Rattle.smt_values.specs.Meaning.{meaning, pairs_of, IsHeld, AreHeld};
 
     ghost view = { λ a. record { fallback = meaning a.fallback; pairs = pairs_of a.pairs.items } };
 
-    ghost invariant = { λ a. IsHeld a.fallback × AreHeld a.pairs.items };
+    ghost invariant = { λ a. IsHeld a.fallback × AreHeld a.pairs.items × IfSome a.places (λ s. AreKeysOf (pairs_of a.pairs.items) s.keys) };
 
     ghost size = { depth };
 
@@ -57,8 +69,6 @@ impl Model for ArrayValue {
 }
 
 impl ArrayValue {
-    ghost use Rattle.smt_values.specs.Meaning.{meaning, pairs_of, IsHeld, AreHeld};
-
     /// The array that has this value everywhere. It takes no memory.
     pub fn new(alloc: Global, value: Value) -> ArrayValue
         requires { IsHeld value }
@@ -67,6 +77,7 @@ impl ArrayValue {
         ArrayValue {
             fallback: value,
             pairs: Vec::new(alloc),
+            places: None,
         }
     }
 
@@ -103,6 +114,13 @@ impl ArrayValue {
         self.pairs.as_slice()
     }
 
+    // The keys of all pairs, each at the place of its pair, where they are found by hashing.
+    pub(crate) fn places(&self) -> Option<&IndexSet<FlatKey>>
+        ensures { IfSome result (λ s. AreKeysOf self.now.pairs s.now.keys) }
+    {
+        self.places.as_ref()
+    }
+
     // Puts another value at the key of a pair.
     pub(crate) fn set_value(&mut self, i: usize, value: Value)
         requires within { i < count self.old.pairs }
@@ -118,7 +136,51 @@ impl ArrayValue {
         requires value { IsHeld value }
         ensures { OnOk result (self.new ≡ record self.old { pairs = with_pair self.old.pairs (meaning key) (meaning value) }) }
     {
+        let places = self.take_places()?;
+        let places = with_key(places, &key)?;
         self.pairs.push(Pair { key, value })?;
+        self.places = places;
         Ok(())
+    }
+
+    // Takes out the keys of all pairs, or makes them where the next pair is the first of many.
+    fn take_places(&mut self) -> Result<Option<IndexSet<FlatKey>>, AllocError>
+        ensures places { IfOk result (λ places. IfSome places (λ s. AreKeysOf self.old.pairs s.keys)) }
+        ensures same { self.new ≡ self.old }
+    {
+        if self.pairs.len() == FEW_PAIRS {
+            return keys_of(*self.pairs.allocator(), self.pairs.as_slice());
+        }
+        Ok(self.places.take())
+    }
+}
+
+// The keys of all these pairs, and None where one is an array or stands there twice.
+fn keys_of(alloc: Global, pairs: &[Pair]) -> Result<Option<IndexSet<FlatKey>>, AllocError>
+    requires { AreHeld pairs.now }
+    ensures { IfOk result (λ places. IfSome places (λ s. AreKeysOf (pairs_of pairs.now) s.keys)) }
+{
+    let mut places = Some(IndexSet::new(alloc));
+    for pair in pairs {
+        places = with_key(places, &pair.key)?;
+    }
+    Ok(places)
+}
+
+// The keys with one more behind them, and None where this one is an array or is there already.
+fn with_key(
+    places: Option<IndexSet<FlatKey>>,
+    key: &Value,
+) -> Result<Option<IndexSet<FlatKey>>, AllocError>
+    requires { IsHeld key.now }
+    ensures { IfOk result (λ all. IfSome all (λ s. (ps : Pairs) (v : plain.Value) → IfSome places (λ t. AreKeysOf ps t.keys) → AreKeysOf (with_pair ps (meaning key.now) v) s.keys)) }
+{
+    let (Some(mut places), Some(key)) = (places, flat_key(key)) else {
+        return Ok(None);
+    };
+    if places.insert(key)? {
+        Ok(Some(places))
+    } else {
+        Ok(None)
     }
 }

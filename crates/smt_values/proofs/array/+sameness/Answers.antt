@@ -1,15 +1,17 @@
-use Rattle.std.proofs.Common.{rules, ◌≡◌, ◌<◌, ◌∙◌, sym, ap, subst, arith, true, ◌-◌, length, get_or}
-use Rattle.smt_values.specs.declared.value.Pair.{Pair}
+use Rattle.std.proofs.Common.{rules, ◌≡◌, ◌∙◌, sym, ap, subst, arith, true, ◌-◌}
 use Rattle.std.specs.Prelude.{is_some}
+use Rattle.std.proofs.lemmas.Option.{IfSome_then}
+use Rattle.smt_values.specs.Places.{place_from}
 use Rattle.smt_terms.specs.Values.{is_key, value_at}
 use Rattle.smt_terms.specs.Values as plain
 use Rattle.smt_terms.specs.Values.{is_value}
 use Rattle.smt_terms.proofs.Same.{is_value-select}
-use Rattle.smt_values.specs.Meaning.{meaning, pairs_of, IsHeld}
+use Rattle.smt_values.specs.Meaning.{meaning}
 use Rattle.smt_values.specs.SizeTable.{sizes_by}
 use Rattle.smt_values.specs.SortIds.{sort_at}
-use Rattle.smt_values.specs.Tables.{as_value}
-use Rattle.smt_values.proofs.Pairs.{held_at}
+use Rattle.smt_values.specs.Tables.{as_value, count, pair_at}
+use Rattle.smt_values.proofs.FlatKeys.{key_place, keys-count}
+use Rattle.smt_values.proofs.Pairs.{held_at, count-pairs_of}
 use Rattle.smt_values.specs.Valid.{HasKeys, agree_at, cover_at, has_number}
 use Rattle.smt_values.proofs.Sameness.{same_arrays, defaults_same, defaults_differ, table_keys, table_fallback, key_valid, is_key-place, value_at-nowhere, value_at-place, not_covered, covered, uncovered}
 use Rattle.smt_values.proofs.Alike.{scalar_values, element_values, no_other_scalar, no_other_element, no_other_array}
@@ -30,11 +32,8 @@ cover-returns-in_default t c = not_covered (sort_at c.args.sorts.now c.args.inde
 pub has_number-has_key-requires : goal.has_number-has_key-requires
 has_number-has_key-requires t c = (search rules, (c.requires.index, (record { held = c.value_of-key.ensures.held; valid = ap (is_value (sort_at c.args.sorts.now c.args.index) (sizes_by c.args.sorts.now c.args.sizes.now)) (c.value_of-key.ensures.value ∙ c.requires.same) ∙ c.requires.valid }, c.requires.a)))
 
-pub has_key-find-requires : goal.has_key-find-requires
-has_key-find-requires t c = (search rules, (c.requires.index, (c.requires.key, (subst (HasKeys (sort_at c.args.sorts.now c.args.index) (sizes_by c.args.sorts.now c.args.sizes.now)) (sym c.pairs.ensures.pairs) c.requires.keys, c.pairs.ensures.held))))
-
-pub find-same-requires : goal.find-same-requires
-find-same-requires t c = (search rules, (c.requires.index, (record { held = (held_at c.args.pairs.now c.loop-i.i c.index-pairs-i.result (omega arith) c.index-pairs-i.is c.requires.held).0; valid = key_valid (sort_at c.args.sorts.now c.args.index) (sizes_by c.args.sorts.now c.args.sizes.now) c.args.pairs.now c.loop-i.i c.index-pairs-i.result c.requires.keys (omega arith) c.index-pairs-i.is }, c.requires.key)))
+pub find_among-same-requires : goal.find_among-same-requires
+find_among-same-requires t c = (search rules, (c.requires.index, (record { held = (held_at c.args.pairs.now c.loop-i.i c.index-pairs-i.result (omega arith) c.index-pairs-i.is c.requires.held).0; valid = key_valid (sort_at c.args.sorts.now c.args.index) (sizes_by c.args.sorts.now c.args.sizes.now) c.args.pairs.now c.loop-i.i c.index-pairs-i.result c.requires.keys (omega arith) c.index-pairs-i.is }, c.requires.key)))
 
 pub cover-returns-then-number-last : goal.cover-returns-then-number-last
 cover-returns-then-number-last t c =
@@ -49,8 +48,7 @@ cover-returns t c =
 
 pub has_key-returns : goal.has_key-returns
 has_key-returns t c =
-    c.is_some.ensures ∙ ap is_some c.find.ensures.place ∙ is_key-place 0 (plain.same (sort_at c.args.sorts.now c.args.index) (sizes_by c.args.sorts.now c.args.sizes.now)) (meaning c.args.key.now) (pairs_of c.pairs.result.now)
-    ∙ ap (is_key (plain.same (sort_at c.args.sorts.now c.args.index) (sizes_by c.args.sorts.now c.args.sizes.now)) (meaning c.args.key.now)) c.pairs.ensures.pairs
+    c.is_some.ensures ∙ ap is_some c.find.ensures.place ∙ is_key-place 0 (plain.same (sort_at c.args.sorts.now c.args.index) (sizes_by c.args.sorts.now c.args.sizes.now)) (meaning c.args.key.now) c.args.array.now.pairs
 
 pub same-returns-in-Scalar-Scalar : goal.same-returns-in-Scalar-Scalar
 same-returns-in-Scalar-Scalar t c =
@@ -89,17 +87,25 @@ same_arrays-returns t c = c.cover.ensures ∙ defaults_differ (agree_at (sort_at
 
 pub select-returns-in-None-clause-value : goal.select-returns-in-None-clause-value
 select-returns-in-None-clause-value t c =
-    c.fallback.ensures.value ∙ sym (value_at-nowhere 0 (plain.same (sort_at c.args.sorts.now c.args.index) (sizes_by c.args.sorts.now c.args.sizes.now)) (meaning c.args.key.now) (pairs_of c.pairs-pairs.result.now) c.args.array.now.fallback (sym c.find.ensures.place ∙ c.in-None.is)) ∙ ap (λ ps. value_at (plain.same (sort_at c.args.sorts.now c.args.index) (sizes_by c.args.sorts.now c.args.sizes.now)) (meaning c.args.key.now) ps c.args.array.now.fallback) c.pairs-pairs.ensures.pairs
+    c.fallback.ensures.value ∙ sym (value_at-nowhere 0 (plain.same (sort_at c.args.sorts.now c.args.index) (sizes_by c.args.sorts.now c.args.sizes.now)) (meaning c.args.key.now) c.args.array.now.pairs c.args.array.now.fallback (sym c.find.ensures.place ∙ c.in-None.is))
 
 pub select-returns-in-Some-clause-value : goal.select-returns-in-Some-clause-value
 select-returns-in-Some-clause-value t c =
     let place : c.in-Some.i ≡ c.in-Some.i - 0 = omega arith in
-    let r = value_at-place 0 c.in-Some.i (plain.same (sort_at c.args.sorts.now c.args.index) (sizes_by c.args.sorts.now c.args.sizes.now)) (meaning c.args.key.now) c.pairs-pairs.result.now c.args.array.now.fallback (sym c.find.ensures.place ∙ c.in-Some.is) in
-    ap (λ (p : Pair). meaning p.value) (sym c.index-pairs-i.is)
-    ∙ sym (r.2 c.index-pairs-i.result (c.index-pairs-i.is ∙ ap (λ i. get_or c.pairs-pairs.result.now i c.index-pairs-i.result) place))
-    ∙ ap (λ ps. value_at (plain.same (sort_at c.args.sorts.now c.args.index) (sizes_by c.args.sorts.now c.args.sizes.now)) (meaning c.args.key.now) ps c.args.array.now.fallback) c.pairs-pairs.ensures.pairs
+    let r = value_at-place 0 c.in-Some.i (plain.same (sort_at c.args.sorts.now c.args.index) (sizes_by c.args.sorts.now c.args.sizes.now)) (meaning c.args.key.now) c.args.array.now.pairs c.args.array.now.fallback (sym c.find.ensures.place ∙ c.in-Some.is) in
+    sym (r.1 (meaning c.pair.result.0.now) (meaning c.pair.result.1.now) (ap (pair_at c.args.array.now.pairs) (sym place) ∙ c.pair.ensures.pair))
 
-pub select-returns-in-Some-clause-held : goal.select-returns-in-Some-clause-held
-select-returns-in-Some-clause-held t c =
-    let lt : c.in-Some.i < length c.pairs-pairs.result.now = c.in-Some.ensures.within in
-    subst (λ (p : Pair). IsHeld p.value) c.index-pairs-i.is (held_at c.pairs-pairs.result.now c.in-Some.i c.index-pairs-i.result lt c.index-pairs-i.is c.pairs-pairs.ensures.held).1
+pub find-returns-in-Some-Some-clause-within : goal.find-returns-in-Some-Some-clause-within
+find-returns-in-Some-Some-clause-within t c =
+    let many = keys-count c.args.array.now.pairs c.in-Some-Some.places.now.keys c.in-Some-Some.ensures in
+    IfSome_then c.get_index_of.result c.get_index_of.ensures.within (λ i lt. omega (arith, many, lt))
+
+pub find-returns-in-Some-Some-clause-place : goal.find-returns-in-Some-Some-clause-place
+find-returns-in-Some-Some-clause-place t c =
+    let valid = ap (is_value (sort_at c.args.sorts.now c.args.index) (sizes_by c.args.sorts.now c.args.sizes.now)) c.in-Some-Some.ensures'.value ∙ c.requires.key.valid in
+    c.get_index_of.ensures.index
+    ∙ key_place (sort_at c.args.sorts.now c.args.index) (sizes_by c.args.sorts.now c.args.sizes.now) c.in-Some-Some.flat c.in-Some-Some.places.now.keys c.args.array.now.pairs c.in-Some-Some.ensures'.held valid c.in-Some-Some.ensures c.requires.keys
+    ∙ ap (λ v. place_from 0 (plain.same (sort_at c.args.sorts.now c.args.index) (sizes_by c.args.sorts.now c.args.sizes.now)) v c.args.array.now.pairs) c.in-Some-Some.ensures'.value
+
+pub find-returns-in_default-clause-within : goal.find-returns-in_default-clause-within
+find-returns-in_default-clause-within t c = IfSome_then c.find_among.result c.find_among.ensures.within (λ i lt. omega (arith, count-pairs_of c.pairs.result.now, ap count c.pairs.ensures.pairs, lt))

@@ -14,22 +14,25 @@ abbrev pub decreases-same_arrays : goal.decreases-same_arrays
 decreases-same_arrays l = 8 * l.sort.0 + 7
 
 abbrev pub decreases-agree : goal.decreases-agree
-decreases-agree l = 8 * max l.index.0 l.element.0 + 12
+decreases-agree l = 8 * max l.index.0 l.element.0 + 13
 
 abbrev pub decreases-cover : goal.decreases-cover
-decreases-cover l = 8 * l.index.0 + 12
+decreases-cover l = 8 * l.index.0 + 13
 
 abbrev pub decreases-has_number : goal.decreases-has_number
-decreases-has_number l = 8 * l.index.0 + 11
+decreases-has_number l = 8 * l.index.0 + 12
 
 abbrev pub decreases-has_key : goal.decreases-has_key
-decreases-has_key l = 8 * l.index.0 + 10
+decreases-has_key l = 8 * l.index.0 + 11
 
 abbrev pub decreases-select : goal.decreases-select
-decreases-select l = 8 * l.index.0 + 10
+decreases-select l = 8 * l.index.0 + 11
 
 abbrev pub decreases-find : goal.decreases-find
-decreases-find l = 8 * l.index.0 + 9
+decreases-find l = 8 * l.index.0 + 10
+
+abbrev pub decreases-find_among : goal.decreases-find_among
+decreases-find_among l = 8 * l.index.0 + 9
 
 -- what the pairs that are left still say
 abbrev pub invariant-agree-loop-pair : goal.invariant-agree-loop-pair
@@ -45,7 +48,7 @@ invariant-cover-loop-index l =
 abbrev pub decreases-cover-loop-index : goal.decreases-cover-loop-index
 decreases-cover-loop-index l = l.last - l.number
 
-abbrev pub invariant-find-loop-i : goal.invariant-find-loop-i
-invariant-find-loop-i l =
+abbrev pub invariant-find_among-loop-i : goal.invariant-find_among-loop-i
+invariant-find_among-loop-i l =
     place_from 0 (plain.same (sort_at l.sorts l.index) (sizes_by l.sorts l.sizes)) (meaning l.key) (pairs_of l.pairs)
     ≡ place_from l.i (plain.same (sort_at l.sorts l.index) (sizes_by l.sorts l.sizes)) (meaning l.key) (pairs_of (drop l.i l.pairs))
