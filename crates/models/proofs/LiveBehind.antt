@@ -17,7 +17,7 @@ use Rattle.models.proofs.FoundBack.{stays, begins as begins_here, goes_on, met_o
 use Rattle.models.proofs.LiveLevels.{below, below_bare, below_declared, below_kept, below_opened, throughout_folded}
 
 -- the state behind commands
-abbrev pub behind : State Term → List (CommandOf Term) → State Term
+abbrev pub behind : {A : Type 0} → State A → List (CommandOf A) → State A
 behind s [] = s
 behind s (c ∷ cs) = behind (after c s) cs
 

@@ -27,7 +27,7 @@ module _ (t : Formulas) where
   abbrev pub IsStateAt : ℕ → State Term → List Command → Type 0
   IsStateAt k s cs = option_map (λ (p : Point Term). p.state) (nth_point (points_from s (commands_of t cs)) k) ≡ Some (behind s (commands_of t (before_check k cs)))
 
-  more_left : (k : ℕ) → (suc (suc k) == 1) ≡ false
+  pub more_left : (k : ℕ) → (suc (suc k) == 1) ≡ false
   more_left k = ne_eqb (suc (suc k)) 1 (λ same. omega (arith, same))
 
   -- a command that is a check

@@ -2,7 +2,10 @@ pub mod LiveNumbers
 pub mod GoingBack
 pub mod ModelCodes
 pub mod GraphRows
+pub mod RowKeys
 pub mod NumberRows
 pub mod ModelView
 pub mod Division
 pub mod Laws
+pub mod LiveTerms
+pub mod LiveAssertions

@@ -5,12 +5,15 @@
 
 mod graph;
 mod laws;
+mod live_terms;
 mod model;
 mod numbers;
+mod row_keys;
 mod signature;
 
 pub use graph::Graph;
 pub use laws::models_stay;
+pub use live_terms::live;
 pub use model::{Division, Model};
 pub use numbers::NumberGraph;
 pub use signature::{Signature, signature_at};

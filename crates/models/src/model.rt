@@ -116,7 +116,7 @@ impl Model {
         self.graphs.get(&s)
     }
 
-    /// The value of a symbol of the model at these arguments, and None exactly where the model hasn't the symbol. It takes no
+    /// The value of a symbol of the model at these arguments, and None exactly where the model hasn't the symbol. It needs no
     /// memory.
     pub fn value_at(&self, table: &Table, s: SymId, args: &[Value]) -> Option<&Value>
         requires symbol { IsSymbol table.now s }

@@ -6,7 +6,7 @@ ghost use Rattle.script_read.specs.CommandLists.{commands_of, AreCommandsOf};
 ghost use Rattle.script_read.specs.Commands.{signature};
 ghost use Rattle.script_read.specs.Printable.{printable};
 ghost use Rattle.models.specs.LiveNumbers.{signature_of, AreLiveNumbersOf};
-ghost use Rattle.models.specs.GoingBack.{before_check, global_behind_all, begins_anew, found_in};
+ghost use Rattle.models.specs.GoingBack.{before_check, global_behind, global_behind_all, begins_anew, found_in};
 
 use script_read::{Command, Script};
 use smt_terms::{SortId, SymId};
@@ -67,7 +67,7 @@ pub fn signature_at(
 }
 
 // The commands before the check of this number.
-fn before_check(commands: &[Command], check: u64) -> &[Command]
+pub(crate) fn before_check(commands: &[Command], check: u64) -> &[Command]
     requires { 1 ≤ check }
     ensures { result.now ≡ before_check check commands.now }
 {
@@ -95,13 +95,20 @@ fn is_global_behind(commands: &[Command]) -> bool
 {
     let mut global = false;
     for command in commands {
-        match command {
-            Command::Globals(value) => global = *value,
-            Command::Reset => global = false,
-            _ => {}
-        }
+        global = global_behind(command, global);
     }
     global
+}
+
+// Whether declarations outlive their levels behind a command.
+pub(crate) fn global_behind(command: &Command, global: bool) -> bool
+    ensures { result ≡ global_behind global command.now }
+{
+    match command {
+        Command::Globals(value) => *value,
+        Command::Reset => false,
+        _ => global,
+    }
 }
 
 // Whether nothing that is declared before the command is live behind it. The option stands before all declarations.

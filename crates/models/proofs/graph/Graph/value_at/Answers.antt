@@ -1,16 +1,24 @@
-use Rattle.std.proofs.Common.{◌∙◌, sym, ap, subst, map, All}
-use Rattle.smt_terms.specs.Models.{Graph}
+use Rattle.std.proofs.Common.{◌∙◌, sym, ap, map}
+use Rattle.smt_terms.specs.Models.{Graph, graph_value}
 use Rattle.smt_values.specs.SizeTable.{sizes_by}
 use Rattle.smt_values.specs.SortIds.{sort_at}
-use Rattle.models.specs.GraphRows.{rows_of, IsHeldRow, AreValues, HaveKeys}
-use Rattle.models.proofs.RowsAlike.{row_keys}
+use Rattle.smt_values.specs.Meaning.{meaning}
+use Rattle.models.specs.GraphRows.{meanings}
+use Rattle.models.specs.RowKeys.{row_place}
+use Rattle.models.proofs.RowKeys.{value-nowhere, value-place}
 use Rattle.models.proofs.graph.Graph.value_at.Goals as goal
 
-pub all_same-requires-clause-a : goal.all_same-requires-clause-a
-all_same-requires-clause-a c =
+pub returns-in-Some-clause-value : goal.returns-in-Some-clause-value
+returns-in-Some-clause-value c =
     let args = map (sort_at c.args.sorts.now) c.args.args.now in
     let sizes = sizes_by c.args.sorts.now c.args.sizes.now in
-    let rows = c.deref-row-items.ensures.value in
-    subst (AreValues args sizes) (sym c.as_slice.ensures.value)
-    (row_keys args sizes c.deref-row-items.result.now c.loop-row.row-index c.row-item.result c.loop-row-test.true c.row-item.is (subst (All IsHeldRow) (sym rows) c.self.invariant.0)
-    (subst (HaveKeys args sizes) (sym (ap rows_of rows ∙ ap (λ (g : Graph). g.rows) c.self.view_is)) c.requires.rows))
+    let keys = meanings c.args.keys.now in
+    let inside = c.self.inside in
+    let place = ap (λ (g : Graph). row_place args sizes keys g.rows) c.self.view_is ∙ sym c.find.ensures.place ∙ c.in-Some.is in
+    sym (value-place args sizes keys inside.rows.items (meaning inside.otherwise) c.in-Some.i c.index.result.now place c.index.ensures)
+    ∙ ap (λ (g : Graph). graph_value args sizes g keys) c.self.view_is
+
+pub returns-in-None-clause-value : goal.returns-in-None-clause-value
+returns-in-None-clause-value c =
+    ap (λ (g : Graph). g.otherwise) c.self.view_is
+    ∙ sym (value-nowhere (map (sort_at c.args.sorts.now) c.args.args.now) (sizes_by c.args.sorts.now c.args.sizes.now) c.args.self.now (meanings c.args.keys.now) (sym c.find.ensures.place ∙ c.in-None.is))

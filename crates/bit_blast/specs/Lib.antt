@@ -1,0 +1,14 @@
+pub mod BitLoops
+pub mod BitNodes
+pub mod Blasted
+pub mod Carried
+pub mod Circuits
+pub mod DivisionSteps
+pub mod Faults
+pub mod KeptBits
+pub mod Laws
+pub mod OperandBits
+pub mod ShiftWays
+pub mod Signs
+pub mod Subterms
+pub mod VectorLoops
