@@ -1,5 +1,5 @@
 -- The live assertions and the literals of commands that can be printed are formulas.
-use Rattle.std.proofs.Common.{◌≡◌, sym, ap, refl, subst, ℕ, suc, eqb, Bool, true, false, ◌&&◌, List, [], ◌∷◌, map, length, Option, Some, None, All, arith, if◌then◌else◌}
+use Rattle.std.proofs.Common.{◌≡◌, sym, ap, refl, subst, ℕ, suc, eqb, Bool, true, false, ◌&&◌, List, [], ◌∷◌, map, length, Option, Some, None, All, arith}
 use Rattle.std.specs.List.{list_all}
 use Rattle.std.proofs.lemmas.Bool.{ne_eqb}
 use Rattle.std.proofs.lemmas.List.Elements.{All-nil, All-cons, All-head, All-tail}

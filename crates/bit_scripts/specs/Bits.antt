@@ -2,7 +2,6 @@
 use Rattle.std.specs.Prelude.{◌≡◌, true, List, flat_map, All, IsTrue}
 use Rattle.smt_terms.specs.Free.{is_among}
 use Rattle.smt_terms.specs.Groups.{Named}
-use Rattle.smt_terms.specs.Rank.{are_distinct}
 use Rattle.smt_terms.specs.Sorts.{Symbol}
 use Rattle.term_groups.specs.Grouping.{terms_of}
 use Rattle.bit_blast.specs.Blasted.{bits_of_constant, is_vector}

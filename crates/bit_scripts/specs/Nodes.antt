@@ -1,5 +1,5 @@
 -- Scripts over truth values as lists of commands over a table.
-use Rattle.std.specs.Prelude.{◌≡◌, ◌≤◌, ℕ, List, Option, Some, None, count_by}
+use Rattle.std.specs.Prelude.{◌≡◌, ℕ, List, Some, None}
 use Rattle.smt_terms.specs.Fresh.{Supply}
 use Rattle.smt_terms.specs.Term.{Term}
 use Rattle.term_groups.specs.Seen.{named_at, ArePairs}
