@@ -64,6 +64,7 @@ mod PlainStates
 pub mod PlannedLists
 pub mod PlannedSorts
 pub mod PlannedSteps
+pub mod PlansStay
 mod PoppedLevels
 mod PrintedRemovals
 mod ReadsInside

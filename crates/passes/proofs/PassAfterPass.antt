@@ -1,5 +1,5 @@
 -- A list of passes goes from the first to the last.
-use Rattle.std.proofs.Common.{◌≡◌, ◌∙◌, sym, ap, subst, ℕ, zero, suc, ◌+◌, ◌<◌, ◌≤◌, refl, Bool, true, false, true≢false, List, [], ◌∷◌, ◌++◌, take, drop, length, slice_get, Some, add-one}
+use Rattle.std.proofs.Common.{◌≡◌, ◌∙◌, sym, ap, subst, ℕ, zero, suc, ◌+◌, ◌<◌, ◌≤◌, refl, Bool, false, true≢false, List, [], ◌∷◌, ◌++◌, take, drop, length, slice_get, Some, add-one}
 use Rattle.std.specs.List.{list_any}
 use Rattle.std.proofs.Math.Seq.{drop-cons}
 use Rattle.std.proofs.lemmas.List.{drop_all, take_all, take_more}

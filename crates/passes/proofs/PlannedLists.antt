@@ -9,7 +9,7 @@ use Rattle.smt_terms.specs.Term.{Term}
 use Rattle.smt_terms.proofs.Tests.{true_or_false}
 use Rattle.smt_terms.specs.declared.ids.NodeId.{NodeId}
 use Rattle.smt_terms.specs.declared.ids.SymId.{SymId}
-use Rattle.term_table.specs.Formulas.{Formulas, IsNode, IsSymbol, IsTable}
+use Rattle.term_table.specs.Formulas.{Formulas, IsNode, IsSymbol}
 use Rattle.term_walk.specs.Walking.{GrowsTo}
 use Rattle.script_read.specs.declared.scripts.Command.{Command as NodeCommand}
 use Rattle.script_read.specs.declared.scripts.Command.TheVariants.{Passed, DeclareSort, Declare as DeclareCommand, Assert, Check as CheckCommand, CheckAssuming, Push as PushCommand, Pop as PopCommand, Reset as ResetCommand, ResetAssertions as ResetAssertionsCommand, Globals as GlobalsCommand, Exit}
@@ -26,7 +26,7 @@ use Rattle.passes.specs.Lists.{makes_groups, groups_after_rules}
 use Rattle.passes.specs.LiveGroups.{all_told, all_drawn}
 use Rattle.passes.specs.Passed.{apply_pass, passed, replacements}
 use Rattle.passes.specs.Plans.{steps_of, told_operands, uses_of, AreUsesOf, HasUse, HaveUses, IsPairOver, IsStepOf, IsStepOver, Tells, TellInOrder, HasStages, IsStageOf, IsStageOver, Uses}
-use Rattle.passes.specs.Removing.{AreKept}
+use Rattle.passes.specs.Removing.{AreKept, IsStageKept}
 use Rattle.passes.proofs.CarriedLists.{no_rules_before}
 use Rattle.passes.proofs.GroupPasses.{replaced-group}
 use Rattle.passes.proofs.GroupingSteps.{taken_more}
@@ -59,10 +59,6 @@ all-none-have t (st ∷ ss) = All-cons (HaveUses t None) st ss (none-has t st) (
 
 -- ---- a table that only gains
 
--- what is kept of applications is of the table
-abbrev pub HasKept : Formulas → Stage → Type 0
-HasKept t st = IfSome (uses_of st) (AreKept t)
-
 module _ (t u : Formulas) (grows : GrowsTo t u) where
   within_uses : (uses : Option Uses) → (st : Step) → IsStepOf t st → HaveUses t uses st → HaveUses u uses st
   within_uses None st are have = none-has u st
@@ -91,52 +87,51 @@ module _ (t u : Formulas) (grows : GrowsTo t u) where
       All-weaker (IsStageOver t) (IsStageOver u)
       (λ st over. record { steps = steps_over_still t u grows st.steps.items over.steps; uses = uses_still (uses_of st) st.steps.items over.steps over.uses }) sts are
 
-  pub kept_within : (sts : List Stage) → All (HasKept t) sts → All (HasKept u) sts
-  kept_within sts are = All-weaker (HasKept t) (HasKept u) (λ st kept. by (uses_of st) kept) sts are
+  pub kept_within : (sts : List Stage) → All (IsStageKept t) sts → All (IsStageKept u) sts
+  kept_within sts are = All-weaker (IsStageKept t) (IsStageKept u) (λ st kept. by (uses_of st) kept) sts are
     where
       by : (uses : Option Uses) → IfSome uses (AreKept t) → IfSome uses (AreKept u)
       by None kept = tt
       by (Some es) kept = kept-still t u grows es kept
 
-  module _ (before : IsTable t) (after : IsTable u) where
-    told_still : (uses : Option Uses) → IfSome uses (AreKept t) → told_operands u uses ≡ told_operands t uses
-    told_still None kept = refl
-    told_still (Some es) kept = told-stays t u before after grows es kept (kept-still t u grows es kept)
+  told_still : (uses : Option Uses) → IfSome uses (AreKept t) → told_operands u uses ≡ told_operands t uses
+  told_still None kept = refl
+  told_still (Some es) kept = told-stays t u grows es kept
 
-    uses_of_still : (uses : Option Uses) (p : Pass) (cs : List (Command Term)) (s : Supply) → IfSome uses (AreKept t) → AreUsesOf t uses p cs s → AreUsesOf u uses p cs s
-    uses_of_still uses Ackermann cs s kept are = (told_still uses kept ∙ are.0, are.1)
-    uses_of_still uses Simplify cs s kept are = are
-    uses_of_still uses Nnf cs s kept are = are
-    uses_of_still uses Aig cs s kept are = are
-    uses_of_still uses Prenex cs s kept are = are
-    uses_of_still uses Reads cs s kept are = are
-    uses_of_still uses Shannon cs s kept are = are
-    uses_of_still uses SelfSub cs s kept are = are
-    uses_of_still uses Rules cs s kept are = are
-    uses_of_still uses Ite cs s kept are = are
-    uses_of_still uses Cnf cs s kept are = are
+  uses_of_still : (uses : Option Uses) (p : Pass) (cs : List (Command Term)) (s : Supply) → IfSome uses (AreKept t) → AreUsesOf t uses p cs s → AreUsesOf u uses p cs s
+  uses_of_still uses Ackermann cs s kept are = (told_still uses kept ∙ are.0, are.1)
+  uses_of_still uses Simplify cs s kept are = are
+  uses_of_still uses Nnf cs s kept are = are
+  uses_of_still uses Aig cs s kept are = are
+  uses_of_still uses Prenex cs s kept are = are
+  uses_of_still uses Reads cs s kept are = are
+  uses_of_still uses Shannon cs s kept are = are
+  uses_of_still uses SelfSub cs s kept are = are
+  uses_of_still uses Rules cs s kept are = are
+  uses_of_still uses Ite cs s kept are = are
+  uses_of_still uses Cnf cs s kept are = are
 
-    tell_still : (makes : Bool) (sts : List Stage) (p : Pass) (cs : List (Command Term)) (s : Supply) (Before After : List Stage → Type 0) → All (HasKept t) sts
-        → ((others : List Stage) → All (HasKept t) others → Before others → After others) → TellInOrder makes t sts p cs s Before → TellInOrder makes u sts p cs s After
-    tell_still true sts p cs s Before After kept on h =
-        let all : All (HasKept t) (h.first ∷ h.others) = subst (All (HasKept t)) h.all kept in
-        record {
-          first = h.first;
-          others = h.others;
-          all = h.all;
-          told = record {
-            told = tells_on t u grows h.first.steps.items (replacements p cs s).0 h.told.told;
-            uses = uses_of_still (uses_of h.first) p cs s (All-head (HasKept t) h.first h.others all) h.told.uses;
-          };
-          rest = on h.others (All-tail (HasKept t) h.first h.others all) h.rest;
-        }
-    tell_still false sts p cs s Before After kept on h = on sts kept h
+  tell_still : (makes : Bool) (sts : List Stage) (p : Pass) (cs : List (Command Term)) (s : Supply) (Before After : List Stage → Type 0) → All (IsStageKept t) sts
+      → ((others : List Stage) → All (IsStageKept t) others → Before others → After others) → TellInOrder makes t sts p cs s Before → TellInOrder makes u sts p cs s After
+  tell_still true sts p cs s Before After kept on h =
+      let all : All (IsStageKept t) (h.first ∷ h.others) = subst (All (IsStageKept t)) h.all kept in
+      record {
+        first = h.first;
+        others = h.others;
+        all = h.all;
+        told = record {
+          told = tells_on t u grows h.first.steps.items (replacements p cs s).0 h.told.told;
+          uses = uses_of_still (uses_of h.first) p cs s (All-head (IsStageKept t) h.first h.others all) h.told.uses;
+        };
+        rest = on h.others (All-tail (IsStageKept t) h.first h.others all) h.rest;
+      }
+  tell_still false sts p cs s Before After kept on h = on sts kept h
 
-    pub stages_stay : (ps : List Pass) (cs : List (Command Term)) (s : Supply) (sts : List Stage) → All (HasKept t) sts → HasStages t sts ps cs s → HasStages u sts ps cs s
-    stages_stay [] cs s sts kept has = has
-    stages_stay (p ∷ ps) cs s sts kept has =
-        tell_still (makes_groups p) sts p cs s (λ others. HasStages t others ps (apply_pass p cs s).0 (apply_pass p cs s).1) (λ others. HasStages u others ps (apply_pass p cs s).0 (apply_pass p cs s).1)
-        kept (stages_stay ps (apply_pass p cs s).0 (apply_pass p cs s).1) has
+  pub stages_stay : (ps : List Pass) (cs : List (Command Term)) (s : Supply) (sts : List Stage) → All (IsStageKept t) sts → HasStages t sts ps cs s → HasStages u sts ps cs s
+  stages_stay [] cs s sts kept has = has
+  stages_stay (p ∷ ps) cs s sts kept has =
+      tell_still (makes_groups p) sts p cs s (λ others. HasStages t others ps (apply_pass p cs s).0 (apply_pass p cs s).1) (λ others. HasStages u others ps (apply_pass p cs s).0 (apply_pass p cs s).1)
+      kept (stages_stay ps (apply_pass p cs s).0 (apply_pass p cs s).1) has
 
 -- ---- one pass
 
@@ -183,8 +178,8 @@ module _ (t : Formulas) (p : Pass) (cs : List (Command Term)) (s : Supply) where
       })
       (All-nil (IsStageOver t))
 
-  pub stage_kept : (st : Stage) → uses_of st ≡ None → All (HasKept t) (st ∷ [])
-  stage_kept st none = All-cons (HasKept t) st [] (subst (λ (uses : Option Uses). IfSome uses (AreKept t)) (sym none) tt) (All-nil (HasKept t))
+  pub stage_kept : (st : Stage) → uses_of st ≡ None → All (IsStageKept t) (st ∷ [])
+  stage_kept st none = All-cons (IsStageKept t) st [] (subst (λ (uses : Option Uses). IfSome uses (AreKept t)) (sym none) tt) (All-nil (IsStageKept t))
 
 -- ---- a list with one pass more
 
@@ -220,11 +215,11 @@ module _ (ps : List Pass) (cs : List (Command Term)) (s : Supply) (rules : List 
       go (inl makes) = subst (λ made. HasStages t more (p ∷ []) made.0 made.1) (is.reached (no_rules_before (take i ps) p in_order makes)) has
       go (inr other) = stage_elsewhere t more p (passed (take i ps) cs s).0 ds (passed (take i ps) cs s).1 r other has
 
-  pub stages_then : (t u : Formulas) → GrowsTo t u → IsTable t → IsTable u → (sts more all : List Stage) → all ≡ sts ++ more → All (HasKept t) sts → HasStages t sts (take i ps) cs s → HasStages u more (p ∷ []) ds r → HasStages u all (take (i + 1) ps) cs s
-  stages_then t u grows table after sts more all all_is kept before here =
+  pub stages_then : (t u : Formulas) → GrowsTo t u → (sts more all : List Stage) → all ≡ sts ++ more → All (IsStageKept t) sts → HasStages t sts (take i ps) cs s → HasStages u more (p ∷ []) ds r → HasStages u all (take (i + 1) ps) cs s
+  stages_then t u grows sts more all all_is kept before here =
       subst (λ qs. HasStages u all qs cs s) (sym (taken_more ps i p at))
       (subst (λ xs. HasStages u xs (take i ps ++ p ∷ []) cs s) (sym all_is)
-      (stages_more u more (take i ps) p cs s (stage_there u more here) sts (stages_stay t u grows table after (take i ps) cs s sts kept before)))
+      (stages_more u more (take i ps) p cs s (stage_there u more here) sts (stages_stay t u grows (take i ps) cs s sts kept before)))
 
 -- ---- checks
 

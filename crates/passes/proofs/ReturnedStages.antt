@@ -1,5 +1,5 @@
 -- The stages of passes on the way back, from the last to the first: the terms to be evaluated, the models and the refusals.
-use Rattle.std.proofs.Common.{◌≡◌, ◌∙◌, sym, ap, refl, subst, ℕ, zero, suc, ◌+◌, ◌-◌, ◌<◌, ◌≤◌, true, List, [], ◌∷◌, ◌++◌, map, flat_map, drop, length, slice_get, Err, Option, Some, None, option_map, All}
+use Rattle.std.proofs.Common.{◌≡◌, ◌∙◌, sym, ap, refl, subst, ℕ, zero, suc, ◌-◌, ◌<◌, ◌≤◌, true, List, [], ◌∷◌, ◌++◌, map, flat_map, drop, length, slice_get, Err, Option, Some, None, option_map, All}
 use Rattle.std.proofs.lemmas.Grind.{flat_map-append}
 use Rattle.std.proofs.Math.Seq.{drop-nil}
 use Rattle.smt_terms.specs.declared.ids.NodeId.{NodeId}

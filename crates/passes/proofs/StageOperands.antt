@@ -1,9 +1,9 @@
 -- What a stage tells of the operands of applications: what was kept of them, also over a table that only gains.
-use Rattle.std.proofs.Common.{◌≡◌, ◌∙◌, ap, sym, refl, subst, ℕ, ◌<◌, ◌==◌, if◌then◌else◌, Bool, true, false, cond, List, [], ◌∷◌, length, get_or, Option, Some, None, All, arith}
-use Rattle.std.proofs.lemmas.Bool.{ne_eqb}
+use Rattle.std.proofs.Common.{◌≡◌, ◌∙◌, ap, sym, refl, subst, ℕ, ◌<◌, ◌≤◌, ◌==◌, nat_lt, if◌then◌else◌, Bool, true, false, cond, List, [], ◌∷◌, length, get_or, Option, Some, None, All, arith}
+use Rattle.std.proofs.lemmas.Bool.{ltb-false, ltb-true, ne_eqb}
 use Rattle.std.proofs.lemmas.Bool.Decides.{Decides-eqb}
 use Rattle.std.proofs.lemmas.List.Elements.{All-head, All-nil, All-cons, All-tail}
-use Rattle.std.proofs.lemmas.List.Sums.{position_or_len_is, passes_at_first}
+use Rattle.std.proofs.lemmas.List.Sums.{fails_before_first, position_or_len_is, passes_at_first}
 use Rattle.std.specs.List.{position_or_len}
 use Rattle.smt_terms.specs.declared.ids.SymId.{SymId}
 use Rattle.smt_terms.specs.Equal.{symbol_eq}
@@ -13,12 +13,13 @@ use Rattle.smt_terms.proofs.Equal.{Decides-symbol_eq, symbol_itself}
 use Rattle.smt_terms.proofs.Tests.{contrary}
 use Rattle.term_table.specs.Formulas.{Formulas, no_symbol, symbol_at, trees_at, IsSymbol, IsTable}
 use Rattle.term_walk.specs.Walking.{GrowsTo}
+use Rattle.script_terms.proofs.Grown.{trees_stay}
 use Rattle.models.specs.ModelView.{symbol_number}
 use Rattle.passes.specs.declared.plan.Use.{Use}
 use Rattle.passes.specs.LiveGroups.{operands_in}
 use Rattle.passes.specs.Plans.{use_of, Uses, operands_at, told_operands}
 use Rattle.passes.specs.Removing.{keys_of, operands_kept, AreApart, IsKept, AreKept}
-use Rattle.passes.proofs.KeptOperands.{IsNew, kept-stays, use-new}
+use Rattle.passes.proofs.KeptOperands.{IsNew, use-new}
 
 -- ---- numbers of symbols
 
@@ -88,7 +89,53 @@ module _ (t : Formulas) (table : IsTable t) where
   pub told-kept : (es : Uses) → AreKept t es → told_operands t (Some es) ≡ Some (operands_in (operands_kept t [] es))
   told-kept es are = λ i. Some (λ v. sym (found es are.each are.apart [] v ∙ or_none (use_of es (symbol_number t.symbols v))) i)
 
--- the same in a table that gained
-pub told-stays : (t u : Formulas) → IsTable t → IsTable u → GrowsTo t u → (es : Uses) → AreKept t es → AreKept u es → told_operands u (Some es) ≡ told_operands t (Some es)
-told-stays t u before after grows es are still =
-    told-kept u after es still ∙ ap (λ ps. Some (operands_in ps)) (kept-stays t u grows [] es are.each) ∙ sym (told-kept t before es are)
+-- ---- a table that gained
+
+-- a number behind those of the table has no use
+past-new : (t : Formulas) (es : Uses) → All (IsKept t) es → (k : SymId) → length t.symbols ≤ k.0 → IsNew k (keys_of es)
+past-new t [] kept k past = All-nil (λ (j : SymId). (k.0 == j.0) ≡ false)
+past-new t (e ∷ es) kept k past =
+    All-cons (λ (j : SymId). (k.0 == j.0) ≡ false) e.0 (keys_of es)
+    (ne_eqb k.0 e.0.0 (λ same. let within = (All-head (IsKept t) e es kept).0 in omega (arith, same, past, within)))
+    (past-new t es (All-tail (IsKept t) e es kept) k past)
+
+module _ (t u : Formulas) (grows : GrowsTo t u) where
+  module _ (es : Uses) (kept : All (IsKept t) es) (v : Symbol) where
+    abbrev place : List Symbol → ℕ
+    place fs = position_or_len (symbol_eq v) fs
+
+    differs : (k : ℕ) → k < place t.symbols → k < length t.symbols → symbol_eq v (get_or u.symbols k no_symbol) ≡ false
+    differs k less within = ap (symbol_eq v) (grows.symbols.same k no_symbol within) ∙ fails_before_first (symbol_eq v) t.symbols k no_symbol less
+
+    use-of-number : use_of es (symbol_number u.symbols v) ≡ use_of es (symbol_number t.symbols v)
+    use-of-number = by (nat_lt (place t.symbols) (length t.symbols)) refl (nat_lt (place u.symbols) (length t.symbols)) refl
+      where
+        longer : length t.symbols ≤ length u.symbols
+        longer = grows.symbols.longer
+
+        by : (b : Bool) → nat_lt (place t.symbols) (length t.symbols) ≡ b → (c : Bool) → nat_lt (place u.symbols) (length t.symbols) ≡ c
+            → use_of es (symbol_number u.symbols v) ≡ use_of es (symbol_number t.symbols v)
+        by true h c e =
+            let within : place t.symbols < length t.symbols = ltb-true (place t.symbols) (length t.symbols) h in
+            ap (λ n. use_of es (record { 0 = n }))
+            (position_or_len_is (symbol_eq v) u.symbols (place t.symbols) no_symbol (omega (arith, within, longer)) (λ k less. differs k less (omega (arith, less, within)))
+            (λ _. ap (symbol_eq v) (grows.symbols.same (place t.symbols) no_symbol within) ∙ passes_at_first (symbol_eq v) t.symbols no_symbol within))
+        by false h true e =
+            let past : length t.symbols ≤ place t.symbols = ltb-false (place t.symbols) (length t.symbols) h in
+            let within : place u.symbols < length t.symbols = ltb-true (place u.symbols) (length t.symbols) e in
+            contrary (symbol_eq v (get_or u.symbols (place u.symbols) no_symbol)) (passes_at_first (symbol_eq v) u.symbols no_symbol (omega (arith, within, longer)))
+            (differs (place u.symbols) (omega (arith, within, past)) within)
+        by false h false e =
+            use-new es (symbol_number u.symbols v) (past-new t es kept (symbol_number u.symbols v) (ltb-false (place u.symbols) (length t.symbols) e))
+            ∙ sym (use-new es (symbol_number t.symbols v) (past-new t es kept (symbol_number t.symbols v) (ltb-false (place t.symbols) (length t.symbols) h)))
+
+  operands-stay : (es : Uses) → All (IsKept t) es → (k : SymId) → operands_at u (use_of es k) ≡ operands_at t (use_of es k)
+  operands-stay [] kept k = refl
+  operands-stay (e ∷ es) kept k = by (k.0 == e.0.0) (operands-stay es (All-tail (IsKept t) e es kept) k)
+    where
+      by : (b : Bool) → operands_at u (use_of es k) ≡ operands_at t (use_of es k) → operands_at u (if b then Some e.1 else use_of es k) ≡ operands_at t (if b then Some e.1 else use_of es k)
+      by true rest = trees_stay t u grows e.1.operands.items (All-head (IsKept t) e es kept).1
+      by false rest = rest
+
+  pub told-stays : (es : Uses) → AreKept t es → told_operands u (Some es) ≡ told_operands t (Some es)
+  told-stays es are = λ i. Some (λ v. (ap (operands_at u) (use-of-number es are.each v) ∙ operands-stay es are.each (symbol_number t.symbols v)) i)

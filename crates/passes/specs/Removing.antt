@@ -1,5 +1,5 @@
 -- A removal of applications that went over the first commands of a script: what it keeps, over the numbers of a table.
-use Rattle.std.specs.Prelude.{◌≡◌, ◌≤◌, ◌==◌, false, List, [], ◌∷◌, ◌++◌, map, All, Some}
+use Rattle.std.specs.Prelude.{◌≡◌, ◌≤◌, ◌==◌, false, List, [], ◌∷◌, ◌++◌, map, All, Some, IfSome}
 use Rattle.smt_terms.specs.declared.ids.NodeId.{NodeId}
 use Rattle.smt_terms.specs.declared.ids.SymId.{SymId}
 use Rattle.smt_terms.specs.Fresh.{Supply, NeverGives}
@@ -14,11 +14,13 @@ use Rattle.script_read.specs.declared.scripts.Command.TheVariants.{Pop}
 use Rattle.script_read.specs.CommandLists.{commands_of, AreCommandsOf}
 use Rattle.script_read.specs.Commands.{Command, declare}
 use Rattle.passes.specs.declared.names.Pass.TheVariants.{Ackermann}
+use Rattle.passes.specs.declared.plan.Plan.{Plan}
+use Rattle.passes.specs.declared.plan.Stage.{Stage}
 use Rattle.passes.specs.declared.plan.Use.{Use}
 use Rattle.passes.specs.declared.removing.Removal.{Removal}
 use Rattle.passes.specs.LiveGroups.{told, opened_by, operands_behind, operands_with}
 use Rattle.passes.specs.Passed.{Way, turn, written, without_arguments}
-use Rattle.passes.specs.Plans.{steps_of, Uses, IsStepOf, HasUse, HaveUses}
+use Rattle.passes.specs.Plans.{steps_of, Uses, uses_of, IsStepOf, HasUse, HaveUses}
 
 -- ---- the applications that gave way to constants
 
@@ -42,6 +44,14 @@ IsKept t e = IsSymbol t e.0 × AreNodes t e.1.operands.items
 pub record AreKept (t : Formulas) (es : Uses) : Type 0 where
   pub each : All (IsKept t) es
   pub apart : AreApart (keys_of es)
+
+-- what a stage keeps of applications is of the table
+abbrev pub IsStageKept : Formulas → Stage → Type 0
+IsStageKept t st = IfSome (uses_of st) (AreKept t)
+
+-- so for each stage; such a plan stays one of its passes in every table that gained
+abbrev pub IsPlanKept : Formulas → Plan → Type 0
+IsPlanKept t plan = All (IsStageKept t) plan.stages.items
 
 -- with the applications of these constants behind those that were kept, where these are the constants that are live
 pub record Keeps (t : Formulas) (ns : Named) (ps : List (SymId × NodeId)) (old new : Uses) : Type 0 where

@@ -1,14 +1,14 @@
 //! Lists of passes applied to scripts: behind a pass, an assertion or a group stands in the place of each assertion, with its
 //! number, and other commands stay.
 
-ghost use Rattle.std.specs.Prelude.{◌≡◌, ◌<◌, ◌∷◌, ℕ, [], true, length, slice_get, option_map, option_to_list, Some, None, All, OnOk, IfOk, IfSome, MatchResult};
+ghost use Rattle.std.specs.Prelude.{◌≡◌, ◌<◌, ◌∷◌, ℕ, [], true, length, slice_get, option_map, option_to_list, Some, None, All, OnOk, IfOk, MatchResult};
 ghost use Rattle.script_read.specs.CommandLists.{commands_of, AreCommandsOf};
 ghost use Rattle.term_subst.specs.Substituting.{IsLater, NeverGivesGained};
 ghost use Rattle.term_walk.specs.Walking.{GrowsTo};
 ghost use Rattle.passes.specs.Led.{LeadsTo};
 ghost use Rattle.passes.specs.Laws.{keeps_values, IsReady, IsCarried, AreCarried};
-ghost use Rattle.passes.specs.Plans.{uses_of, HasStages, IsPlanOf, IsPlanOver, IsStageOver};
-ghost use Rattle.passes.specs.Removing.{AreKept};
+ghost use Rattle.passes.specs.Plans.{HasStages, IsPlanOf, IsPlanOver, IsStageOver};
+ghost use Rattle.passes.specs.Removing.{IsPlanKept, IsStageKept};
 ghost use Rattle.passes.specs.Ruling.{RewritesCommands};
 ghost use Rattle.passes.specs.Behind.{simplified_form, nnf_form, aig_form, reads_form, in_form, AreRewritable};
 ghost use Rattle.passes.specs.Assertion.{assertion_of};
@@ -35,7 +35,7 @@ use std::alloc::{AllocError, AllocFailed, Global};
 use std::marker::Brand;
 use std::sync::ledger::{Blank, Ledger};
 use term_subst::Fresh;
-use term_table::{Table, know_table};
+use term_table::Table;
 use term_walk::{Kept, Steps};
 use thiserror::Error;
 
@@ -97,6 +97,7 @@ pub fn run_passes(
         (λ e. (a : ℕ) → e ≡ QuantifiedUse a → refused_assertion passes.now (commands_of table.old script.commands) fresh.old ≡ Some a) }
     ensures plan { IfOk result (λ r. IsPlanOf table.new r.1 passes.now (commands_of table.old script.commands) fresh.old) }
     ensures over { IfOk result (λ r. IsPlanOver table.new r.1) }
+    ensures kept { IfOk result (λ r. IsPlanKept table.new r.1) }
     ensures later { IsLater fresh.old fresh.new }
     ensures drawn { NeverGivesGained fresh.new table.old.symbols table.new.symbols }
     ensures grows { GrowsTo table.old table.new }
@@ -104,10 +105,8 @@ pub fn run_passes(
     let mut script = script;
     let checks = checks(&script);
     let mut stages = Vec::new(alloc);
-    know_table(table);
     for i in 0..passes.len() {
         let stage = run_pass(alloc, table, &mut script, passes.pass(i), book, fresh)?;
-        know_table(table);
         if let Some(stage) = stage {
             stages.push(stage)?;
         }
@@ -134,7 +133,7 @@ fn run_pass(
         (λ e. (a : ℕ) → e ≡ QuantifiedUse a → refused_by pass (commands_of table.old script.old.commands) ≡ Some a) }
     ensures stage { IfOk result (λ o. HasStages table.new (option_to_list o) (pass ∷ []) (commands_of table.old script.old.commands) fresh.old) }
     ensures over { IfOk result (λ o. All (IsStageOver table.new) (option_to_list o)) }
-    ensures kept { IfOk result (λ o. All (λ st. IfSome (uses_of st) (AreKept table.new)) (option_to_list o)) }
+    ensures kept { IfOk result (λ o. All (IsStageKept table.new) (option_to_list o)) }
     ensures later { IsLater fresh.old fresh.new }
     ensures drawn { NeverGivesGained fresh.new table.old.symbols table.new.symbols }
     ensures grows { GrowsTo table.old table.new }

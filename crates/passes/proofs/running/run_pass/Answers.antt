@@ -4,8 +4,9 @@ use Rattle.script_read.specs.CommandLists.{commands_of}
 use Rattle.passes.specs.declared.names.Pass.TheVariants.{Ite, Cnf}
 use Rattle.passes.specs.Passed.{refused_by}
 use Rattle.passes.specs.Plans.{IsStageOver}
+use Rattle.passes.specs.Removing.{IsStageKept}
 use Rattle.passes.proofs.OnePass.{led_by_removal, led_in_groups}
-use Rattle.passes.proofs.PlannedLists.{HasKept, stage_kept, stage_told, stage_over, stage_removed}
+use Rattle.passes.proofs.PlannedLists.{stage_kept, stage_told, stage_over, stage_removed}
 use Rattle.passes.proofs.Rewritable.{ready_rewritable}
 use Rattle.passes.proofs.running.run_pass.Goals as goal
 
@@ -78,7 +79,7 @@ returns-in_ok-stage-in-Ackermann g c =
       refused = ap (λ q. refused_by q cs) c.in-Ackermann.is ∙ e.refused;
       stage = stage_removed u c.args.pass cs s c.in-Ackermann.is st e.stage;
       over = All-cons (IsStageOver u) st [] e.over (All-nil (IsStageOver u));
-      kept = All-cons (HasKept u) st [] e.kept (All-nil (HasKept u));
+      kept = All-cons (IsStageKept u) st [] e.kept (All-nil (IsStageKept u));
       later = e.later;
       drawn = e.drawn;
       grows = e.grows;

@@ -8,9 +8,10 @@ use Rattle.script_read.specs.CommandLists.{commands_of}
 use Rattle.script_terms.proofs.Grown.{grown_self, later_self, later_on}
 use Rattle.passes.specs.Passed.{refused_assertion}
 use Rattle.passes.specs.Plans.{HasStages, IsStageOver}
+use Rattle.passes.specs.Removing.{IsStageKept}
 use Rattle.passes.proofs.ModelsStay.{passes_leave}
 use Rattle.passes.proofs.PassAfterPass.{behind_none, behind_one, all_lead, all_carried}
-use Rattle.passes.proofs.PlannedLists.{HasKept, kept_within, stages_within, stages_then, same_checks}
+use Rattle.passes.proofs.PlannedLists.{kept_within, stages_within, stages_then, same_checks}
 use Rattle.passes.proofs.RefusedLists.{handed-on, none-refused, now-refused}
 use Rattle.passes.proofs.running.run_passes.Goals as goal
 use Rattle.passes.proofs.running.run_passes.Goals.{in-Some+in_ok-push, in_default}
@@ -21,8 +22,7 @@ loop-i-init g c = record {
   behind = behind_none c.args.passes.now (commands_of c.args.table.now c.args.script.commands) c.args.fresh.now (map (λ r. r.name.now) c.args.book.now.rules.items) c.requires.ready;
   planned = c.new-stages.ensures.items;
   taken = refl;
-  table = c.know_table.ensures;
-  kept = rw c.new-stages.ensures.items (All-nil (HasKept c.args.table.now));
+  kept = rw c.new-stages.ensures.items (All-nil (IsStageKept c.args.table.now));
   over = rw c.new-stages.ensures.items (All-nil (IsStageOver c.args.table.now));
   later = later_self c.args.fresh.now;
   drawn = none-gained c.args.fresh.now c.args.table.now.symbols c.args.table.now.symbols refl;
@@ -53,10 +53,9 @@ loop-i-preserved g c =
           passes_leave c.len-i-end.ensures.order e.carried;
       planned =
           stages_then ps cs s rules l.i c.pass.result ds l.fresh c.pass.ensures c.len-i-end.ensures.order l.invariant.behind
-          l.table u e.grows l.invariant.table c.know_table-in-loop-i.ensures l.stages.items more c.match-stage.stages.items all l.invariant.kept l.invariant.planned e.stage;
+          l.table u e.grows l.stages.items more c.match-stage.stages.items all l.invariant.kept l.invariant.planned e.stage;
       taken = none-refused ps cs s rules l.i c.pass.result ds l.fresh c.pass.ensures c.len-i-end.ensures.order l.invariant.behind l.invariant.taken e.refused;
-      table = c.know_table-in-loop-i.ensures;
-      kept = subst (All (HasKept u)) (sym all) (All-append (HasKept u) l.stages.items more (kept_within l.table u e.grows l.stages.items l.invariant.kept) e.kept);
+      kept = subst (All (IsStageKept u)) (sym all) (All-append (IsStageKept u) l.stages.items more (kept_within l.table u e.grows l.stages.items l.invariant.kept) e.kept);
       over = subst (All (IsStageOver u)) (sym all) (All-append (IsStageOver u) l.stages.items more (stages_within l.table u e.grows l.stages.items l.invariant.over) e.over);
       later = later_on s l.fresh c.run_pass.new.fresh l.invariant.later e.later;
       drawn = gained-both l.fresh c.run_pass.new.fresh c.args.table.now.symbols l.table.symbols u.symbols e.later e.grows.symbols l.invariant.drawn e.drawn;
