@@ -10,6 +10,7 @@ mod DistinctNames
 mod LiftedBits
 mod LiftedFlags
 mod LiftedPlaces
+mod LiveBits
 mod LiveFits
 mod LiveFormulas
 mod LiveNumbered

@@ -8,7 +8,8 @@ use Rattle.script_read.specs.Laws.{GivesNoNameOf}
 use Rattle.script_read.specs.Printable.{printable}
 use Rattle.script_read.specs.Satisfied.{sat}
 use Rattle.bit_blast.specs.Laws.{is_boolean}
-use Rattle.bit_scripts.specs.Scripts.{is_flag, refused_root, blasted_script, lifted_model, lowered_model}
+use Rattle.bit_scripts.specs.Bits.{AreBitsOf}
+use Rattle.bit_scripts.specs.Scripts.{is_flag, new_bits, refused_root, blasted_script, lifted_model, lowered_model}
 
 abbrev pub IsModelAt : List (Command Term) → ℕ → Model → Type 0
 IsModelAt cs k m = IsModelOver (signature cs k).sorts (signature cs k).symbols m
@@ -28,3 +29,7 @@ pub record IsBlasted (cs : List (Command Term)) (k : ℕ) (s : Supply) (ds : Lis
 
 abbrev pub ScriptsAreBlasted : Type 0
 ScriptsAreBlasted = (cs : List (Command Term)) (k : ℕ) (s : Supply) → IsTrue (printable cs) → GivesNoNameOf s cs → 1 ≤ k → k ≤ checks cs → refused_root cs k ≡ None → IsBlasted cs k s (blasted_script cs k s)
+
+-- The new constants of a check stand for the bits of constants that are declared there.
+abbrev pub BlastedBitsAreLive : Type 0
+BlastedBitsAreLive = (cs : List (Command Term)) (k : ℕ) (s : Supply) → IsTrue (printable cs) → GivesNoNameOf s cs → refused_root cs k ≡ None → AreBitsOf (signature cs k).symbols (new_bits cs k s)

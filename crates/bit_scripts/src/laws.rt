@@ -1,6 +1,6 @@
-//! The laws of scripts over truth values, as the contract of a function that does nothing.
+//! The laws of scripts over truth values, each as the contract of a function that does nothing.
 
-ghost use Rattle.bit_scripts.specs.Laws.{ScriptsAreBlasted};
+ghost use Rattle.bit_scripts.specs.Laws.{BlastedBitsAreLive, ScriptsAreBlasted};
 
 use bit_blast::laws::blasted_formulas_keep_values;
 
@@ -11,3 +11,8 @@ pub fn scripts_are_blasted()
 {
     blasted_formulas_keep_values();
 }
+
+/// The new constants of what takes the place of a check stand for the bits of constants that are declared at the check.
+pub fn blasted_bits_are_live()
+    ensures { BlastedBitsAreLive }
+{}
