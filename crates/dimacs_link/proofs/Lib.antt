@@ -1,0 +1,12 @@
+mod Parts
+mod Digits
+mod Naming
+mod Passages
+mod Rows
+mod Numbering
+mod NodeParts
+mod PartLists
+mod ClauseLists
+mod ClauseValues
+mod AnsweredModels
+mod Answered

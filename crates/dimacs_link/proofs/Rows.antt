@@ -1,0 +1,3 @@
+-- Worked rows, by topics.
+mod Answers
+mod Clauses
