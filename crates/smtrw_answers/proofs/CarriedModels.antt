@@ -107,7 +107,7 @@ forth_readable p cs s k m within is =
     (λ f. given_readable m (term_for ns f) (is_among (declared_new p cs s k) f) f (graph_kept p m.graphs f) is (term_fits m ns f (symbols_fit p cs s k m within)) (graphs_stay p m.graphs is.graphs f))
 
 -- a pass keeps values, or carries models over groups
-kind_of_pass : CarryingLaws → (p : Pass) (cs : List (Command Term)) (s : Supply) → refused_by p cs ≡ None → IsReady cs s → (keeps_values p ≡ true) ⊎ PutsGroups p cs s
+pub kind_of_pass : CarryingLaws → (p : Pass) (cs : List (Command Term)) (s : Supply) → refused_by p cs ≡ None → IsReady cs s → (keeps_values p ≡ true) ⊎ PutsGroups p cs s
 kind_of_pass laws Simplify cs s taken ready = inl refl
 kind_of_pass laws Nnf cs s taken ready = inl refl
 kind_of_pass laws Aig cs s taken ready = inl refl
@@ -150,7 +150,7 @@ module _ (laws : CarryingLaws) (p : Pass) (cs : List (Command Term)) (s : Supply
 
 -- ---- lists of passes
 
-none_either : (a b : Option ℕ) → or_later a b ≡ None → (a ≡ None) × (b ≡ None)
+pub none_either : (a b : Option ℕ) → or_later a b ≡ None → (a ≡ None) × (b ≡ None)
 none_either None b h = (refl, h)
 none_either (Some n) b h = absurd cc
 

@@ -1,6 +1,6 @@
 -- What is written of a carried model reads back as the carried model.
-use Rattle.std.proofs.Common.{◌≡◌, ◌∙◌, sym, ap, refl, ℕ, Bool, true, false, if◌then◌else◌, List, [], ◌∷◌, Option, Some, None, Result, Ok, Err}
-use Rattle.std.specs.Prelude.{is_ok, option_map, nat_lt, length}
+use Rattle.std.proofs.Common.{◌≡◌, ◌∙◌, sym, ap, refl, ℕ, Bool, true, false, if◌then◌else◌, List, [], ◌∷◌, Option, Some, None, Result, Ok}
+use Rattle.std.specs.Prelude.{option_map, nat_lt, length}
 use Rattle.std.specs.List.{list_all}
 use Rattle.smt_terms.specs.Fresh.{Supply}
 use Rattle.smt_terms.specs.Models.{Model}
@@ -8,7 +8,6 @@ use Rattle.smt_terms.specs.Rank.{is_sort}
 use Rattle.smt_terms.specs.Sorts.{Sort, Symbol}
 use Rattle.smt_terms.specs.Term.{Term}
 use Rattle.smt_terms.proofs.Tests.{both_true, and_true}
-use Rattle.script_terms.specs.Refusals.{Unaccepted}
 use Rattle.script_read.specs.Commands.{Command, Signature, signature}
 use Rattle.script_read.specs.Laws.{ReadingAnswers, ReadScriptsArePrintable, NamesLeftAreNew}
 use Rattle.script_read.specs.Printable.{is_writable, printable}
@@ -31,15 +30,16 @@ use Rattle.smtrw_answers.specs.declared.status.Status.{Status}
 use Rattle.smtrw_answers.specs.declared.status.Status.TheVariants.{Refused, ModelRefused}
 use Rattle.smtrw_answers.proofs.CarriedModels.{IsCarriable, CarryingLaws, ready_passed, carried_back, carried_forth}
 use Rattle.smtrw_answers.proofs.ReadModels.{read_over}
+use Rattle.smtrw_answers.proofs.ReadPoints.{read_found}
 use Rattle.smtrw_answers.proofs.ReadableTexts.{read_from, read_readable}
 
 -- ---- a run that ends well
 
-none_met : (a b : Option Status) → or_later a b ≡ None → (a ≡ None) × (b ≡ None)
+pub none_met : (a b : Option Status) → or_later a b ≡ None → (a ≡ None) × (b ≡ None)
 none_met None b h = (refl, h)
 none_met (Some s) b h = absurd cc
 
-nothing_mapped : {A B : Type 0} (f : A → B) (o : Option A) → option_map f o ≡ None → o ≡ None
+pub nothing_mapped : {A B : Type 0} (f : A → B) (o : Option A) → option_map f o ≡ None → o ≡ None
 nothing_mapped f None h = refl
 nothing_mapped f (Some a) h = absurd cc
 
@@ -47,14 +47,14 @@ nothing_first : {A : Type 0} (b : Bool) (a : A) (o : Option A) → (if b then So
 nothing_first true a o h = absurd cc
 nothing_first false a o h = h
 
-accepted : (b : List ℕ) → script_end b ≡ None → fault b ≡ None
+pub accepted : (b : List ℕ) → script_end b ≡ None → fault b ≡ None
 accepted b h =
     nothing_mapped refusal_of (fault b) (nothing_first (nat_lt longest_text (length b)) (Refused too_long) (option_map refusal_of (fault b)) h)
 
-within_stages : (stages : List Stage) → stages_end stages ≡ None → beyond stages ≡ None
+pub within_stages : (stages : List Stage) → stages_end stages ≡ None → beyond stages ≡ None
 within_stages stages h = nothing_mapped _ (beyond stages) (none_met _ _ h).1
 
-read_text : (g : List ℕ) (o : Option Status) → text_end g o ≡ None → o ≡ None
+pub read_text : (g : List ℕ) (o : Option Status) → text_end g o ≡ None → o ≡ None
 read_text g o h = nothing_first (nat_lt longest_text (length g)) (ModelRefused 2 0 longest_text) o h
 
 -- of the script, of the passes and of what is evaluated
@@ -77,10 +77,6 @@ ended_well b ps k g m stages o ends read =
     }
 
 -- ---- the commands of an accepted text
-
-read_found : (x : Result (List (Command Term) × Supply) Unaccepted) → is_ok x ≡ true → x ≡ Ok (read_or_none x)
-read_found (Ok r) is = refl
-read_found (Err e) is = absurd cc
 
 pub record TextLaws : Type 0 where
   pub answers : ReadingAnswers
@@ -112,19 +108,19 @@ sorts_fine (f ∷ fs) all =
 
 module _ (laws : TextLaws) where
   -- a model that was read over the signature at a point, and what is printed of one
-  module _ (cs : List (Command Term)) (s : Supply) (ready : IsReady cs s) (k : ℕ) (m : Model) where
+  module _ (cs : List (Command Term)) (prints : printable cs ≡ true) (k : ℕ) (m : Model) where
     writable : is_writable_signature (signature cs k) ≡ true
-    writable = laws.writable cs k ready.printable
+    writable = laws.writable cs k prints
 
-    read_carriable : (g : List ℕ) → model_of g (signature cs k) ≡ Ok m → IsCarriable cs k m
+    pub read_carriable : (g : List ℕ) → model_of g (signature cs k) ≡ Ok m → IsCarriable cs k m
     read_carriable g h =
         let sig = signature cs k in
         let others = both_true (list_all is_writable sig.sorts) _ writable in
         let fine = sorts_fine sig.symbols (both_true (list_all is_writable_symbol sig.symbols) _ others.1).0 in
         let from = read_from sig m g h in
-        record { over = read_over sig m (laws.proper cs k ready.printable) fine from; readable = read_readable sig m from }
+        record { over = read_over sig m (laws.proper cs k prints) fine from; readable = read_readable sig m from }
 
-    printed_back : IsCarriable cs k m → model_of (model_lines m (signature cs k)) (signature cs k) ≡ Ok m
+    pub printed_back : IsCarriable cs k m → model_of (model_lines m (signature cs k)) (signature cs k) ≡ Ok m
     printed_back is =
         laws.back (signature cs k) m (record { over = is.over; signature = writable; graphs = is.readable.graphs; div_by_zero = is.readable.div_by_zero; mod_by_zero = is.readable.mod_by_zero })
 
@@ -135,30 +131,27 @@ module _ (laws : TextLaws) where
     reads : script b ≡ Ok (read_or_none (script b))
     reads = read_found (script b) ((laws.answers b).1 whole)
 
-    ready : IsReady (commands b) (names_left b)
+    pub ready : IsReady (commands b) (names_left b)
     ready = record { printable = laws.reads_printable b found reads; names = laws.names b found reads }
 
-    abbrev left : Supply
-    left = (passed ps (commands b) (names_left b)).1
-
-    ready_rewritten : IsReady (rewritten_commands b ps) (passed ps (commands b) (names_left b)).1
+    pub ready_rewritten : IsReady (rewritten_commands b ps) (passed ps (commands b) (names_left b)).1
     ready_rewritten = ready_passed laws.carrying ps (commands b) (names_left b) taken ready
 
     translation_back : (k : ℕ) (g : List ℕ) (m : Model) → beyond (back_stages ps (commands b) (names_left b) k m) ≡ None → model_of g (signature_behind b ps k) ≡ Ok m
         → model_of (model_lines (translated b ps k m) (signature_before b k)) (signature_before b k) ≡ Ok (translated b ps k m)
     translation_back k g m within h =
-        let is = read_carriable (rewritten_commands b ps) left ready_rewritten k m g h in
-        printed_back (commands b) (names_left b) ready k (translated b ps k m) (carried_back laws.carrying ps (commands b) (names_left b) taken ready k m within is)
+        let is = read_carriable (rewritten_commands b ps) ready_rewritten.printable k m g h in
+        printed_back (commands b) ready.printable k (translated b ps k m) (carried_back laws.carrying ps (commands b) (names_left b) taken ready k m within is)
 
     extension_back : (k : ℕ) (g : List ℕ) (m : Model) → beyond (forth_stages ps (commands b) (names_left b) k m) ≡ None → model_of g (signature_before b k) ≡ Ok m
         → model_of (model_lines (extended b ps k m) (signature_behind b ps k)) (signature_behind b ps k) ≡ Ok (extended b ps k m)
     extension_back k g m within h =
-        let is = read_carriable (commands b) (names_left b) ready k m g h in
-        printed_back (rewritten_commands b ps) left ready_rewritten k (extended b ps k m) (carried_forth laws.carrying ps (commands b) (names_left b) taken ready k m within is)
+        let is = read_carriable (commands b) ready.printable k m g h in
+        printed_back (rewritten_commands b ps) ready_rewritten.printable k (extended b ps k m) (carried_forth laws.carrying ps (commands b) (names_left b) taken ready k m within is)
 
   -- ---- texts
 
-  printed_as : (m : Model) (carry : Model → Model) (sig : Signature) (o : Result Model Unmodelled) (out : List ℕ) → o ≡ Ok m → carried_text carry sig o ≡ Ok out → model_lines (carry m) sig ≡ out
+  pub printed_as : (m : Model) (carry : Model → Model) (sig : Signature) (o : Result Model Unmodelled) (out : List ℕ) → o ≡ Ok m → carried_text carry sig o ≡ Ok out → model_lines (carry m) sig ≡ out
   printed_as m carry sig o out read h = same_text (model_lines (carry m) sig) out (sym (ap (carried_text carry sig) read) ∙ h)
 
   pub translated_back : TranslatedTextsReadBack

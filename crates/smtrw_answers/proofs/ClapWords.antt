@@ -10,10 +10,10 @@ use Rattle.smt_print.specs.declared.layout.Layout.{Layout}
 use Rattle.passes.specs.declared.names.Pass.{Pass}
 use Rattle.passes.specs.declared.names.ListFault.{ListFault}
 use Rattle.passes.specs.declared.names.ListFault.TheVariants.{BadPass as UnknownPass, AfterRules as GroupsAfterRules}
-use Rattle.passes.specs.Lists.{pass_list, any_pass}
+use Rattle.passes.specs.Lists.{pass_list_of}
 use Rattle.smtrw_answers.specs.declared.status.Usage.{Usage}
 use Rattle.smtrw_answers.specs.declared.status.Why.TheVariants.{BadValue}
-use Rattle.smtrw_answers.specs.Words.{Word, Numbered, Command, needed, Setting, of_passes, of_layout, of_check, settings_of, setting_among, is_dashed, Given, nothing_given, is_given, is_from, number_in, layout_named, with_passes, with_layout, with_check, with_value, value_word, with_setting, option_word, with_plain, file_word, of_kind, plain_word, word_behind, words_from, and_then}
+use Rattle.smtrw_answers.specs.Words.{Word, Numbered, Command, needed, takes_pass, Setting, of_passes, of_layout, of_check, settings_of, setting_among, is_dashed, Given, nothing_given, is_given, is_from, number_in, layout_named, with_passes, with_layout, with_check, with_value, value_word, with_setting, option_word, with_plain, file_word, of_kind, plain_word, word_behind, words_from, and_then}
 use Rattle.smtrw_answers.specs.Asking.{check_named}
 use Rattle.smtrw_answers.proofs.ClapRows.{RowAdded, row_added}
 use Rattle.smtrw_answers.proofs.ClapWalk.{Pending, held_at, walk_at, plain_word_is, id_of, name_of, rule_of, with_value_in, TakesOption, IsOptionWord, OperandsIn, Taking}
@@ -25,8 +25,8 @@ abbrev pub ValueIn : {A : Type 0} → (Text → A → Type 0) → Text → Optio
 ValueIn Reads id None rows = has_row id rows ≡ false
 ValueIn Reads id (Some a) rows = (t : Text) × (first_of id rows ≡ Some t) × Reads t a
 
-abbrev pub PassesIn : Option (List Pass) → List Row → Type 0
-PassesIn = ValueIn (λ t ps. pass_list t ≡ Ok ps) (id_of of_passes)
+abbrev pub PassesIn : Command → Option (List Pass) → List Row → Type 0
+PassesIn c = ValueIn (λ t ps. pass_list_of (takes_pass c) t ≡ Ok ps) (id_of of_passes)
 
 abbrev pub LayoutIn : Option Layout → List Row → Type 0
 LayoutIn = ValueIn (λ t l. layout_named t ≡ Some l) (id_of of_layout)
@@ -34,8 +34,8 @@ LayoutIn = ValueIn (λ t l. layout_named t ≡ Some l) (id_of of_layout)
 abbrev pub CheckIn : Option ℕ → List Row → Type 0
 CheckIn = ValueIn (λ t k. check_named t ≡ Some k) (id_of of_check)
 
-pub record Holds (ids : List Text) (g : Given) (rows : List Row) : Type 0 where
-  pub passes : PassesIn g.passes rows
+pub record Holds (c : Command) (ids : List Text) (g : Given) (rows : List Row) : Type 0 where
+  pub passes : PassesIn c g.passes rows
   pub layout : LayoutIn g.layout rows
   pub check : CheckIn g.check rows
   pub operands : OperandsIn ids g.plain rows
@@ -103,19 +103,19 @@ option_added of_layout v rows no_row = row_added (codes "layout") v _ rows refl 
 option_added of_check v rows no_row = row_added (codes "check") v _ rows refl no_row
 
 -- the option is given for the first time, behind rows without it
-pub record Comes (ids : List Text) (s : Setting) (v : Text) (g h : Given) (rows : List Row) : Type 0 where
+pub record Comes (c : Command) (ids : List Text) (s : Setting) (v : Text) (g h : Given) (rows : List Row) : Type 0 where
   pub no_row : has_row (id_of s) rows ≡ false
-  pub holds : Holds ids h (used (rule_of s) (v ∷ []) rows)
+  pub holds : Holds c ids h (used (rule_of s) (v ∷ []) rows)
   pub idles : h.awaited ≡ None
   pub plain : h.plain ≡ g.plain
 
-module _ (ids : List Text) (i : ℕ) (v : Text) (g h : Given) (rows : List Row) (holds : Holds ids g rows) where
-  passes_come : list_any (bytes_eq (id_of of_passes)) ids ≡ false → is_some g.passes ≡ false → with_passes i (pass_list v) g ≡ Ok h → Comes ids of_passes v g h rows
+module _ (c : Command) (ids : List Text) (i : ℕ) (v : Text) (g h : Given) (rows : List Row) (holds : Holds c ids g rows) where
+  passes_come : list_any (bytes_eq (id_of of_passes)) ids ≡ false → is_some g.passes ≡ false → with_passes i (pass_list_of (takes_pass c) v) g ≡ Ok h → Comes c ids of_passes v g h rows
   passes_come apart new e =
-      let read = with_passes_taken i (pass_list v) g h e in
-      let no_row : has_row (codes "passes") rows ≡ false = subst (λ o. PassesIn o rows) (given_none g.passes new) holds.passes in
+      let read = with_passes_taken i (pass_list_of (takes_pass c) v) g h e in
+      let no_row : has_row (codes "passes") rows ≡ false = subst (λ o. PassesIn c o rows) (given_none g.passes new) holds.passes in
       let added = option_added of_passes v rows no_row in
-      subst (λ x. Comes ids of_passes v g x rows) read.2 (record {
+      subst (λ x. Comes c ids of_passes v g x rows) read.2 (record {
         no_row = no_row;
         holds = record {
           passes = (v, added.first, read.1);
@@ -127,12 +127,12 @@ module _ (ids : List Text) (i : ℕ) (v : Text) (g h : Given) (rows : List Row) 
         plain = refl;
       })
 
-  layout_comes : list_any (bytes_eq (id_of of_layout)) ids ≡ false → is_some g.layout ≡ false → with_layout i (layout_named v) g ≡ Ok h → Comes ids of_layout v g h rows
+  layout_comes : list_any (bytes_eq (id_of of_layout)) ids ≡ false → is_some g.layout ≡ false → with_layout i (layout_named v) g ≡ Ok h → Comes c ids of_layout v g h rows
   layout_comes apart new e =
       let read = with_layout_taken i (layout_named v) g h e in
       let no_row : has_row (codes "layout") rows ≡ false = subst (λ o. LayoutIn o rows) (given_none g.layout new) holds.layout in
       let added = option_added of_layout v rows no_row in
-      subst (λ x. Comes ids of_layout v g x rows) read.2 (record {
+      subst (λ x. Comes c ids of_layout v g x rows) read.2 (record {
         no_row = no_row;
         holds = record {
           passes = value_kept added _ (codes "passes") g.passes refl holds.passes;
@@ -144,12 +144,12 @@ module _ (ids : List Text) (i : ℕ) (v : Text) (g h : Given) (rows : List Row) 
         plain = refl;
       })
 
-  check_comes : list_any (bytes_eq (id_of of_check)) ids ≡ false → is_some g.check ≡ false → with_check i (number_in v) g ≡ Ok h → Comes ids of_check v g h rows
+  check_comes : list_any (bytes_eq (id_of of_check)) ids ≡ false → is_some g.check ≡ false → with_check i (number_in v) g ≡ Ok h → Comes c ids of_check v g h rows
   check_comes apart new e =
       let read = with_check_taken i (number_in v) g h e in
       let no_row : has_row (codes "check") rows ≡ false = subst (λ o. CheckIn o rows) (given_none g.check new) holds.check in
       let added = option_added of_check v rows no_row in
-      subst (λ x. Comes ids of_check v g x rows) read.2 (record {
+      subst (λ x. Comes c ids of_check v g x rows) read.2 (record {
         no_row = no_row;
         holds = record {
           passes = value_kept added _ (codes "passes") g.passes refl holds.passes;
@@ -161,7 +161,7 @@ module _ (ids : List Text) (i : ℕ) (v : Text) (g h : Given) (rows : List Row) 
         plain = refl;
       })
 
-  value_comes : (s : Setting) → list_any (bytes_eq (id_of s)) ids ≡ false → is_given s g ≡ false → with_value any_pass i s v g ≡ Ok h → Comes ids s v g h rows
+  value_comes : (s : Setting) → list_any (bytes_eq (id_of s)) ids ≡ false → is_given s g ≡ false → with_value (takes_pass c) i s v g ≡ Ok h → Comes c ids s v g h rows
   value_comes of_passes apart new e = passes_come apart new e
   value_comes of_layout apart new e = layout_comes apart new e
   value_comes of_check apart new e = check_comes apart new e
@@ -172,19 +172,19 @@ abbrev pub waiting_of : Option Setting → Waiting
 waiting_of None = idle
 waiting_of (Some s) = option (id_of s)
 
-abbrev pub Stands : Shape → List Text → Option Setting → Given → List Row → Pending → Type 0
-Stands shape ids None g rows p = Holds ids g (settled_rows shape.rules p rows) × (settle_passes shape.rules false (held_at rows p) ≡ true)
-Stands shape ids (Some s) g rows p = (p ≡ Some (id_of s, [])) × Holds ids g rows × (is_given s g ≡ false) × TakesOption shape s
+abbrev pub Stands : Command → Shape → List Text → Option Setting → Given → List Row → Pending → Type 0
+Stands c shape ids None g rows p = Holds c ids g (settled_rows shape.rules p rows) × (settle_passes shape.rules false (held_at rows p) ≡ true)
+Stands c shape ids (Some s) g rows p = (p ≡ Some (id_of s, [])) × Holds c ids g rows × (is_given s g ≡ false) × TakesOption shape s
 
-pub record Along (shape : Shape) (ids : List Text) (g : Given) (walk : Walk) : Type 0 where
+pub record Along (c : Command) (shape : Shape) (ids : List Text) (g : Given) (walk : Walk) : Type 0 where
   pub rows : List Row
   pub pending : Pending
   pub stand : walk ≡ walk_at rows pending (waiting_of g.awaited) (suc (length g.plain))
-  pub holds : Stands shape ids g.awaited g rows pending
+  pub holds : Stands c shape ids g.awaited g rows pending
 
 -- behind one more word, which is taken
-pub record Next (shape : Shape) (ids : List Text) (g : Given) (from : Walk) (w : Word) : Type 0 where
-  pub along : Along shape ids g (walked shape.rules [] from w)
+pub record Next (c : Command) (shape : Shape) (ids : List Text) (g : Given) (from : Walk) (w : Word) : Type 0 where
+  pub along : Along c shape ids g (walked shape.rules [] from w)
   pub turn : turn_passes shape [] from w ≡ true
 
 pub and_then_ok : {A B : Type 0} (next : A → Result B Usage) (r : Result A Usage) (b : B) → and_then next r ≡ Ok b → (a : A) × (r ≡ Ok a) × (next a ≡ Ok b)
@@ -199,8 +199,8 @@ pub file_put : (i : ℕ) (w : Word) (g h : Given) → file_word i w g ≡ Ok h �
 file_put i w g h e = (else_taken (bytes_eq w (codes "-") && list_any (λ f. bytes_eq f.word (codes "-")) g.plain) _ (with_plain i w g) h e).1
 
 -- all words are taken
-pub record AlongAll (shape : Shape) (ids : List Text) (g : Given) (from : Walk) (ws : List Word) : Type 0 where
-  pub along : Along shape ids g (fold (walked shape.rules []) from ws)
+pub record AlongAll (c : Command) (shape : Shape) (ids : List Text) (g : Given) (from : Walk) (ws : List Word) : Type 0 where
+  pub along : Along c shape ids g (fold (walked shape.rules []) from ws)
   pub passes : walk_passes shape [] from ws ≡ true
 
 module _ (c : Command) (app : App) (ids : List Text) (t : Taking (settings_of c) (needed c) app ids) (puts : PutsWords c) where
@@ -208,7 +208,7 @@ module _ (c : Command) (app : App) (ids : List Text) (t : Taking (settings_of c)
   shape = (built app).top
 
   abbrev Follows : Given → Walk → Word → Type 0
-  Follows = Next shape ids
+  Follows = Next c shape ids
 
   -- ---- options
 
@@ -217,26 +217,26 @@ module _ (c : Command) (app : App) (ids : List Text) (t : Taking (settings_of c)
       → walk_at rows p idle (suc (length g.plain)) ≡ walk_at rows p (waiting_of h.awaited) (suc (length h.plain))
   behind_value g h rows p idles plain = ap₂ (λ s fs. walk_at rows p (waiting_of s) (suc (length fs))) (sym idles) (sym plain)
 
-  stands_idle : (h : Given) (rows : List Row) (p : Pending) → h.awaited ≡ None → Stands shape ids None h rows p → Stands shape ids h.awaited h rows p
-  stands_idle h rows p idles stands = subst (λ s. Stands shape ids s h rows p) (sym idles) stands
+  stands_idle : (h : Given) (rows : List Row) (p : Pending) → h.awaited ≡ None → Stands c shape ids None h rows p → Stands c shape ids h.awaited h rows p
+  stands_idle h rows p idles stands = subst (λ s. Stands c shape ids s h rows p) (sym idles) stands
 
-  value_next : (i : ℕ) (w : Word) (g h : Given) (rows : List Row) (s : Setting) → TakesOption shape s → Holds ids g rows → is_given s g ≡ false → value_word any_pass i s w g ≡ Ok h
+  value_next : (i : ℕ) (w : Word) (g h : Given) (rows : List Row) (s : Setting) → TakesOption shape s → Holds c ids g rows → is_given s g ≡ false → value_word (takes_pass c) i s w g ≡ Ok h
       → Follows h (walk_at rows (Some (id_of s, [])) (option (id_of s)) (suc (length g.plain))) w
   value_next i w g h rows s takes holds new e =
-      let taken = else_taken (is_dashed w) _ (with_value any_pass i s w g) h e in
-      let come = value_comes ids i w g h rows holds s (t.apart s) new taken.1 in
+      let taken = else_taken (is_dashed w) _ (with_value (takes_pass c) i s w g) h e in
+      let come = value_comes c ids i w g h rows holds s (t.apart s) new taken.1 in
       let plain = plain_word_is w taken.0 in
       record {
         along = record {
           rows = rows;
           pending = Some (id_of s, w ∷ []);
           stand = takes.value rows (suc (length g.plain)) w plain ∙ behind_value g h rows (Some (id_of s, w ∷ [])) come.idles come.plain;
-          holds = stands_idle h rows (Some (id_of s, w ∷ [])) come.idles (subst (Holds ids h) (sym (takes.settled rows w)) come.holds, takes.settles rows w come.no_row);
+          holds = stands_idle h rows (Some (id_of s, w ∷ [])) come.idles (subst (Holds c ids h) (sym (takes.settled rows w)) come.holds, takes.settles rows w come.no_row);
         };
         turn = takes.value_turn rows (suc (length g.plain)) w plain;
       }
 
-  module _ (i : ℕ) (w : Word) (g h : Given) (rows : List Row) (p : Pending) (stands : Stands shape ids None g rows p) where
+  module _ (i : ℕ) (w : Word) (g h : Given) (rows : List Row) (p : Pending) (stands : Stands c shape ids None g rows p) where
     abbrev here : Walk
     here = walk_at rows p idle (suc (length g.plain))
 
@@ -256,10 +256,10 @@ module _ (c : Command) (app : App) (ids : List Text) (t : Taking (settings_of c)
         same_given of_layout e = e
         same_given of_check e = e
 
-    attached_next : (s : Setting) (v : Word) → TakesOption shape s → is_given s g ≡ false → with_value any_pass i s v g ≡ Ok h → Follows h here (with_value_in s v)
+    attached_next : (s : Setting) (v : Word) → TakesOption shape s → is_given s g ≡ false → with_value (takes_pass c) i s v g ≡ Ok h → Follows h here (with_value_in s v)
     attached_next s v takes new e =
         let before : List Row = settled_rows shape.rules p rows in
-        let come = value_comes ids i v g h before stands.0 s (t.apart s) new e in
+        let come = value_comes c ids i v g h before stands.0 s (t.apart s) new e in
         let behind : List Row = used (rule_of s) (v ∷ []) before in
         record {
           along = record {
@@ -271,18 +271,18 @@ module _ (c : Command) (app : App) (ids : List Text) (t : Taking (settings_of c)
           turn = takes.attached_turn rows p (suc (length g.plain)) v stands.1 come.no_row;
         }
 
-    option_met_next : (o : Setting × Option Word) → IsOptionWord o w → TakesOption shape o.0 → is_given o.0 g ≡ false → with_setting any_pass i o.0 o.1 g ≡ Ok h → Follows h here w
+    option_met_next : (o : Setting × Option Word) → IsOptionWord o w → TakesOption shape o.0 → is_given o.0 g ≡ false → with_setting (takes_pass c) i o.0 o.1 g ≡ Ok h → Follows h here w
     option_met_next (s, None) is takes new e = subst (Follows h here) (sym is) (begun_next s takes new (ok_same _ _ e))
     option_met_next (s, Some v) is takes new e = subst (Follows h here) (sym is) (attached_next s v takes new e)
 
-    option_next : option_word any_pass i (setting_among (settings_of c) w) g ≡ Ok h → Follows h here w
+    option_next : option_word (takes_pass c) i (setting_among (settings_of c) w) g ≡ Ok h → Follows h here w
     option_next e = go (setting_among (settings_of c) w) refl e
       where
-        go : (o : Option (Setting × Option Word)) → setting_among (settings_of c) w ≡ o → option_word any_pass i o g ≡ Ok h → Follows h here w
+        go : (o : Option (Setting × Option Word)) → setting_among (settings_of c) w ≡ o → option_word (takes_pass c) i o g ≡ Ok h → Follows h here w
         go None among is = absurd cc
         go (Some o) among is =
             let met = t.options w o among in
-            let taken = else_taken (is_given o.0 g) _ (with_setting any_pass i o.0 o.1 g) h is in
+            let taken = else_taken (is_given o.0 g) _ (with_setting (takes_pass c) i o.0 o.1 g) h is in
             option_met_next o met.0 met.1 taken.0 taken.1
 
   -- ---- words that are no options
@@ -294,7 +294,7 @@ module _ (c : Command) (app : App) (ids : List Text) (t : Taking (settings_of c)
       let room = else_taken (nat_le (needed c) (length g.plain)) _ (of_kind c i (b ∷ bs) g) h e in
       (room.0, ok_same _ _ (puts i (b ∷ bs) g h room.1))
 
-  operand_next : (i : ℕ) (w : Word) (g h : Given) (rows : List Row) (p : Pending) → Stands shape ids None g rows p → g.awaited ≡ None → is_dashed w ≡ false
+  operand_next : (i : ℕ) (w : Word) (g h : Given) (rows : List Row) (p : Pending) → Stands c shape ids None g rows p → g.awaited ≡ None → is_dashed w ≡ false
       → plain_word c i w g ≡ Ok h → Follows h (walk_at rows p idle (suc (length g.plain))) w
   operand_next i w g h rows p stands idles plain e =
       let taken = operand_taken i w g h e in
@@ -306,7 +306,7 @@ module _ (c : Command) (app : App) (ids : List Text) (t : Taking (settings_of c)
       let no_row = place.free before stands.0.operands in
       let added = place.added before w no_row in
       let is = plain_word_is w plain in
-      let holds : Holds ids given (settled_rows shape.rules pending before) = record {
+      let holds : Holds c ids given (settled_rows shape.rules pending before) = record {
         passes = value_kept added _ (codes "passes") g.passes (place.apart of_passes) stands.0.passes;
         layout = value_kept added _ (codes "layout") g.layout (place.apart of_layout) stands.0.layout;
         check = value_kept added _ (codes "check") g.check (place.apart of_check) stands.0.check;
@@ -329,28 +329,28 @@ module _ (c : Command) (app : App) (ids : List Text) (t : Taking (settings_of c)
 
   -- ---- word by word
 
-  next_at : (i : ℕ) (w : Word) (g h : Given) (rows : List Row) (p : Pending) (s : Option Setting) → g.awaited ≡ s → Stands shape ids s g rows p
-      → word_behind any_pass c i w g s ≡ Ok h → Follows h (walk_at rows p (waiting_of s) (suc (length g.plain))) w
+  next_at : (i : ℕ) (w : Word) (g h : Given) (rows : List Row) (p : Pending) (s : Option Setting) → g.awaited ≡ s → Stands c shape ids s g rows p
+      → word_behind (takes_pass c) c i w g s ≡ Ok h → Follows h (walk_at rows p (waiting_of s) (suc (length g.plain))) w
   next_at i w g h rows p None idles stands e = go (is_dashed w) refl e
     where
-      go : (b : Bool) → is_dashed w ≡ b → cond b (option_word any_pass i (setting_among (settings_of c) w) g) (plain_word c i w g) ≡ Ok h
+      go : (b : Bool) → is_dashed w ≡ b → cond b (option_word (takes_pass c) i (setting_among (settings_of c) w) g) (plain_word c i w g) ≡ Ok h
           → Follows h (walk_at rows p idle (suc (length g.plain))) w
       go true dashed is = option_next i w g h rows p stands is
       go false plain is = operand_next i w g h rows p stands idles plain is
   next_at i w g h rows p (Some s) awaits stands e =
       subst (λ q. Follows h (walk_at rows q (option (id_of s)) (suc (length g.plain))) w) (sym stands.0) (value_next i w g h rows s stands.3 stands.1 stands.2 e)
 
-  next_along : (i : ℕ) (w : Word) (g h : Given) (walk : Walk) → Along shape ids g walk → word_behind any_pass c i w g g.awaited ≡ Ok h → Follows h walk w
+  next_along : (i : ℕ) (w : Word) (g h : Given) (walk : Walk) → Along c shape ids g walk → word_behind (takes_pass c) c i w g g.awaited ≡ Ok h → Follows h walk w
   next_along i w g h walk a e = subst (λ x. Follows h x w) (sym a.stand) (next_at i w g h a.rows a.pending g.awaited refl a.holds e)
 
-  pub along_all : (i : ℕ) (ws : List Word) (g h : Given) (walk : Walk) → Along shape ids g walk → words_from any_pass c i ws g ≡ Ok h → AlongAll shape ids h walk ws
+  pub along_all : (i : ℕ) (ws : List Word) (g h : Given) (walk : Walk) → Along c shape ids g walk → words_from (takes_pass c) c i ws g ≡ Ok h → AlongAll c shape ids h walk ws
   unfolding walk_passes
-  along_all i [] g h walk a e = record { along = subst (λ x. Along shape ids x walk) (ok_same g h e) a; passes = refl }
+  along_all i [] g h walk a e = record { along = subst (λ x. Along c shape ids x walk) (ok_same g h e) a; passes = refl }
   along_all i (w ∷ ws) g h walk a e =
-      let step = and_then_ok (words_from any_pass c (suc i) ws) (word_behind any_pass c i w g g.awaited) h e in
+      let step = and_then_ok (words_from (takes_pass c) c (suc i) ws) (word_behind (takes_pass c) c i w g g.awaited) h e in
       let next = next_along i w g step.0 walk a step.1 in
       let rest = along_all (suc i) ws step.0 h (walked shape.rules [] walk w) next.along step.2 in
       record { along = rest.along; passes = ap (λ b. b && walk_passes shape [] (walked shape.rules [] walk w) ws) next.turn ∙ rest.passes }
 
-  pub nothing_along : Along shape ids nothing_given (walk_at [] None idle 1)
+  pub nothing_along : Along c shape ids nothing_given (walk_at [] None idle 1)
   nothing_along = record { rows = []; pending = None; stand = refl; holds = (record { passes = refl; layout = refl; check = refl; operands = t.no_operands }, refl) }

@@ -4,8 +4,7 @@ use Rattle.std.specs.List.{AllByRecursion}
 use Rattle.std.specs.Option.{is_some}
 use Rattle.std.specs.Str.Parse.{digits_value}
 use Rattle.smt_lex.specs.Lexicon.{is_numeral}
-use Rattle.passes.specs.Lists.{any_pass}
-use Rattle.smtrw_answers.specs.Words.{Word, Numbered, demonstrating, Setting, setting_among, settings_of, is_dashed, Given, nothing_given, number_in, is_number_for, with_plain, number_word, option_word, plain_word, word_behind, words_from}
+use Rattle.smtrw_answers.specs.Words.{Word, Numbered, demonstrating, takes_pass, Setting, setting_among, settings_of, is_dashed, Given, nothing_given, number_in, is_number_for, with_plain, number_word, option_word, plain_word, word_behind, words_from}
 use Rattle.smtrw_answers.proofs.ClapWords.{PutsWords, ok_same, then_taken, else_taken, and_then_ok}
 
 abbrev WritesNumber : Numbered → Type 0
@@ -49,19 +48,19 @@ plain_number i (b ∷ bs) g h has e =
     let taken = number_taken i (b ∷ bs) g h room.1 in
     subst HasNumbers (ok_same _ _ taken.1) (has.0, one_more g.plain (record { number = i; word = b ∷ bs }) has.1 taken.0)
 
-one_word : (i : ℕ) (w : Word) (g h : Given) (s : Option Setting) → s ≡ None → HasNumbers g → word_behind any_pass demonstrating i w g s ≡ Ok h → HasNumbers h
+one_word : (i : ℕ) (w : Word) (g h : Given) (s : Option Setting) → s ≡ None → HasNumbers g → word_behind (takes_pass demonstrating) demonstrating i w g s ≡ Ok h → HasNumbers h
 one_word i w g h (Some s) idles has e = absurd cc
 one_word i w g h None idles has e = go (is_dashed w) e
   where
-    go : (b : Bool) → cond b (option_word any_pass i (setting_among (settings_of demonstrating) w) g) (plain_word demonstrating i w g) ≡ Ok h → HasNumbers h
+    go : (b : Bool) → cond b (option_word (takes_pass demonstrating) i (setting_among (settings_of demonstrating) w) g) (plain_word demonstrating i w g) ≡ Ok h → HasNumbers h
     go true is = absurd cc
     go false is = plain_number i w g h has is
 
-all_words : (i : ℕ) (ws : List Word) (g h : Given) → HasNumbers g → words_from any_pass demonstrating i ws g ≡ Ok h → HasNumbers h
+all_words : (i : ℕ) (ws : List Word) (g h : Given) → HasNumbers g → words_from (takes_pass demonstrating) demonstrating i ws g ≡ Ok h → HasNumbers h
 all_words i [] g h has e = subst HasNumbers (ok_same g h e) has
 all_words i (w ∷ ws) g h has e =
-    let step = and_then_ok (words_from any_pass demonstrating (suc i) ws) (word_behind any_pass demonstrating i w g g.awaited) h e in
+    let step = and_then_ok (words_from (takes_pass demonstrating) demonstrating (suc i) ws) (word_behind (takes_pass demonstrating) demonstrating i w g g.awaited) h e in
     all_words (suc i) ws step.0 h (one_word i w g step.0 g.awaited has.0 has step.1) step.2
 
-pub numbers_given : (ws : List Word) (g : Given) → words_from any_pass demonstrating 2 ws nothing_given ≡ Ok g → AreNumbers g.plain
+pub numbers_given : (ws : List Word) (g : Given) → words_from (takes_pass demonstrating) demonstrating 2 ws nothing_given ≡ Ok g → AreNumbers g.plain
 numbers_given ws g e = (all_words 2 ws nothing_given g (refl, tt) e).1

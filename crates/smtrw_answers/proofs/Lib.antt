@@ -1,3 +1,4 @@
+mod BlastedPromise
 mod CarriedModels
 mod CarriedTexts
 pub mod CarriedWords
@@ -16,14 +17,20 @@ mod DemoTerms
 pub mod DemoWords
 pub mod ErrorLines
 mod EvaluatedTerms
+pub mod GrammarLists
 pub mod GrammarNames
 pub mod GrammarNumbers
 pub mod GrammarOperands
 pub mod GrammarWords
 mod OneText
+pub mod PlannedWords
 mod Promise
 mod ReadModels
+mod ReadPoints
+mod ReadableLifts
 mod ReadableTables
 mod ReadableTexts
 mod ReadableValues
 mod Rows
+mod SameChecks
+mod UnblastedTexts

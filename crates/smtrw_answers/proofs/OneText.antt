@@ -12,8 +12,9 @@ use Rattle.passes.specs.declared.names.Pass.{Pass}
 use Rattle.passes.specs.declared.names.Pass.TheVariants.{Rules}
 use Rattle.passes.specs.Led.{MadeBy, MayBecome, EachMayBecome, LeadsTo}
 use Rattle.passes.specs.Passed.{apply_pass, passed}
-use Rattle.smtrw_answers.specs.Laws.{is_rules, WithoutRulesOneText, WithoutRulesOneList, EightWriteOneText}
+use Rattle.smtrw_answers.specs.Laws.{WithoutRulesOneText, WithoutRulesOneList, EightWriteOneText}
 use Rattle.smtrw_answers.specs.Outputs.{commands, names_left}
+use Rattle.smtrw_answers.specs.Words.{is_rules}
 
 -- ---- without stored rules
 

@@ -153,7 +153,7 @@ row_readable test (r ∷ rows) otherwise all rest =
     let b = both_true (list_all is_readable r.keys) (is_readable r.result) a.0 in
     either_way is_readable (test r) r.result (row_value test rows otherwise) true (λ e. b.1) (λ e. row_readable test rows otherwise a.1 rest)
 
-graph_readable : (f : Symbol) (sizes : Sizes) (o : Option Graph) (vs : List Value) → IfSome o (λ g. is_readable_graph g ≡ true) → is_readable (graph_or_default f sizes o vs) ≡ true
+pub graph_readable : (f : Symbol) (sizes : Sizes) (o : Option Graph) (vs : List Value) → IfSome o (λ g. is_readable_graph g ≡ true) → is_readable (graph_or_default f sizes o vs) ≡ true
 graph_readable f sizes None vs is = of_sort_readable f.result
 graph_readable f sizes (Some g) vs is =
     let a = both_true (list_all is_readable_row g.rows) (is_readable g.otherwise) is in

@@ -4,5 +4,6 @@ mod Lines
 mod Outputs
 mod Rewritten
 mod Carrying
+mod Blasting
 mod Headline
 mod Endings

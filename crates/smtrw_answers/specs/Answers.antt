@@ -33,6 +33,7 @@ cause_names =
     ∷ (50, codes "QuantifiedUse")
     ∷ (60, codes "ModelForm") ∷ (61, codes "ModelSort") ∷ (62, codes "NotATable") ∷ (63, codes "ModelNumber") ∷ (64, codes "ModelTwice")
     ∷ (71, codes "EvalWidth")
+    ∷ (90, codes "NotBits")
     ∷ []
 
 abbrev pub name_among : List (ℕ × Word) → ℕ → Word

@@ -1,15 +1,16 @@
 -- What the program's code answers to its words.
-use Rattle.std.specs.Prelude.{◌≡◌, ◌≤◌, ℕ, Result, Ok, Err, IsOk}
+use Rattle.std.specs.Prelude.{◌≡◌, ◌≤◌, ℕ, false, Result, Ok, Err, IsOk}
+use Rattle.std.specs.List.{list_any}
 use Rattle.smtrw_answers.specs.declared.status.Usage.{Usage as UsageFault}
 use Rattle.smtrw_answers.specs.declared.words.File.{File}
 use Rattle.smtrw_answers.specs.declared.words.Asked.{Asked}
-use Rattle.smtrw_answers.specs.declared.words.Asked.TheVariants.{Rewrite, Translate, Extend, Stats, Demo}
+use Rattle.smtrw_answers.specs.declared.words.Asked.TheVariants.{Rewrite, Translate, Extend, Blast, Unblast, Stats, Demo}
 use Rattle.smtrw_answers.specs.declared.words.Source.{Source}
 use Rattle.smtrw_answers.specs.declared.words.Source.TheVariants.{File as FromFile, Drawn}
 use Rattle.smtrw_answers.specs.declared.words.Carried.{Carried}
 use Rattle.smtrw_answers.specs.declared.words.WordsFault.{WordsFault}
 use Rattle.smtrw_answers.specs.declared.words.WordsFault.TheVariants.{Usage, Memory}
-use Rattle.smtrw_answers.specs.Words.{Numbered, Source as ScriptSource, of_file, drawn, greatest_size, Asked as AskedFor, rewrite, translate, extend, stats, demo}
+use Rattle.smtrw_answers.specs.Words.{Numbered, Source as ScriptSource, of_file, drawn, is_rules, greatest_size, Asked as AskedFor, rewrite, translate, extend, blast, unblast, stats, demo}
 
 -- the word of a file, with its number
 abbrev pub numbered : File → Numbered
@@ -20,6 +21,8 @@ abbrev pub asked_seen : Asked → AskedFor
 asked_seen (Rewrite ps l f) = rewrite ps l (numbered f)
 asked_seen (Translate ps k s m) = translate ps k (numbered s) (numbered m)
 asked_seen (Extend ps k s m) = extend ps k (numbered s) (numbered m)
+asked_seen (Blast ps k f) = blast ps k (numbered f)
+asked_seen (Unblast ps k s m) = unblast ps k (numbered s) (numbered m)
 asked_seen (Stats f) = stats (numbered f)
 asked_seen (Demo seed size) = demo seed size
 
@@ -33,17 +36,19 @@ Answers r (Ok a) = r ≡ Ok (asked_seen a)
 Answers r (Err (Usage u)) = r ≡ Err u
 Answers r (Err Memory) = IsOk r
 
--- ---- what `translate` and `extend` have in common
+-- ---- what `translate`, `extend` and `unblast` have in common
 
 -- the numbers of the words of the script and of the model
 abbrev pub CarriesFiles : ℕ → ℕ → Result AskedFor UsageFault → Type 0
 CarriesFiles script model (Ok (translate ps k s m)) = (s.number ≡ script) × (m.number ≡ model)
 CarriesFiles script model (Ok (extend ps k s m)) = (s.number ≡ script) × (m.number ≡ model)
+CarriesFiles script model (Ok (unblast ps k s m)) = (s.number ≡ script) × (m.number ≡ model)
 CarriesFiles script model _ = ⊥
 
 abbrev pub IsCarried : AskedFor → Carried → Type 0
 IsCarried (translate ps k s m) c = (ps ≡ c.passes) × (k ≡ c.check) × (s ≡ numbered c.script) × (m ≡ numbered c.model)
 IsCarried (extend ps k s m) c = (ps ≡ c.passes) × (k ≡ c.check) × (s ≡ numbered c.script) × (m ≡ numbered c.model)
+IsCarried (unblast ps k s m) c = (ps ≡ c.passes) × (k ≡ c.check) × (s ≡ numbered c.script) × (m ≡ numbered c.model)
 IsCarried _ c = ⊥
 
 -- exactly the values of the words, or want of memory
@@ -52,9 +57,12 @@ GivesCarried (Ok a) (Ok c) = IsCarried a c
 GivesCarried (Ok a) (Err e) = e ≡ Memory
 GivesCarried (Err u) r = ⊥
 
--- checks are counted from 1, and a demonstration has at least one step and at most so many
+-- checks are counted from 1, no stored rules are among the passes of what is made of bits, and a demonstration has at least one step
+-- and at most so many
 abbrev pub IsInRange : AskedFor → Type 0
 IsInRange (translate ps k s m) = 1 ≤ k
 IsInRange (extend ps k s m) = 1 ≤ k
+IsInRange (blast ps k f) = (1 ≤ k) × (list_any is_rules ps ≡ false)
+IsInRange (unblast ps k s m) = (1 ≤ k) × (list_any is_rules ps ≡ false)
 IsInRange (demo seed size) = (1 ≤ size) × (size ≤ greatest_size)
 IsInRange _ = Unit {0}

@@ -8,10 +8,10 @@ use Rattle.smt_print.specs.declared.layout.Layout.{Layout}
 use Rattle.smt_print.specs.declared.layout.Layout.TheVariants.{Tree}
 use Rattle.passes.specs.declared.names.Pass.{Pass}
 use Rattle.passes.specs.declared.names.ListFault.{ListFault}
-use Rattle.passes.specs.Lists.{pass_list}
+use Rattle.passes.specs.Lists.{pass_list_of}
 use Rattle.smtrw_answers.specs.declared.status.Usage.{Usage}
 use Rattle.smtrw_answers.specs.declared.grammar.Name.{Name}
-use Rattle.smtrw_answers.specs.declared.grammar.Name.TheVariants.{Rewrite, Translate, Extend, Stats, Demo}
+use Rattle.smtrw_answers.specs.declared.grammar.Name.TheVariants.{Rewrite, Translate, Extend, Blast, Unblast, Stats, Demo}
 use Rattle.smtrw_answers.specs.declared.grammar.Setting.{Setting as CodeSetting}
 use Rattle.smtrw_answers.specs.declared.grammar.Setting.TheVariants.{Passes, Layout as LayoutOption, Check}
 use Rattle.smtrw_answers.specs.declared.grammar.Operands.{Operands}
@@ -19,7 +19,7 @@ use Rattle.smtrw_answers.specs.declared.grammar.Operands.TheVariants.{Absent, On
 use Rattle.smtrw_answers.specs.declared.grammar.Seen.{Seen}
 use Rattle.smtrw_answers.specs.declared.grammar.Plan.{Plan}
 use Rattle.smtrw_answers.specs.declared.grammar.Plan.TheVariants as plan
-use Rattle.smtrw_answers.specs.Words.{Word, Numbered, Command, rewriting, translating, extending, counting, demonstrating, needed, Setting, of_passes, of_layout, of_check, Given, number_in, is_from, is_up_to, greatest_size, layout_named, Asked, rewrite, translate, extend, stats, demo}
+use Rattle.smtrw_answers.specs.Words.{Word, Numbered, Command, rewriting, translating, extending, blasting, unblasting, counting, demonstrating, needed, Setting, of_passes, of_layout, of_check, takes_pass, Given, number_in, is_from, is_up_to, greatest_size, layout_named, Asked, rewrite, translate, extend, blast, unblast, stats, demo}
 
 -- ---- commands and options of the code
 
@@ -27,6 +27,8 @@ abbrev pub command_of : Name → Command
 command_of Rewrite = rewriting
 command_of Translate = translating
 command_of Extend = extending
+command_of Blast = blasting
+command_of Unblast = unblasting
 command_of Stats = counting
 command_of Demo = demonstrating
 
@@ -100,6 +102,8 @@ abbrev pub IsPlanOf : Asked → Plan → Type 0
 IsPlanOf (rewrite ps l f) p = p ≡ plan.Rewrite f.number
 IsPlanOf (translate ps k s m) p = p ≡ plan.Translate s.number m.number
 IsPlanOf (extend ps k s m) p = p ≡ plan.Extend s.number m.number
+IsPlanOf (blast ps k f) p = p ≡ plan.Blast f.number
+IsPlanOf (unblast ps k s m) p = p ≡ plan.Unblast s.number m.number
 IsPlanOf (stats f) p = p ≡ plan.Stats f.number
 IsPlanOf (demo seed size) p = p ≡ plan.Demo
 
@@ -110,10 +114,10 @@ EndFits _ _ = ⊥
 
 -- ---- values
 
--- the passes of an option's value; no passes where it isn't given
-abbrev pub passes_in : Option Word → Result (List Pass) ListFault
-passes_in None = Ok []
-passes_in (Some text) = pass_list text
+-- the passes of an option's value, by those that the command takes; no passes where it isn't given
+abbrev pub passes_in : Command → Option Word → Result (List Pass) ListFault
+passes_in c None = Ok []
+passes_in c (Some text) = pass_list_of (takes_pass c) text
 
 -- the layout of an option's value; trees where it isn't given
 abbrev pub layout_in : Option Word → Option Layout
@@ -135,6 +139,20 @@ check_in (Some number) = check_named number
 
 -- ---- what `clap` finds in words without a fault
 
+-- what is asked for, by the one command that asks for it
+abbrev pub IsAskedBy : Command → Asked → Type 0
+IsAskedBy c (rewrite ps l f) = c ≡ rewriting
+IsAskedBy c (translate ps k s m) = c ≡ translating
+IsAskedBy c (extend ps k s m) = c ≡ extending
+IsAskedBy c (blast ps k f) = c ≡ blasting
+IsAskedBy c (unblast ps k s m) = c ≡ unblasting
+IsAskedBy c (stats f) = c ≡ counting
+IsAskedBy c (demo seed size) = c ≡ demonstrating
+
+abbrev pub AsksBy : Command → Result Asked Usage → Type 0
+AsksBy c (Ok a) = IsAskedBy c a
+AsksBy c (Err u) = ⊥
+
 abbrev pub IsRewriting : Result Asked Usage → Type 0
 IsRewriting (Ok (rewrite ps l f)) = Unit {0}
 IsRewriting _ = ⊥
@@ -142,7 +160,12 @@ IsRewriting _ = ⊥
 abbrev pub IsCarrying : Result Asked Usage → Type 0
 IsCarrying (Ok (translate ps k s m)) = Unit {0}
 IsCarrying (Ok (extend ps k s m)) = Unit {0}
+IsCarrying (Ok (unblast ps k s m)) = Unit {0}
 IsCarrying _ = ⊥
+
+abbrev pub IsBlasting : Result Asked Usage → Type 0
+IsBlasting (Ok (blast ps k f)) = Unit {0}
+IsBlasting _ = ⊥
 
 abbrev pub IsCounting : Result Asked Usage → Type 0
 IsCounting (Ok (stats f)) = Unit {0}
@@ -154,22 +177,30 @@ IsDemonstrating _ = ⊥
 
 abbrev pub GivesRewriting : Result Asked Usage → Found → Type 0
 GivesRewriting (Ok (rewrite ps l f)) found =
-    (passes_in (first_value found (codes "passes")) ≡ Ok ps)
+    (passes_in rewriting (first_value found (codes "passes")) ≡ Ok ps)
     × (layout_in (first_value found (codes "layout")) ≡ Some l)
     × (first_value found (codes "file") ≡ Some f.word)
 GivesRewriting _ found = ⊥
 
-abbrev pub CarryingIn : List Pass → ℕ → Numbered → Numbered → Found → Type 0
-CarryingIn ps k s m found =
-    (passes_in (first_value found (codes "passes")) ≡ Ok ps)
+abbrev pub CarryingIn : Command → List Pass → ℕ → Numbered → Numbered → Found → Type 0
+CarryingIn c ps k s m found =
+    (passes_in c (first_value found (codes "passes")) ≡ Ok ps)
     × (check_in (first_value found (codes "check")) ≡ Some k)
     × (first_value found (codes "script") ≡ Some s.word)
     × (first_value found (codes "model") ≡ Some m.word)
 
 abbrev pub GivesCarrying : Result Asked Usage → Found → Type 0
-GivesCarrying (Ok (translate ps k s m)) found = CarryingIn ps k s m found
-GivesCarrying (Ok (extend ps k s m)) found = CarryingIn ps k s m found
+GivesCarrying (Ok (translate ps k s m)) found = CarryingIn translating ps k s m found
+GivesCarrying (Ok (extend ps k s m)) found = CarryingIn extending ps k s m found
+GivesCarrying (Ok (unblast ps k s m)) found = CarryingIn unblasting ps k s m found
 GivesCarrying _ found = ⊥
+
+abbrev pub GivesBlasting : Result Asked Usage → Found → Type 0
+GivesBlasting (Ok (blast ps k f)) found =
+    (passes_in blasting (first_value found (codes "passes")) ≡ Ok ps)
+    × (check_in (first_value found (codes "check")) ≡ Some k)
+    × (first_value found (codes "script") ≡ Some f.word)
+GivesBlasting _ found = ⊥
 
 abbrev pub GivesCounting : Result Asked Usage → Found → Type 0
 GivesCounting (Ok (stats f)) found = first_value found (codes "file") ≡ Some f.word

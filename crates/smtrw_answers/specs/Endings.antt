@@ -1,6 +1,6 @@
 -- How a run ends by its texts alone, where no device fails and memory is there: the first of these refusals, in this order,
--- or well. The script is read before the check's number is looked at, then come the passes, then the model's text, and last
--- the terms that have to be evaluated.
+-- or well. The script is read before the check's number is looked at, then come the passes, then the live terms that aren't ones
+-- over bits, then the model's text, and last the terms that have to be evaluated.
 use Rattle.std.specs.Prelude.{ℕ, nat_lt, if◌then◌else◌, List, length, Result, Ok, Err, Option, Some, None, option_map}
 use Rattle.smt_lex.specs.Lex.{Fault, bad_byte, bad_token, open_text, unbalanced}
 use Rattle.smt_terms.specs.Models.{Model}
@@ -16,8 +16,10 @@ use Rattle.passes.specs.Carry.{Stage, back_stages, forth_stages, too_wide, beyon
 use Rattle.smtrw_answers.specs.declared.status.Why.TheVariants.{NoSuchCheck}
 use Rattle.smtrw_answers.specs.declared.status.Status.{Status}
 use Rattle.smtrw_answers.specs.declared.status.Status.TheVariants.{Refused, Usage, ModelRefused, Beyond128, PassRefused}
-use Rattle.smtrw_answers.specs.Words.{Asked, rewrite, translate, extend, stats, demo}
-use Rattle.smtrw_answers.specs.Outputs.{commands, names_left}
+use Rattle.bit_scripts.specs.Scripts.{refused_root}
+use Rattle.smtrw_answers.specs.Words.{Asked, rewrite, translate, extend, blast, unblast, stats, demo}
+use Rattle.smtrw_answers.specs.Outputs.{commands, names_left, rewritten_commands}
+use Rattle.smtrw_answers.specs.Blasting.{lifted, signature_blasted}
 use Rattle.smtrw_answers.specs.Carrying.{signature_before, signature_behind}
 
 abbrev pub or_later : Option Status → Option Status → Option Status
@@ -61,6 +63,14 @@ check_end b k =
 abbrev pub passes_end : List ℕ → List Pass → Option Status
 passes_end b ps = option_map (λ i. PassRefused 50 i) (refused_assertion ps (commands b) (names_left b))
 
+-- a term that is live at the check behind the passes isn't one over bits
+abbrev pub bits_end : List ℕ → List Pass → ℕ → Option Status
+bits_end b ps k = option_map (λ i. PassRefused 90 i) (refused_root (rewritten_commands b ps) k)
+
+-- the passes, and then the bits
+abbrev pub blasting_end : List ℕ → List Pass → ℕ → Option Status
+blasting_end b ps k = or_later (passes_end b ps) (bits_end b ps k)
+
 -- ---- the model
 
 abbrev pub model_refusal_of : Unmodelled → Status
@@ -97,6 +107,20 @@ extend_end b ps k g =
     (or_later (passes_end b ps)
     (text_end g (model_end (forth_stages ps (commands b) (names_left b) k) (model_of g (signature_before b k))))))
 
+abbrev pub blast_end : List ℕ → List Pass → ℕ → Option Status
+blast_end b ps k = or_later (script_end b) (or_later (check_end b k) (blasting_end b ps k))
+
+-- the terms that are evaluated have their values in the lifted model
+abbrev pub unblast_stages : List ℕ → List Pass → ℕ → Model → List Stage
+unblast_stages b ps k m = back_stages ps (commands b) (names_left b) k (lifted b ps k m)
+
+abbrev pub unblast_end : List ℕ → List Pass → ℕ → List ℕ → Option Status
+unblast_end b ps k g =
+    or_later (script_end b)
+    (or_later (check_end b k)
+    (or_later (blasting_end b ps k)
+    (text_end g (model_end (unblast_stages b ps k) (model_of g (signature_blasted b ps k))))))
+
 abbrev pub stats_end : List ℕ → Option Status
 stats_end b = script_end b
 
@@ -105,5 +129,7 @@ abbrev pub end_of : Asked → List ℕ → List ℕ → Option Status
 end_of (rewrite passes layout script) b g = rewrite_end b passes
 end_of (translate passes check script model) b g = translate_end b passes check g
 end_of (extend passes check script model) b g = extend_end b passes check g
+end_of (blast passes check script) b g = blast_end b passes check
+end_of (unblast passes check script model) b g = unblast_end b passes check g
 end_of (stats script) b g = stats_end b
 end_of (demo seed size) b g = None

@@ -1,4 +1,4 @@
--- The statuses that faults of a script's or a model's text lead to, those of passes and of carrying a model.
+-- The statuses that faults of a script's or a model's text lead to, those of passes, of carrying a model and of blasting a check.
 use Rattle.smt_lex.specs.declared.faults.LexFault.{LexFault}
 use Rattle.smt_lex.specs.declared.faults.LexFault.TheVariants.{BadByte, BadToken, OpenText, Unbalanced, Memory}
 use Rattle.script_terms.specs.declared.faults.ScriptFault.{ScriptFault}
@@ -9,6 +9,8 @@ use Rattle.passes.specs.declared.carrying.CarryFault.{CarryFault}
 use Rattle.passes.specs.declared.carrying.CarryFault.TheVariants.{NoSuchCheck as CheckMissing, EvalWidth, Beyond128 as ValueBeyond, Memory as NoMemoryForCarrying}
 use Rattle.passes.specs.declared.running.PassFault.{PassFault}
 use Rattle.passes.specs.declared.running.PassFault.TheVariants.{QuantifiedUse, Memory as NoMemoryForPassing}
+use Rattle.bit_scripts.specs.declared.scripts.BlastScriptFault.{BlastScriptFault}
+use Rattle.bit_scripts.specs.declared.scripts.BlastScriptFault.TheVariants.{NotBits, Memory as NoMemoryForBits}
 use Rattle.smtrw_answers.specs.declared.status.Why.TheVariants.{NoSuchCheck}
 use Rattle.smtrw_answers.specs.declared.status.Status.{Status}
 use Rattle.smtrw_answers.specs.declared.status.Status.TheVariants.{Refused, Usage, OutOfMemory, ModelRefused, Beyond128, PassRefused}
@@ -54,3 +56,9 @@ status_of_carrying (CheckMissing check checks) = Usage (record { word = 0; why =
 status_of_carrying (EvalWidth assertion bits) = PassRefused 71 assertion
 status_of_carrying (ValueBeyond assertion node) = Beyond128 assertion
 status_of_carrying NoMemoryForCarrying = OutOfMemory
+
+-- ---- of blasting
+
+abbrev pub status_of_blasting : BlastScriptFault → Status
+status_of_blasting (NotBits assertion) = PassRefused 90 assertion
+status_of_blasting NoMemoryForBits = OutOfMemory

@@ -1,24 +1,25 @@
--- The statements of the laws of what is written: that rewriting keeps its promise, where one text alone may be written,
--- that carried models read back, and that what `demo` makes is read.
-use Rattle.std.specs.Prelude.{◌≡◌, ◌≤◌, ℕ, Bool, true, false, List, length, None, Ok, IsTrue}
+-- The statements of the laws of what is written: that rewriting and blasting keep their promises, where one text alone may be
+-- written, that carried models read back, and that what `demo` makes is read.
+use Rattle.std.specs.Prelude.{◌≡◌, ◌≤◌, ℕ, false, List, length, None, Ok, IsTrue}
 use Rattle.std.specs.List.{list_any}
 use Rattle.smt_terms.specs.Fresh.{Supply}
 use Rattle.smt_terms.specs.Models.{Model}
 use Rattle.smt_terms.specs.Sorts.{Name}
 use Rattle.smt_terms.specs.Term.{Term}
 use Rattle.rule_book.specs.EightRules.{all_eight}
-use Rattle.script_read.specs.Commands.{Command}
+use Rattle.script_read.specs.Commands.{Command, checks}
 use Rattle.script_read.specs.Script.{fault}
 use Rattle.model_texts.specs.ModelText.{model_of}
 use Rattle.smt_print.specs.declared.layout.Layout.{Layout}
 use Rattle.passes.specs.declared.names.Pass.{Pass}
 use Rattle.smt_print.specs.Text.{lines}
-use Rattle.passes.specs.declared.names.Pass.TheVariants.{Rules}
 use Rattle.passes.specs.Led.{Leads}
 use Rattle.passes.specs.Laws.{IsReady, AreEquivalent, CarriesModels}
+use Rattle.bit_scripts.specs.Scripts.{refused_root}
+use Rattle.smtrw_answers.specs.Blasting.{names_behind, blasted_text, signature_blasted, unblasted, unblasted_text, IsBlasting}
 use Rattle.smtrw_answers.specs.Carrying.{translated, extended, signature_before, signature_behind, translated_text, extended_text}
-use Rattle.smtrw_answers.specs.Endings.{longest_text, translate_end, extend_end}
-use Rattle.smtrw_answers.specs.Words.{greatest_size}
+use Rattle.smtrw_answers.specs.Endings.{longest_text, translate_end, extend_end, unblast_end}
+use Rattle.smtrw_answers.specs.Words.{greatest_size, is_rules}
 use Rattle.smtrw_answers.specs.Headline.{IsRewriting, are_equivalences}
 use Rattle.smtrw_answers.specs.Outputs.{commands, names_left, rewritten, rewritten_commands, MayBeWritten, demo_script}
 
@@ -30,10 +31,6 @@ RewritingKeepsItsPromise = (b : List ℕ) (ps : List Pass) (layout : Layout) (cs
     CarriesModels (commands b) cs (translated b ps) (extended b ps) → IsRewriting b ps (lines layout cs)
 
 -- a list without stored rules writes one text, whatever rules there are
-abbrev pub is_rules : Pass → Bool
-is_rules Rules = true
-is_rules _ = false
-
 abbrev pub WithoutRulesOneText : Type 0
 WithoutRulesOneText = (b w : List ℕ) (ps : List Pass) (rules : List Name) (layout : Layout) → list_any is_rules ps ≡ false → MayBeWritten b ps rules layout w → w ≡ rewritten b ps layout
 
@@ -54,6 +51,18 @@ TranslatedTextsReadBack = (b : List ℕ) (ps : List Pass) (k : ℕ) (g out : Lis
 abbrev pub ExtendedTextsReadBack : Type 0
 ExtendedTextsReadBack = (b : List ℕ) (ps : List Pass) (k : ℕ) (g out : List ℕ) (m : Model) → extend_end b ps k g ≡ None → model_of g (signature_before b k) ≡ Ok m → extended_text b ps k g ≡ Ok out
     → model_of out (signature_behind b ps k) ≡ Ok (extended b ps k m)
+
+-- of every accepted text, every list of passes and each of its checks, where the passes lead to commands that can be printed, whose
+-- live terms at the check are ones over bits, and carry models
+abbrev pub BlastingKeepsItsPromise : Type 0
+BlastingKeepsItsPromise = (b : List ℕ) (ps : List Pass) (k : ℕ) →
+    fault b ≡ None → 1 ≤ k → k ≤ checks (rewritten_commands b ps) → refused_root (rewritten_commands b ps) k ≡ None → IsReady (rewritten_commands b ps) (names_behind b ps) →
+    CarriesModels (commands b) (rewritten_commands b ps) (translated b ps) (extended b ps) → IsBlasting b ps k (blasted_text b ps k)
+
+-- where `unblast` ends well, what it writes reads back as the model that was carried, over what is declared in the script
+abbrev pub UnblastedTextsReadBack : Type 0
+UnblastedTextsReadBack = (b : List ℕ) (ps : List Pass) (k : ℕ) (g out : List ℕ) (m : Model) → 1 ≤ k → unblast_end b ps k g ≡ None → model_of g (signature_blasted b ps k) ≡ Ok m → unblasted_text b ps k g ≡ Ok out
+    → model_of out (signature_before b k) ≡ Ok (unblasted b ps k m)
 
 -- the script of a demonstration of one step or more is accepted
 abbrev pub DemoScriptsAreAccepted : Type 0

@@ -1,5 +1,6 @@
 pub mod Words
 pub mod Asking
+pub mod Blasting
 pub mod Asked
 pub mod Said
 pub mod Answers

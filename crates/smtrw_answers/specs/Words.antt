@@ -1,12 +1,13 @@
 -- The words of the program: a command's name, and behind it its options and its file names or numbers, in any order. The
 -- words are read from the left, and the first fault counts.
-use Rattle.std.specs.Prelude.{ℕ, suc, Bool, false, not, ◌&&◌, nat_eq, nat_le, if◌then◌else◌, List, [], ◌∷◌, ◌++◌, length, drop, codes, bytes_eq, Result, Ok, Err, Option, Some, None, is_some}
+use Rattle.std.specs.Prelude.{ℕ, suc, Bool, true, false, not, ◌&&◌, nat_eq, nat_le, if◌then◌else◌, List, [], ◌∷◌, ◌++◌, length, drop, codes, bytes_eq, Result, Ok, Err, Option, Some, None, is_some}
 use Rattle.std.specs.List.{list_any, starts_with}
 use Rattle.std.specs.Str.Parse.{digits_value}
 use Rattle.smt_lex.specs.Lexicon.{is_numeral}
 use Rattle.smt_print.specs.declared.layout.Layout.{Layout}
 use Rattle.smt_print.specs.declared.layout.Layout.TheVariants.{Tree, Dag}
 use Rattle.passes.specs.declared.names.Pass.{Pass}
+use Rattle.passes.specs.declared.names.Pass.TheVariants.{Rules}
 use Rattle.passes.specs.declared.names.ListFault.{ListFault}
 use Rattle.passes.specs.declared.names.ListFault.TheVariants.{BadPass as UnknownPass, AfterRules as GroupsAfterRules}
 use Rattle.passes.specs.Lists.{pass_list_of, any_pass}
@@ -32,6 +33,8 @@ pub data Command : Type 0 where
   rewriting : Command
   translating : Command
   extending : Command
+  blasting : Command
+  unblasting : Command
   counting : Command
   demonstrating : Command
 
@@ -40,6 +43,8 @@ command_names =
     (codes "rewrite", rewriting)
     ∷ (codes "translate", translating)
     ∷ (codes "extend", extending)
+    ∷ (codes "blast", blasting)
+    ∷ (codes "unblast", unblasting)
     ∷ (codes "stats", counting)
     ∷ (codes "demo", demonstrating)
     ∷ []
@@ -56,6 +61,8 @@ abbrev pub needed : Command → ℕ
 needed rewriting = 1
 needed translating = 2
 needed extending = 2
+needed blasting = 1
+needed unblasting = 2
 needed counting = 1
 needed demonstrating = 2
 
@@ -70,8 +77,20 @@ abbrev pub settings_of : Command → List (Word × Setting)
 settings_of rewriting = (codes "--passes", of_passes) ∷ (codes "--layout", of_layout) ∷ []
 settings_of translating = (codes "--passes", of_passes) ∷ (codes "--check", of_check) ∷ []
 settings_of extending = (codes "--passes", of_passes) ∷ (codes "--check", of_check) ∷ []
+settings_of blasting = (codes "--passes", of_passes) ∷ (codes "--check", of_check) ∷ []
+settings_of unblasting = (codes "--passes", of_passes) ∷ (codes "--check", of_check) ∷ []
 settings_of counting = []
 settings_of demonstrating = []
+
+abbrev pub is_rules : Pass → Bool
+is_rules Rules = true
+is_rules _ = false
+
+-- the passes that may stand in the list of a command: what is made of bits is the definitions' alone, so no stored rules
+abbrev pub takes_pass : Command → Pass → Bool
+takes_pass blasting p = not (is_rules p)
+takes_pass unblasting p = not (is_rules p)
+takes_pass c p = any_pass p
 
 -- the option that a word is, with its value where the word holds it, as `--name=value` does
 abbrev pub setting_among : List (Word × Setting) → Word → Option (Setting × Option Word)
@@ -203,6 +222,10 @@ pub data Asked : Type 0 where
   -- passes, the check's number, the script and the model
   translate : List Pass → ℕ → Numbered → Numbered → Asked
   extend : List Pass → ℕ → Numbered → Numbered → Asked
+  -- passes, the check's number and the script
+  blast : List Pass → ℕ → Numbered → Asked
+  -- passes, the check's number, the script and the model
+  unblast : List Pass → ℕ → Numbered → Numbered → Asked
   stats : Numbered → Asked
   -- seed and size
   demo : ℕ → ℕ → Asked
@@ -221,6 +244,8 @@ abbrev pub asked_with : Command → Given → List Numbered → Option Asked
 asked_with rewriting g (f ∷ []) = Some (rewrite (passes_of g) (layout_of g) f)
 asked_with translating g (s ∷ m ∷ []) = Some (translate (passes_of g) (check_of g) s m)
 asked_with extending g (s ∷ m ∷ []) = Some (extend (passes_of g) (check_of g) s m)
+asked_with blasting g (f ∷ []) = Some (blast (passes_of g) (check_of g) f)
+asked_with unblasting g (s ∷ m ∷ []) = Some (unblast (passes_of g) (check_of g) s m)
 asked_with counting g (f ∷ []) = Some (stats f)
 asked_with demonstrating g (s ∷ n ∷ []) = Some (demo (digits_value 10 s.word) (digits_value 10 n.word))
 asked_with c g fs = None
@@ -238,6 +263,8 @@ abbrev pub source_of : Asked → Source
 source_of (rewrite passes layout file) = of_file file
 source_of (translate passes check file model) = of_file file
 source_of (extend passes check file model) = of_file file
+source_of (blast passes check file) = of_file file
+source_of (unblast passes check file model) = of_file file
 source_of (stats file) = of_file file
 source_of (demo seed size) = drawn seed size
 
@@ -245,6 +272,7 @@ source_of (demo seed size) = drawn seed size
 abbrev pub model_file_of : Asked → Option Numbered
 model_file_of (translate passes check file model) = Some model
 model_file_of (extend passes check file model) = Some model
+model_file_of (unblast passes check file model) = Some model
 model_file_of _ = None
 
 -- behind the last word: nothing is awaited, and there are as many words as the command takes
@@ -252,11 +280,11 @@ abbrev pub at_end : Command → ℕ → Given → Option Setting → Result Aske
 at_end c i g (Some s) = at i Missing
 at_end c i g None = asked_or_missing i (asked_with c g g.plain)
 
-abbrev pub asked_of : (Pass → Bool) → Option Command → List Word → Result Asked Usage
-asked_of runs None ws = at 1 UnknownCommand
-asked_of runs (Some c) ws = and_then (λ g. at_end c (suc (suc (length ws))) g g.awaited) (words_from runs c 2 ws nothing_given)
+abbrev pub asked_of : Option Command → List Word → Result Asked Usage
+asked_of None ws = at 1 UnknownCommand
+asked_of (Some c) ws = and_then (λ g. at_end c (suc (suc (length ws))) g g.awaited) (words_from (takes_pass c) c 2 ws nothing_given)
 
 -- what the words ask for, or their first fault
 abbrev pub asked : List Word → Result Asked Usage
 asked [] = at 1 Missing
-asked (w ∷ ws) = asked_of any_pass (command_named w) ws
+asked (w ∷ ws) = asked_of (command_named w) ws

@@ -1,10 +1,11 @@
 //! The statuses that end a run before anything is written, by what was met on the way.
 
 ghost use Rattle.std.specs.Prelude.{◌≡◌};
-ghost use Rattle.smtrw_answers.specs.Faults.{status_of_carrying, status_of_lexing, status_of_model, status_of_model_lexing, status_of_passing, status_of_reading};
+ghost use Rattle.smtrw_answers.specs.Faults.{status_of_blasting, status_of_carrying, status_of_lexing, status_of_model, status_of_model_lexing, status_of_passing, status_of_reading};
 ghost use Rattle.smtrw_answers.specs.declared.status.Status.TheVariants.{OutOfMemory};
 
 use crate::status::{Status, Usage, Why};
+use bit_scripts::BlastScriptFault;
 use model_texts::ModelFault;
 use passes::{CarryFault, PassFault};
 use script_read::{Refusal, ScriptFault};
@@ -118,6 +119,20 @@ impl From<CarryFault> for Status {
             },
             CarryFault::Beyond128 { assertion, .. } => Status::Beyond128 { assertion },
             CarryFault::Memory => Status::OutOfMemory,
+        }
+    }
+}
+
+impl From<BlastScriptFault> for Status {
+    ghost from_gives = { λ fault status. status ≡ status_of_blasting fault };
+
+    fn from(fault: BlastScriptFault) -> Status {
+        match fault {
+            BlastScriptFault::NotBits { assertion } => Status::PassRefused {
+                code: 90,
+                assertion,
+            },
+            BlastScriptFault::Memory => Status::OutOfMemory,
         }
     }
 }

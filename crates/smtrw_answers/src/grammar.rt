@@ -1,12 +1,13 @@
 //! The grammar of the program's words: their first fault, met from the left, or what they name.
 
-ghost use Rattle.std.specs.Prelude.{◌≡◌, List, [], ◌∷◌, ◌++◌, false, None, codes, map, nat_le, option_map, string_bytes};
-ghost use Rattle.passes.specs.Lists.{any_pass};
-ghost use Rattle.smtrw_answers.specs.Words.{asked, at_end as end_of, command_named, file_word, is_dashed, is_number_for, layout_named, needed, number_in, number_word, of_check, of_layout, of_passes, option_word, plain_word, setting_among, settings_of, value_word, with_value, word_behind, Given as WordsGiven, Numbered};
+ghost use Rattle.std.specs.Prelude.{◌≡◌, List, [], ◌∷◌, ◌++◌, false, None, Some, codes, map, nat_le, option_map, string_bytes};
+ghost use Rattle.std.specs.List.{list_any};
+ghost use Rattle.passes.specs.Lists.{pass_list_of};
+ghost use Rattle.smtrw_answers.specs.Words.{asked, at_end as end_of, blasting, command_named, file_word, is_dashed, is_number_for, is_rules, layout_named, needed, number_in, number_word, of_check, of_layout, of_passes, option_word, plain_word, setting_among, settings_of, takes_pass, translating, value_word, with_value, word_behind, Given as WordsGiven, Numbered};
 ghost use Rattle.smtrw_answers.specs.Asking.{Agrees, EndFits, HasOperands, StepFits, TakesOperand, check_named, command_of, has_setting, option_seen, setting_of, size_named};
 
 use crate::status::{Usage, Why};
-use passes::{ListFault, parse_list};
+use passes::{ListFault, Pass, Passes, parse_list};
 use smt_lex::is_numeral;
 use smt_print::Layout;
 
@@ -18,10 +19,12 @@ const GREATEST_SIZE: u64 = 10_000;
 
 /// A command that the program has.
 #[derive(Clone, Copy)]
-enum Name {
+pub(crate) enum Name {
     Rewrite,
     Translate,
     Extend,
+    Blast,
+    Unblast,
     Stats,
     Demo,
 }
@@ -31,7 +34,25 @@ impl Name {
     fn takes_two(self) -> bool
         ensures { result ≡ nat_le 2 (needed (command_of self)) }
     {
-        matches!(self, Name::Translate | Name::Extend | Name::Demo)
+        matches!(
+            self,
+            Name::Translate | Name::Extend | Name::Unblast | Name::Demo
+        )
+    }
+
+    /// The word that names the command.
+    pub(crate) fn word(self) -> &'static str
+        ensures { command_named result.now ≡ Some (command_of self) }
+    {
+        match self {
+            Name::Rewrite => "rewrite",
+            Name::Translate => "translate",
+            Name::Extend => "extend",
+            Name::Blast => "blast",
+            Name::Unblast => "unblast",
+            Name::Stats => "stats",
+            Name::Demo => "demo",
+        }
     }
 }
 
@@ -100,6 +121,8 @@ pub(crate) enum Plan {
     Rewrite { file: u32 },
     Translate { script: u32, model: u32 },
     Extend { script: u32, model: u32 },
+    Blast { script: u32 },
+    Unblast { script: u32, model: u32 },
     Stats { file: u32 },
     Demo,
 }
@@ -147,6 +170,10 @@ fn command_of_word(word: &str) -> Option<Name>
         Some(Name::Translate)
     } else if word == "extend" {
         Some(Name::Extend)
+    } else if word == "blast" {
+        Some(Name::Blast)
+    } else if word == "unblast" {
+        Some(Name::Unblast)
     } else if word == "stats" {
         Some(Name::Stats)
     } else if word == "demo" {
@@ -159,10 +186,10 @@ fn command_of_word(word: &str) -> Option<Name>
 /// What is seen behind one more word.
 fn word_met(command: Name, seen: Seen, number: u32, word: &str) -> Result<Seen, Usage>
     ensures { (g : WordsGiven) → Agrees seen g
-        → StepFits seen result (word_behind any_pass (command_of command) number word.now g g.awaited) }
+        → StepFits seen result (word_behind (takes_pass (command_of command)) (command_of command) number word.now g g.awaited) }
 {
     match seen.awaited {
-        Some(setting) => value_met(setting, seen, number, word),
+        Some(setting) => value_met(command, setting, seen, number, word),
         None if is_option(word) => option_met(command, seen, number, word),
         None => operand_met(command, seen, number, word),
     }
@@ -176,23 +203,35 @@ fn is_option(word: &str) -> bool
 }
 
 /// The value of an option, in a word of its own.
-fn value_met(setting: Setting, seen: Seen, number: u32, word: &str) -> Result<Seen, Usage>
+fn value_met(
+    command: Name,
+    setting: Setting,
+    seen: Seen,
+    number: u32,
+    word: &str,
+) -> Result<Seen, Usage>
     ensures { (g : WordsGiven) → Agrees seen g → has_setting setting seen ≡ false
-        → StepFits seen result (value_word any_pass number (setting_of setting) word.now g) }
+        → StepFits seen result (value_word (takes_pass (command_of command)) number (setting_of setting) word.now g) }
 {
     if is_option(word) {
         return Err(fault(number, Why::BadValue));
     }
-    value_given(setting, seen, number, word)
+    value_given(command, setting, seen, number, word)
 }
 
 /// The value of an option.
-fn value_given(setting: Setting, seen: Seen, number: u32, value: &str) -> Result<Seen, Usage>
+fn value_given(
+    command: Name,
+    setting: Setting,
+    seen: Seen,
+    number: u32,
+    value: &str,
+) -> Result<Seen, Usage>
     ensures { (g : WordsGiven) → Agrees seen g → has_setting setting seen ≡ false
-        → StepFits seen result (with_value any_pass number (setting_of setting) value.now g) }
+        → StepFits seen result (with_value (takes_pass (command_of command)) number (setting_of setting) value.now g) }
 {
     match setting {
-        Setting::Passes => match parse_list(value) {
+        Setting::Passes => match list_for(command, value) {
             Ok(_) => Ok(Seen {
                 passes: true,
                 awaited: None,
@@ -218,6 +257,47 @@ fn value_given(setting: Setting, seen: Seen, number: u32, value: &str) -> Result
             None => Err(fault(number, Why::BadValue)),
         },
     }
+}
+
+/// The passes of a list, by those that the command takes: stored rules may not stand in the list of one that works on bits.
+pub(crate) fn list_for(command: Name, list: &str) -> Result<Passes, ListFault>
+    ensures { result ≡ pass_list_of (takes_pass (command_of command)) list.now }
+{
+    match command {
+        Name::Blast | Name::Unblast => list_without_rules(list),
+        _ => parse_list(list),
+    }
+}
+
+/// The passes of a list in which stored rules may not stand.
+fn list_without_rules(list: &str) -> Result<Passes, ListFault>
+    ensures { result ≡ pass_list_of (takes_pass blasting) list.now }
+{
+    let Ok(passes) = parse_list(list) else {
+        return Err(ListFault::BadPass);
+    };
+    if has_rules(&passes) {
+        return Err(ListFault::BadPass);
+    }
+    Ok(passes)
+}
+
+/// Whether stored rules are among the passes.
+fn has_rules(passes: &Passes) -> bool
+    ensures { result ≡ list_any is_rules passes.now }
+{
+    for i in 0..passes.len() {
+        if is_rules(passes.pass(i)) {
+            return true;
+        }
+    }
+    false
+}
+
+fn is_rules(pass: Pass) -> bool
+    ensures { result ≡ is_rules pass }
+{
+    matches!(pass, Pass::Rules)
 }
 
 /// The layout of this name.
@@ -263,7 +343,7 @@ pub(crate) fn number_of_word(word: &str) -> Option<u64>
 /// A word that begins with `-`, where no value is awaited.
 fn option_met(command: Name, seen: Seen, number: u32, word: &str) -> Result<Seen, Usage>
     ensures { (g : WordsGiven) → Agrees seen g → g.awaited ≡ None
-        → StepFits seen result (option_word any_pass number (setting_among (settings_of (command_of command)) word.now) g) }
+        → StepFits seen result (option_word (takes_pass (command_of command)) number (setting_among (settings_of (command_of command)) word.now) g) }
 {
     match option_in(command, word) {
         None => Err(fault(number, Why::BadOption)),
@@ -272,7 +352,7 @@ fn option_met(command: Name, seen: Seen, number: u32, word: &str) -> Result<Seen
             awaited: Some(setting),
             ..seen
         }),
-        Some((setting, Some(value))) => value_given(setting, seen, number, value),
+        Some((setting, Some(value))) => value_given(command, setting, seen, number, value),
     }
 }
 
@@ -282,9 +362,16 @@ fn option_in(command: Name, word: &str) -> Option<(Setting, Option<&str>)>
 {
     match command {
         Name::Rewrite => passes_option(word).or(layout_option(word)),
-        Name::Translate | Name::Extend => passes_option(word).or(check_option(word)),
+        Name::Translate | Name::Extend | Name::Blast | Name::Unblast => option_for_check(word),
         Name::Stats | Name::Demo => None,
     }
+}
+
+/// The option of a command that looks at one check.
+fn option_for_check(word: &str) -> Option<(Setting, Option<&str>)>
+    ensures { option_map option_seen result ≡ setting_among (settings_of translating) word.now }
+{
+    passes_option(word).or(check_option(word))
 }
 
 fn passes_option(word: &str) -> Option<(Setting, Option<&str>)>
@@ -385,6 +472,8 @@ fn at_end(command: Name, seen: Seen, number: u32) -> Result<Plan, Usage>
         (Name::Rewrite, Operands::One(file)) => Ok(Plan::Rewrite { file }),
         (Name::Translate, Operands::Two(script, model)) => Ok(Plan::Translate { script, model }),
         (Name::Extend, Operands::Two(script, model)) => Ok(Plan::Extend { script, model }),
+        (Name::Blast, Operands::One(script)) => Ok(Plan::Blast { script }),
+        (Name::Unblast, Operands::Two(script, model)) => Ok(Plan::Unblast { script, model }),
         (Name::Stats, Operands::One(file)) => Ok(Plan::Stats { file }),
         (Name::Demo, Operands::Two(_, _)) => Ok(Plan::Demo),
         _ => Err(fault(number, Why::Missing)),

@@ -7,10 +7,13 @@ ghost use Rattle.smtrw_answers.specs.Laws.{
   EightWriteOneText,
   TranslatedTextsReadBack,
   ExtendedTextsReadBack,
+  BlastingKeepsItsPromise,
+  UnblastedTextsReadBack,
   DemoScriptsAreAccepted,
   DemoScriptsAreShort,
 };
 
+use bit_scripts::laws::scripts_are_blasted;
 use model_texts::laws::{
     printable_signatures_are_proper, printable_signatures_are_writable, printed_models_read_back,
 };
@@ -66,6 +69,35 @@ pub fn carried_texts_read_back()
     printable_signatures_are_proper();
     printable_signatures_are_writable();
     printed_models_read_back();
+}
+
+/// What `blast` writes of an accepted text, where it ends well, is an accepted text with one check that has no sort but Bool; every
+/// model of it, carried back, is a model of the text at the check, and every model of the text there, carried forth, is a model of it.
+pub fn blasting_keeps_its_promise()
+    ensures { BlastingKeepsItsPromise }
+{
+    reading_answers();
+    terms_and_forms_agree();
+    reading_keeps_meaning();
+    printing_reads_back();
+    scripts_are_blasted();
+}
+
+/// Where `unblast` ends well, what it writes reads back as the model that was carried, over what is declared at the check.
+pub fn unblasted_texts_read_back()
+    ensures { UnblastedTextsReadBack }
+{
+    reading_answers();
+    reading_gives_a_printable_script();
+    names_left_are_new();
+    passes_keep_commands();
+    passes_leave_models();
+    groups_carry_models();
+    removals_carry_models();
+    printable_signatures_are_proper();
+    printable_signatures_are_writable();
+    printed_models_read_back();
+    scripts_are_blasted();
 }
 
 /// The script of a demonstration is accepted and no longer than a script may be.

@@ -255,6 +255,7 @@ fn cause_name_of(code: u16) -> &'static str
         63 => "ModelNumber",
         64 => "ModelTwice",
         71 => "EvalWidth",
+        90 => "NotBits",
         _ => "",
     }
 }

@@ -3,7 +3,7 @@
 ghost use Rattle.std.specs.Prelude.{◌≡◌, map, string_bytes, IfOk, IfErr};
 ghost use Rattle.clap.specs.Words.{found_of, kind_of};
 ghost use Rattle.smtrw_answers.specs.Words.{asked};
-ghost use Rattle.smtrw_answers.specs.Asking.{IsRewriting, IsCarrying, IsCounting, IsDemonstrating, GivesRewriting, GivesCarrying, GivesCounting, GivesDemonstrating};
+ghost use Rattle.smtrw_answers.specs.Asking.{IsRewriting, IsCarrying, IsBlasting, IsCounting, IsDemonstrating, GivesRewriting, GivesCarrying, GivesBlasting, GivesCounting, GivesDemonstrating};
 
 use clap::error::ErrorKind;
 use clap::{Arg, ArgMatches, Command, Error};
@@ -29,7 +29,7 @@ pub(crate) fn rewrite_matches<'a>(
     command.try_get_matches_from(words)
 }
 
-/// The values of the words of `translate` or `extend`.
+/// The values of the words of `translate`, `extend` or `unblast`.
 pub(crate) fn carry_matches<'a>(
     alloc: Global,
     name: &'a str,
@@ -49,6 +49,23 @@ pub(crate) fn carry_matches<'a>(
         .arg(check)?
         .arg(script)?
         .arg(model)?;
+    command.try_get_matches_from(words)
+}
+
+/// The values of the words of `blast`.
+pub(crate) fn blast_matches<'a>(alloc: Global, words: &'a [String]) -> Result<ArgMatches<'a>, Error>
+    requires { IsBlasting (asked (map string_bytes words.now)) }
+    ensures values { IfOk result (λ m. GivesBlasting (asked (map string_bytes words.entry.now)) (found_of m)) }
+    ensures memory { IfErr result (λ e. kind_of e ≡ ErrorKind.OutOfMemory) }
+{
+    let passes = Arg::new(alloc, "passes").long("passes");
+    let check = Arg::new(alloc, "check").long("check");
+    let script = Arg::new(alloc, "script");
+    let command = Command::new(alloc, "blast")
+        .disable_help_flag(true)
+        .arg(passes)?
+        .arg(check)?
+        .arg(script)?;
     command.try_get_matches_from(words)
 }
 

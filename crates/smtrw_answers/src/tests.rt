@@ -23,7 +23,7 @@ fn has_fault(alloc: Global, line: &str, fault: Usage) -> Result<bool, AllocError
     }
 }
 
-const FAULTS: [(&str, u32, Why); 33] = [
+const FAULTS: [(&str, u32, Why); 40] = [
     ("rewrite", 2, Why::Missing),
     ("show 1 2", 1, Why::UnknownCommand),
     ("rewrite a --check=1", 3, Why::BadOption),
@@ -51,6 +51,13 @@ const FAULTS: [(&str, u32, Why); 33] = [
     ("extend - a -", 4, Why::Extra),
     ("extend --passes foo a b", 3, Why::BadPass),
     ("translate --passes=rules,ackermann a b", 2, Why::AfterRules),
+    ("blast --passes rules -", 3, Why::BadPass),
+    ("blast --layout dag -", 2, Why::BadOption),
+    ("blast a b", 3, Why::Extra),
+    ("blast --check=0 a", 2, Why::BadValue),
+    ("unblast --passes=rules,cnf s m", 2, Why::BadPass),
+    ("unblast - -", 3, Why::TwoInputs),
+    ("unblast s", 3, Why::Missing),
     ("demo 5", 3, Why::Missing),
     ("demo 1 0", 3, Why::BadValue),
     ("demo 1 10001", 3, Why::BadValue),
@@ -131,9 +138,9 @@ fn rewrites(rt: HostRuntime) -> Result<(), Fail> {
     Ok(())
 }
 
-/// What a line of `translate` or `extend` asks for.
+/// What a line of `translate`, `extend` or `unblast` asks for.
 struct Carry {
-    extends: bool,
+    command: &'static str,
     passes: usize,
     check: u64,
     script: (u32, &'static str),
@@ -142,7 +149,7 @@ struct Carry {
 
 fn asks_to_carry(alloc: Global, line: &str, carry: &Carry) -> Result<bool, AllocError> {
     let words = words_of(alloc, line)?;
-    let (extends, count, check, script, model) = match parse_words(alloc, words.as_slice()) {
+    let (command, count, check, script, model) = match parse_words(alloc, words.as_slice()) {
         Ok(
             Asked::Translate {
                 passes,
@@ -150,7 +157,7 @@ fn asks_to_carry(alloc: Global, line: &str, carry: &Carry) -> Result<bool, Alloc
                 script,
                 model,
             },
-        ) => (false, passes.len(), check, script, model),
+        ) => ("translate", passes.len(), check, script, model),
         Ok(
             Asked::Extend {
                 passes,
@@ -158,11 +165,19 @@ fn asks_to_carry(alloc: Global, line: &str, carry: &Carry) -> Result<bool, Alloc
                 script,
                 model,
             },
-        ) => (true, passes.len(), check, script, model),
+        ) => ("extend", passes.len(), check, script, model),
+        Ok(
+            Asked::Unblast {
+                passes,
+                check,
+                script,
+                model,
+            },
+        ) => ("unblast", passes.len(), check, script, model),
         _ => return Ok(false),
     };
     Ok(
-        extends == carry.extends
+        command == carry.command
             && count == carry.passes
             && check == carry.check
             && (script.word, script.name) == carry.script
@@ -170,11 +185,11 @@ fn asks_to_carry(alloc: Global, line: &str, carry: &Carry) -> Result<bool, Alloc
     )
 }
 
-const CARRIES: [(&str, Carry); 4] = [
+const CARRIES: [(&str, Carry); 5] = [
     (
         "translate a -",
         Carry {
-            extends: false,
+            command: "translate",
             passes: 0,
             check: 1,
             script: (2, "a"),
@@ -184,7 +199,7 @@ const CARRIES: [(&str, Carry); 4] = [
     (
         "translate --check 12 a --passes ite,cnf,rules a",
         Carry {
-            extends: false,
+            command: "translate",
             passes: 3,
             check: 12,
             script: (4, "a"),
@@ -194,7 +209,7 @@ const CARRIES: [(&str, Carry); 4] = [
     (
         "extend - m --check=2",
         Carry {
-            extends: true,
+            command: "extend",
             passes: 0,
             check: 2,
             script: (2, "-"),
@@ -204,11 +219,21 @@ const CARRIES: [(&str, Carry); 4] = [
     (
         "extend --passes=nnf a.smt2 --check 999999999999999999 b",
         Carry {
-            extends: true,
+            command: "extend",
             passes: 1,
             check: 999_999_999_999_999_999,
             script: (3, "a.smt2"),
             model: (6, "b"),
+        },
+    ),
+    (
+        "unblast a - --passes=simplify,ite --check 3",
+        Carry {
+            command: "unblast",
+            passes: 2,
+            check: 3,
+            script: (2, "a"),
+            model: (3, "-"),
         },
     ),
 ];
@@ -217,6 +242,46 @@ const CARRIES: [(&str, Carry); 4] = [
 fn carried_models(rt: HostRuntime) -> Result<(), Fail> {
     for (line, carry) in &CARRIES {
         assert!(rt; asks_to_carry(rt.alloc(), line, carry)?, "{line}");
+    }
+    Ok(())
+}
+
+/// Whether a line asks for so many passes and a check of a file over bits, which is its word of this number.
+fn asks_to_blast(
+    alloc: Global,
+    line: &str,
+    count: usize,
+    check: u64,
+    number: u32,
+    name: &str,
+) -> Result<bool, AllocError> {
+    let words = words_of(alloc, line)?;
+    match parse_words(alloc, words.as_slice()) {
+        Ok(
+            Asked::Blast {
+                passes,
+                check: found,
+                script,
+            },
+        ) => Ok(
+            passes.len() == count && found == check && script.word == number && script.name == name,
+        ),
+        _ => Ok(false),
+    }
+}
+
+const BLASTS: [(&str, usize, u64, u32, &str); 2] = [
+    ("blast -", 0, 1, 2, "-"),
+    ("blast --check 2 --passes=simplify,ite a", 2, 2, 5, "a"),
+];
+
+#[test]
+fn blasts(rt: HostRuntime) -> Result<(), Fail> {
+    for (line, count, check, number, name) in &BLASTS {
+        assert!(rt;
+            asks_to_blast(rt.alloc(), line, *count, *check, *number, name)?,
+            "{line}"
+        );
     }
     Ok(())
 }

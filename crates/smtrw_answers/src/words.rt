@@ -5,14 +5,16 @@
 
 ghost use Rattle.std.specs.Prelude.{◌≡◌, map, option_map, string_bytes, Ok};
 ghost use Rattle.smtrw_answers.specs.Words.{asked as asked_for};
-ghost use Rattle.smtrw_answers.specs.Asking.{EndFits, check_in, layout_in, number_of, passes_in};
+ghost use Rattle.smtrw_answers.specs.Asking.{AsksBy, EndFits, check_in, command_of, layout_in, number_of, passes_in};
 ghost use Rattle.smtrw_answers.specs.Asked.{Answers, CarriesFiles, GivesCarried};
 ghost use Rattle.smtrw_answers.specs.declared.grammar.Plan.TheVariants as a_plan;
 
-use crate::grammar::{Plan, check_of_word, layout_of_word, number_of_word, plan_of};
-use crate::matches::{carry_matches, demo_matches, rewrite_matches, stats_matches};
+use crate::grammar::{
+    Name, Plan, check_of_word, layout_of_word, list_for, number_of_word, plan_of,
+};
+use crate::matches::{blast_matches, carry_matches, demo_matches, rewrite_matches, stats_matches};
 use crate::status::Usage;
-use passes::{ListFault, Passes, parse_list};
+use passes::{ListFault, Passes};
 use smt_print::Layout;
 use std::alloc::Global;
 use thiserror::Error;
@@ -51,6 +53,21 @@ pub enum Asked<'a> {
         script: File<'a>,
         model: File<'a>,
     },
+    /// `blast`: a check of the script behind the passes as a script of its own, over truth values alone. Without the options
+    /// there are no passes, and the check is the first. Stored rules may not stand among the passes.
+    Blast {
+        passes: Passes,
+        check: u64,
+        script: File<'a>,
+    },
+    /// `unblast`: the model of what `blast` makes of a check of the script, as one of the script. Without the options there are
+    /// no passes, and the check is the first. Stored rules may not stand among the passes.
+    Unblast {
+        passes: Passes,
+        check: u64,
+        script: File<'a>,
+        model: File<'a>,
+    },
     /// `stats`: the numbers of a script.
     Stats {
         file: File<'a>,
@@ -83,6 +100,8 @@ impl<'a> Asked<'a> {
             Asked::Rewrite { file, .. } => Source::File(*file),
             Asked::Translate { script, .. } => Source::File(*script),
             Asked::Extend { script, .. } => Source::File(*script),
+            Asked::Blast { script, .. } => Source::File(*script),
+            Asked::Unblast { script, .. } => Source::File(*script),
             Asked::Stats { file } => Source::File(*file),
             Asked::Demo { seed, size } => Source::Drawn {
                 seed: *seed,
@@ -92,7 +111,7 @@ impl<'a> Asked<'a> {
     }
 }
 
-/// What the words of `translate` and `extend` have in common.
+/// What the words of `translate`, `extend` and `unblast` have in common.
 #[derive(Drop)]
 struct Carried<'a> {
     passes: Passes,
@@ -122,6 +141,8 @@ pub fn parse_words<'a>(alloc: Global, words: &'a [String]) -> Result<Asked<'a>, 
         Ok(Plan::Rewrite { file }) => rewrite(alloc, words, file),
         Ok(Plan::Translate { script, model }) => translate(alloc, words, script, model),
         Ok(Plan::Extend { script, model }) => extend(alloc, words, script, model),
+        Ok(Plan::Blast { script }) => blast(alloc, words, script),
+        Ok(Plan::Unblast { script, model }) => unblast(alloc, words, script, model),
         Ok(Plan::Stats { file }) => stats(alloc, words, file),
         Ok(Plan::Demo) => demo(alloc, words),
     }
@@ -134,7 +155,7 @@ fn rewrite<'a>(alloc: Global, words: &'a [String], word: u32) -> Result<Asked<'a
     let Ok(matches) = rewrite_matches(alloc, words) else {
         return Err(WordsFault::Memory);
     };
-    let Ok(passes) = passes_of(matches.get_str("passes")) else {
+    let Ok(passes) = passes_of(Name::Rewrite, matches.get_str("passes")) else {
         unreachable!()
     };
     let Some(layout) = layout_of(matches.get_str("layout")) else {
@@ -159,7 +180,7 @@ fn translate<'a>(
     requires { EndFits (Ok (a_plan.Translate script model)) (asked_for (map string_bytes words.now)) }
     ensures { Answers (asked_for (map string_bytes words.entry.now)) result }
 {
-    let carried = carry_values(alloc, "translate", words, script, model)?;
+    let carried = carry_values(alloc, Name::Translate, words, script, model)?;
     Ok(Asked::Translate {
         passes: carried.passes,
         check: carried.check,
@@ -177,7 +198,7 @@ fn extend<'a>(
     requires { EndFits (Ok (a_plan.Extend script model)) (asked_for (map string_bytes words.now)) }
     ensures { Answers (asked_for (map string_bytes words.entry.now)) result }
 {
-    let carried = carry_values(alloc, "extend", words, script, model)?;
+    let carried = carry_values(alloc, Name::Extend, words, script, model)?;
     Ok(Asked::Extend {
         passes: carried.passes,
         check: carried.check,
@@ -186,21 +207,40 @@ fn extend<'a>(
     })
 }
 
-/// The values of the words of `translate` or `extend`, whose script and model are the words of these numbers.
+fn unblast<'a>(
+    alloc: Global,
+    words: &'a [String],
+    script: u32,
+    model: u32,
+) -> Result<Asked<'a>, WordsFault>
+    requires { EndFits (Ok (a_plan.Unblast script model)) (asked_for (map string_bytes words.now)) }
+    ensures { Answers (asked_for (map string_bytes words.entry.now)) result }
+{
+    let carried = carry_values(alloc, Name::Unblast, words, script, model)?;
+    Ok(Asked::Unblast {
+        passes: carried.passes,
+        check: carried.check,
+        script: carried.script,
+        model: carried.model,
+    })
+}
+
+/// The values of the words of `translate`, `extend` or `unblast`, whose script and model are the words of these numbers.
 fn carry_values<'a>(
     alloc: Global,
-    name: &'a str,
+    command: Name,
     words: &'a [String],
     script: u32,
     model: u32,
 ) -> Result<Carried<'a>, WordsFault>
-    requires { CarriesFiles script model (asked_for (map string_bytes words.now)) }
+    requires files { CarriesFiles script model (asked_for (map string_bytes words.now)) }
+    requires named { AsksBy (command_of command) (asked_for (map string_bytes words.now)) }
     ensures { GivesCarried (asked_for (map string_bytes words.entry.now)) result }
 {
-    let Ok(matches) = carry_matches(alloc, name, words) else {
+    let Ok(matches) = carry_matches(alloc, command.word(), words) else {
         return Err(WordsFault::Memory);
     };
-    let Ok(passes) = passes_of(matches.get_str("passes")) else {
+    let Ok(passes) = passes_of(command, matches.get_str("passes")) else {
         unreachable!()
     };
     let Some(check) = check_of(matches.get_str("check")) else {
@@ -223,6 +263,29 @@ fn carry_values<'a>(
             word: model,
             name: model_name,
         },
+    })
+}
+
+fn blast<'a>(alloc: Global, words: &'a [String], word: u32) -> Result<Asked<'a>, WordsFault>
+    requires { EndFits (Ok (a_plan.Blast word)) (asked_for (map string_bytes words.now)) }
+    ensures { Answers (asked_for (map string_bytes words.entry.now)) result }
+{
+    let Ok(matches) = blast_matches(alloc, words) else {
+        return Err(WordsFault::Memory);
+    };
+    let Ok(passes) = passes_of(Name::Blast, matches.get_str("passes")) else {
+        unreachable!()
+    };
+    let Some(check) = check_of(matches.get_str("check")) else {
+        unreachable!()
+    };
+    let Some(name) = matches.get_str("script") else {
+        unreachable!()
+    };
+    Ok(Asked::Blast {
+        passes,
+        check,
+        script: File { word, name },
     })
 }
 
@@ -257,13 +320,13 @@ fn demo<'a>(alloc: Global, words: &'a [String]) -> Result<Asked<'a>, WordsFault>
     Ok(Asked::Demo { seed, size })
 }
 
-/// The passes of an option's value; none where it isn't given.
-fn passes_of(value: Option<&str>) -> Result<Passes, ListFault>
-    ensures { result ≡ passes_in (option_map (λ t. t.now) value.entry) }
+/// The passes of an option's value, by those that the command takes; none where it isn't given.
+fn passes_of(command: Name, value: Option<&str>) -> Result<Passes, ListFault>
+    ensures { result ≡ passes_in (command_of command) (option_map (λ t. t.now) value.entry) }
 {
     match value {
         None => Ok(Passes::new()),
-        Some(list) => parse_list(list),
+        Some(list) => list_for(command, list),
     }
 }
 

@@ -83,5 +83,9 @@ too_many_bits : err_line (PassRefused 71 1) words ≡ codes "smtrw: pass refused
 unfolding cause_name
 too_many_bits = refl
 
+not_bits : err_line (PassRefused 90 1) words ≡ codes "smtrw: pass refused: 90 NotBits in assertion 1\n"
+unfolding cause_name
+not_bits = refl
+
 numbers : map number_of (Done ∷ refused 36 2 2 9 ∷ usage 1 Missing ∷ ReadFailed 2 ∷ WriteFailed ∷ OutOfMemory ∷ ModelRefused 60 1 0 ∷ Beyond128 1 ∷ PassRefused 50 1 ∷ []) ≡ 0 ∷ 1 ∷ 2 ∷ 3 ∷ 4 ∷ 5 ∷ 6 ∷ 7 ∷ 8 ∷ []
 numbers = refl

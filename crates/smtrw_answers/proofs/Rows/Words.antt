@@ -7,7 +7,7 @@ use Rattle.passes.specs.Lists.{pass_named}
 use Rattle.smtrw_answers.specs.declared.status.Usage.{Usage}
 use Rattle.smtrw_answers.specs.declared.status.Why.{Why}
 use Rattle.smtrw_answers.specs.declared.status.Why.TheVariants.{Missing, UnknownCommand, BadOption, Repeated, BadValue, BadPass, AfterRules, Extra, TwoInputs}
-use Rattle.smtrw_answers.specs.Words.{Numbered, Asked, rewrite, translate, extend, stats, demo, asked}
+use Rattle.smtrw_answers.specs.Words.{Numbered, Asked, rewrite, translate, extend, blast, unblast, stats, demo, asked}
 
 abbrev asked_for : List String → Result Asked Usage
 asked_for words = asked (map codes words)
@@ -217,3 +217,40 @@ input_as_script = refl
 
 input_as_model : asked_for ("extend" ∷ "a" ∷ "-" ∷ []) ≡ Ok (extend [] 1 (word 2 "a") (word 3 "-"))
 input_as_model = refl
+
+-- ---- what is made of bits
+
+blast_alone : asked_for ("blast" ∷ "-" ∷ []) ≡ Ok (blast [] 1 (word 2 "-"))
+blast_alone = refl
+
+blast_with_options : asked_for ("blast" ∷ "a" ∷ "--check=2" ∷ "--passes" ∷ "simplify,ite" ∷ []) ≡ Ok (blast (Simplify ∷ Ite ∷ []) 2 (word 2 "a"))
+unfolding pass_named
+blast_with_options = refl
+
+unblast_alone : asked_for ("unblast" ∷ "a" ∷ "-" ∷ []) ≡ Ok (unblast [] 1 (word 2 "a") (word 3 "-"))
+unblast_alone = refl
+
+unblast_with_options : asked_for ("unblast" ∷ "--check" ∷ "3" ∷ "-" ∷ "--passes=ackermann" ∷ "m" ∷ []) ≡ Ok (unblast (Ackermann ∷ []) 3 (word 4 "-") (word 6 "m"))
+unfolding pass_named
+unblast_with_options = refl
+
+rules_over_bits : asked_for ("blast" ∷ "--passes" ∷ "rules" ∷ "-" ∷ []) ≡ fault 3 BadPass
+unfolding pass_named
+rules_over_bits = refl
+
+-- that stored rules stand there counts before the order
+rules_before_groups : asked_for ("unblast" ∷ "--passes=rules,cnf" ∷ "s" ∷ "m" ∷ []) ≡ fault 2 BadPass
+unfolding pass_named
+rules_before_groups = refl
+
+two_inputs_of_unblast : asked_for ("unblast" ∷ "-" ∷ "-" ∷ []) ≡ fault 3 TwoInputs
+two_inputs_of_unblast = refl
+
+layout_of_blast : asked_for ("blast" ∷ "--layout" ∷ "dag" ∷ "-" ∷ []) ≡ fault 2 BadOption
+layout_of_blast = refl
+
+second_file_of_blast : asked_for ("blast" ∷ "a" ∷ "b" ∷ []) ≡ fault 3 Extra
+second_file_of_blast = refl
+
+no_model : asked_for ("unblast" ∷ "s" ∷ []) ≡ fault 3 Missing
+no_model = refl

@@ -1,0 +1,6 @@
+use Rattle.smtrw_answers.specs.declared.grammar.Plan.TheVariants as plan
+use Rattle.smtrw_answers.proofs.PlannedWords.{planned_ok}
+use Rattle.smtrw_answers.proofs.words.rewrite.Goals as goal
+
+pub returns-in_default : goal.returns-in_default
+returns-in_default c = planned_ok (plan.Rewrite c.args.word) _ c.requires
