@@ -7,7 +7,6 @@ use Rattle.term_table.specs.Formulas.{Formulas}
 use Rattle.script_read.specs.Commands.{Command, Signature, checks}
 use Rattle.models.specs.ModelView.{ModelLists}
 use Rattle.model_texts.specs.ModelText.{model_of}
-use Rattle.passes.specs.declared.names.Pass.{Pass}
 use Rattle.passes.specs.declared.carrying.CarryFault.{CarryFault}
 use Rattle.passes.specs.declared.carrying.CarryFault.TheVariants.{NoSuchCheck, EvalWidth, Beyond128 as ValueBeyond, Memory}
 use Rattle.passes.specs.Carry.{Stage, too_wide, beyond}
@@ -15,13 +14,12 @@ use Rattle.passes.specs.Carrying.{CarriesTo, IsCheck}
 use Rattle.smtrw_answers.specs.declared.status.Usage.{Usage as UsageFault}
 use Rattle.smtrw_answers.specs.declared.status.Status.{Status}
 use Rattle.smtrw_answers.specs.declared.status.Status.TheVariants.{Done, Refused, Usage, ReadFailed, WriteFailed, OutOfMemory, ModelRefused, Beyond128, PassRefused}
-use Rattle.smtrw_answers.specs.Endings.{longest_text, or_later, script_end, check_end, passes_end, end_of, model_end, stages_end, text_end}
+use Rattle.smtrw_answers.specs.Endings.{longest_text, or_later, script_end, check_end, end_of, model_end, stages_end, text_end}
 use Rattle.smtrw_answers.specs.Faults.{status_of_carrying}
-use Rattle.smtrw_answers.specs.Words.{Word, Numbered, Asked, rewrite, translate, extend, stats, demo, model_file_of}
+use Rattle.smtrw_answers.specs.Words.{Word, Numbered, Asked, model_file_of}
 use Rattle.smtrw.specs.Carrying.{EndsAtFile, EndsAtModel, EndsOnTheWay, GivesModel}
 use Rattle.smtrw.specs.Prepared.{EndsBefore}
-use Rattle.smtrw.specs.Run.{CarriesModel, IsMissing, MissesCheck, RoseFor, RoseForModel, RunsPasses, TextsFit, check_end_of, early_end, passes_end_of}
-use Rattle.smtrw.proofs.Endings.{passes_end_code}
+use Rattle.smtrw.specs.Run.{CarriesModel, IsMissing, MayEnd, MissesCheck, RoseFor, RoseForModel, TextsFit, check_end_of, early_end, passes_end_of}
 
 -- ---- the end of a told model's text
 
@@ -115,22 +113,16 @@ module _ (t : Formulas) (cs : List (Command Term)) (k : ℕ) (within : IsCheck k
 
 -- ---- the run's end
 
-runs_passes : (asked : Asked) → CarriesModel asked → RunsPasses asked
-runs_passes (rewrite passes layout script) carries = tt
-runs_passes (translate passes check script model) carries = carries
-runs_passes (extend passes check script model) carries = carries
-runs_passes (stats script) carries = carries
-runs_passes (demo seed size) carries = carries
-
-module _ (b : List ℕ) (ps : List Pass) (k : ℕ) (asked : Asked) (carries : CarriesModel asked) (misses : (u : UsageFault) → IsMissing k u → MissesCheck asked u) (check_is : check_end_of asked b ≡ check_end b k) (passes_is : passes_end_of asked b ≡ passes_end b ps) (tail : List ℕ → Option Status)
-    (end_is : (g : List ℕ) → end_of asked b g ≡ or_later (script_end b) (or_later (check_end b k) (or_later (passes_end b ps) (tail g)))) where
+-- a command that looks for a check and runs passes, which end the run so
+module _ (b : List ℕ) (k : ℕ) (asked : Asked) (passing : Option Status) (may : (code assertion : ℕ) → passing ≡ Some (PassRefused code assertion) → MayEnd asked (PassRefused code assertion)) (misses : (u : UsageFault) → IsMissing k u → MissesCheck asked u) (check_is : check_end_of asked b ≡ check_end b k)
+    (passes_is : passes_end_of asked b ≡ passing) (tail : List ℕ → Option Status) (end_is : (g : List ℕ) → end_of asked b g ≡ or_later (script_end b) (or_later (check_end b k) (or_later passing (tail g)))) where
   -- ---- before the model's text
 
-  way_texts : (told : Option (List ℕ)) (status : Status) → EndsOnTheWay b ps k status → TextsFit (record { script = Some b; model = told }) status asked
+  way_texts : (told : Option (List ℕ)) (status : Status) → EndsOnTheWay b k passing status → TextsFit (record { script = Some b; model = told }) status asked
   way_texts None (Refused r) is = ap (λ (o : Option Status). or_later o (or_later (check_end_of asked b) (passes_end_of asked b))) is
-  way_texts (Some g) (Refused r) is = end_is g ∙ ap (λ (o : Option Status). or_later o (or_later (check_end b k) (or_later (passes_end b ps) (tail g)))) is
+  way_texts (Some g) (Refused r) is = end_is g ∙ ap (λ (o : Option Status). or_later o (or_later (check_end b k) (or_later passing (tail g)))) is
   way_texts None (Usage u) is = λ i. or_later (is.1 i) (or_later ((check_is ∙ is.2) i) (passes_end_of asked b))
-  way_texts (Some g) (Usage u) is = end_is g ∙ (λ i. or_later (is.1 i) (or_later (is.2 i) (or_later (passes_end b ps) (tail g))))
+  way_texts (Some g) (Usage u) is = end_is g ∙ (λ i. or_later (is.1 i) (or_later (is.2 i) (or_later passing (tail g))))
   way_texts None OutOfMemory is = tt
   way_texts (Some g) OutOfMemory is = tt
   way_texts told Done is = absurd is
@@ -141,7 +133,7 @@ module _ (b : List ℕ) (ps : List Pass) (k : ℕ) (asked : Asked) (carries : Ca
   way_texts None (PassRefused code assertion) is = inl (λ i. or_later (is.0 i) (or_later ((check_is ∙ is.1) i) ((passes_is ∙ is.2) i)))
   way_texts (Some g) (PassRefused code assertion) is = end_is g ∙ (λ i. or_later (is.0 i) (or_later (is.1 i) (or_later (is.2 i) (tail g))))
 
-  pub way_before : (told : Option (List ℕ)) (before now : Word → ℕ) (status : Status) → EndsOnTheWay b ps k status → EndsBefore (record { script = Some b; model = told }) before now asked status
+  pub way_before : (told : Option (List ℕ)) (before now : Word → ℕ) (status : Status) → EndsOnTheWay b k passing status → EndsBefore (record { script = Some b; model = told }) before now asked status
   way_before told before now (Refused r) is = record { early = tt; words = tt; ends = tt; read = tt; texts = way_texts told (Refused r) is }
   way_before told before now (Usage u) is = record { early = tt; words = misses u is.0; ends = tt; read = tt; texts = way_texts told (Usage u) is }
   way_before told before now OutOfMemory is = record { early = tt; words = tt; ends = tt; read = tt; texts = way_texts told OutOfMemory is }
@@ -150,11 +142,11 @@ module _ (b : List ℕ) (ps : List Pass) (k : ℕ) (asked : Asked) (carries : Ca
   way_before told before now WriteFailed is = absurd is
   way_before told before now (ModelRefused code line byte) is = absurd is
   way_before told before now (Beyond128 assertion) is = absurd is
-  way_before told before now (PassRefused code assertion) is = record { early = tt; words = tt; ends = inl (passes_end_code b ps code assertion is.2, runs_passes asked carries); read = tt; texts = way_texts told (PassRefused code assertion) is }
+  way_before told before now (PassRefused code assertion) is = record { early = tt; words = tt; ends = may code assertion is.2; read = tt; texts = way_texts told (PassRefused code assertion) is }
 
   -- ---- by the model's text
 
-  module _ (script : script_end b ≡ None) (check : check_end b k ≡ None) (passes : passes_end b ps ≡ None) where
+  module _ (script : script_end b ≡ None) (check : check_end b k ≡ None) (passes : passing ≡ None) where
     untold : early_end asked b ≡ None
     untold i = or_later (script i) (or_later ((check_is ∙ check) i) ((passes_is ∙ passes) i))
 
@@ -181,13 +173,13 @@ module _ (b : List ℕ) (ps : List Pass) (k : ℕ) (asked : Asked) (carries : Ca
     late_texts told (Usage u) is = absurd is
     late_texts told WriteFailed is = absurd is
 
-    pub late_before : (told : Option (List ℕ)) (before now : Word → ℕ) (file : Numbered) → model_file_of asked ≡ Some file → (status : Status) → EndsLate tail told status → FailsFor before now file status → EndsBefore (record { script = Some b; model = told }) before now asked status
-    late_before told before now file named (ModelRefused code line byte) is fails = record { early = tt; words = tt; ends = carries; read = tt; texts = late_texts told (ModelRefused code line byte) is }
-    late_before told before now file named (Beyond128 assertion) is fails = record { early = tt; words = tt; ends = carries; read = tt; texts = late_texts told (Beyond128 assertion) is }
-    late_before told before now file named (PassRefused code assertion) is fails = record { early = tt; words = tt; ends = inr (is.0, carries); read = tt; texts = late_texts told (PassRefused code assertion) is }
-    late_before told before now file named (ReadFailed word) is fails = record { early = tt; words = tt; ends = tt; read = inr (subst (λ (o : Option Numbered). RoseForModel before now word o) (sym named) fails); texts = late_texts told (ReadFailed word) is }
-    late_before told before now file named OutOfMemory is fails = record { early = tt; words = tt; ends = tt; read = tt; texts = late_texts told OutOfMemory is }
-    late_before told before now file named Done is fails = absurd is
-    late_before told before now file named (Refused r) is fails = absurd is
-    late_before told before now file named (Usage u) is fails = absurd is
-    late_before told before now file named WriteFailed is fails = absurd is
+    pub late_before : CarriesModel asked → (told : Option (List ℕ)) (before now : Word → ℕ) (file : Numbered) → model_file_of asked ≡ Some file → (status : Status) → EndsLate tail told status → FailsFor before now file status → EndsBefore (record { script = Some b; model = told }) before now asked status
+    late_before carries told before now file named (ModelRefused code line byte) is fails = record { early = tt; words = tt; ends = carries; read = tt; texts = late_texts told (ModelRefused code line byte) is }
+    late_before carries told before now file named (Beyond128 assertion) is fails = record { early = tt; words = tt; ends = carries; read = tt; texts = late_texts told (Beyond128 assertion) is }
+    late_before carries told before now file named (PassRefused code assertion) is fails = record { early = tt; words = tt; ends = inr (inl (is.0, carries)); read = tt; texts = late_texts told (PassRefused code assertion) is }
+    late_before carries told before now file named (ReadFailed word) is fails = record { early = tt; words = tt; ends = tt; read = inr (subst (λ (o : Option Numbered). RoseForModel before now word o) (sym named) fails); texts = late_texts told (ReadFailed word) is }
+    late_before carries told before now file named OutOfMemory is fails = record { early = tt; words = tt; ends = tt; read = tt; texts = late_texts told OutOfMemory is }
+    late_before carries told before now file named Done is fails = absurd is
+    late_before carries told before now file named (Refused r) is fails = absurd is
+    late_before carries told before now file named (Usage u) is fails = absurd is
+    late_before carries told before now file named WriteFailed is fails = absurd is

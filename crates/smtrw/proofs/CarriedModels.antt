@@ -1,5 +1,5 @@
 -- What comes of a model that is carried over a way, in either direction.
-use Rattle.std.proofs.Common.{◌≡◌, ◌∙◌, sym, ap, subst, refl, ℕ, List, Option, Some, None, Result, Ok, Err}
+use Rattle.std.proofs.Common.{◌≡◌, ◌∙◌, sym, ap, subst, refl, ℕ, inl, List, Option, Some, None, Result, Ok, Err}
 use Rattle.std.specs.Prelude.{IfErr, IfSome, IsErrAnd}
 use Rattle.smt_terms.specs.Models.{Model, IsModelOver}
 use Rattle.smt_terms.specs.Sorts.{Name}
@@ -17,6 +17,8 @@ use Rattle.passes.specs.declared.carrying.CarryFault.TheVariants.{NoSuchCheck, E
 use Rattle.passes.specs.Carry.{back_stages, forth_stages}
 use Rattle.passes.specs.Carrying.{CarriesBack, CarriesForth}
 use Rattle.smtrw_answers.specs.declared.status.Status.{Status}
+use Rattle.smtrw_answers.specs.declared.status.Status.TheVariants.{PassRefused}
+use Rattle.smtrw_answers.specs.Endings.{passes_end}
 use Rattle.smtrw_answers.specs.Carrying.{carried_text, translated, extended, signature_before, signature_behind}
 use Rattle.smtrw_answers.specs.Faults.{status_of_carrying}
 use Rattle.smtrw_answers.specs.Outputs.{commands, names_left}
@@ -25,7 +27,8 @@ use Rattle.smtrw_answers.specs.Written.{IsOutputOf}
 use Rattle.smtrw.specs.declared.carrying.Way.{Way}
 use Rattle.smtrw.specs.Carrying.{AreNumbersOf, EndsAtFile, EndsOnTheWay, GivesModel, IsModelRead, IsWay}
 use Rattle.smtrw.specs.Prepared.{EndsBefore, IsPrepared}
-use Rattle.smtrw.specs.Run.{WhereTold}
+use Rattle.smtrw.specs.Run.{MayEnd, WhereTold}
+use Rattle.smtrw.proofs.Endings.{passes_end_code}
 use Rattle.smtrw.proofs.Carriages.{FailsFor, carried_well, carrying_ends_late, done_texts, file_ends_late, file_fails, late_before, tail_of, way_before}
 
 -- what holds of the status of a refusal holds of the answer
@@ -33,7 +36,7 @@ pub if_refused : {A : Type 0} (r : Result A Status) (P : Status → Type 0) (sta
 if_refused (Ok a) P status is holds = tt
 if_refused (Err s) P status is holds = subst P (sym is) holds
 
-never_unread : (before now : Word → ℕ) (file : Numbered) (f : CarryFault) → FailsFor before now file (status_of_carrying f)
+pub never_unread : (before now : Word → ℕ) (file : Numbered) (f : CarryFault) → FailsFor before now file (status_of_carrying f)
 never_unread before now file (NoSuchCheck check count) = tt
 never_unread before now file (EvalWidth a bits) = tt
 never_unread before now file (ValueBeyond a node) = tt
@@ -56,17 +59,23 @@ module _ (t : Formulas) (l : LiveNumbers) (sig : Signature) (are : AreNumbersOf 
 
 -- ---- the text of a carried model
 
-lines_of : (carry : Model → Model) (to : Signature) (r : Result Model Unmodelled) (m : Model) (w : List ℕ) → r ≡ Ok m → w ≡ model_lines (carry m) to → carried_text carry to r ≡ Ok w
+pub lines_of : (carry : Model → Model) (to : Signature) (r : Result Model Unmodelled) (m : Model) (w : List ℕ) → r ≡ Ok m → w ≡ model_lines (carry m) to → carried_text carry to r ≡ Ok w
 lines_of carry to r m w given is = ap (λ (x : Result Model Unmodelled). carried_text carry to x) given ∙ ap Ok (sym is)
 
 -- ---- a run that ends on the way
 
-module _ (b : List ℕ) (ps : List Pass) (k : ℕ) (told : Option (List ℕ)) (script model : Numbered) (before now : Word → ℕ) (status : Status) (ends : EndsOnTheWay b ps k status) where
+translating_may : (b : List ℕ) (ps : List Pass) (k : ℕ) (script model : Numbered) (code assertion : ℕ) → passes_end b ps ≡ Some (PassRefused code assertion) → MayEnd (translate ps k script model) (PassRefused code assertion)
+translating_may b ps k script model code assertion is = inl (passes_end_code b ps code assertion is, tt)
+
+extending_may : (b : List ℕ) (ps : List Pass) (k : ℕ) (script model : Numbered) (code assertion : ℕ) → passes_end b ps ≡ Some (PassRefused code assertion) → MayEnd (extend ps k script model) (PassRefused code assertion)
+extending_may b ps k script model code assertion is = inl (passes_end_code b ps code assertion is, tt)
+
+module _ (b : List ℕ) (ps : List Pass) (k : ℕ) (told : Option (List ℕ)) (script model : Numbered) (before now : Word → ℕ) (status : Status) (ends : EndsOnTheWay b k (passes_end b ps) status) where
   pub translating_way : EndsBefore (record { script = Some b; model = told }) before now (translate ps k script model) status
-  translating_way = way_before b ps k (translate ps k script model) tt (λ u missing. missing) refl refl (tail_of (signature_behind b ps k) (back_stages ps (commands b) (names_left b) k)) (λ g. refl) told before now status ends
+  translating_way = way_before b k (translate ps k script model) (passes_end b ps) (translating_may b ps k script model) (λ u missing. missing) refl refl (tail_of (signature_behind b ps k) (back_stages ps (commands b) (names_left b) k)) (λ g. refl) told before now status ends
 
   pub extending_way : EndsBefore (record { script = Some b; model = told }) before now (extend ps k script model) status
-  extending_way = way_before b ps k (extend ps k script model) tt (λ u missing. missing) refl refl (tail_of (signature_before b k) (forth_stages ps (commands b) (names_left b) k)) (λ g. refl) told before now status ends
+  extending_way = way_before b k (extend ps k script model) (passes_end b ps) (extending_may b ps k script model) (λ u missing. missing) refl refl (tail_of (signature_before b k) (forth_stages ps (commands b) (names_left b) k)) (λ g. refl) told before now status ends
 
 -- ---- a run over a way
 
@@ -77,14 +86,14 @@ module _ (b : List ℕ) (ps : List Pass) (k : ℕ) (way : Way) (is : IsWay b ps 
     pub translating_read : (status : Status) → EndsAtFile (signature_of way.table way.behind) told before now model status → EndsBefore (record { script = Some b; model = told }) before now (translate ps k script model) status
     translating_read status ends =
         let over = ends_over way.table way.behind (signature_behind b ps k) is.leads.behind told before now model status ends in
-        late_before b ps k (translate ps k script model) tt (λ u missing. missing) refl refl (tail_of (signature_behind b ps k) (back_stages ps (commands b) (names_left b) k)) (λ g. refl) is.script is.check is.passes told before now model refl status
+        late_before b k (translate ps k script model) (passes_end b ps) (translating_may b ps k script model) (λ u missing. missing) refl refl (tail_of (signature_behind b ps k) (back_stages ps (commands b) (names_left b) k)) (λ g. refl) is.script is.check is.passes tt told before now model refl status
         (file_ends_late (signature_behind b ps k) (back_stages ps (commands b) (names_left b) k) told before now model status over)
         (file_fails (signature_behind b ps k) (back_stages ps (commands b) (names_left b) k) told before now model status over)
 
     pub translating_carried : (m : ModelLists) → IsModelRead way.table (signature_of way.table way.behind) told m → (f : CarryFault) → CarriesBack way.table ps (commands b) (names_left b) k (model_at way.table m) (Err f)
         → EndsBefore (record { script = Some b; model = told }) before now (translate ps k script model) (status_of_carrying f)
     translating_carried m reads f carries =
-        late_before b ps k (translate ps k script model) tt (λ u missing. missing) refl refl (tail_of (signature_behind b ps k) (back_stages ps (commands b) (names_left b) k)) (λ g. refl) is.script is.check is.passes told before now model refl (status_of_carrying f)
+        late_before b k (translate ps k script model) (passes_end b ps) (translating_may b ps k script model) (λ u missing. missing) refl refl (tail_of (signature_behind b ps k) (back_stages ps (commands b) (names_left b) k)) (λ g. refl) is.script is.check is.passes tt told before now model refl (status_of_carrying f)
         (carrying_ends_late way.table (commands b) k is.leads.within (signature_behind b ps k) (back_stages ps (commands b) (names_left b) k) (model_at way.table m) (translated b ps k (model_at way.table m)) told
         (read_over way.table way.behind (signature_behind b ps k) is.leads.behind told m reads).given f (status_of_carrying f) carries refl)
         (never_unread before now model f)
@@ -103,7 +112,7 @@ module _ (b : List ℕ) (ps : List Pass) (k : ℕ) (way : Way) (is : IsWay b ps 
 
     pub translated_prepared : (rules : List Name) (w : List ℕ) → w ≡ model_lines (model_at way.table r) (signature_of way.table way.before) → IsPrepared rules (record { script = Some b; model = told }) (translate ps k script model) w
     translated_prepared rules w is_text = record {
-      texts = done_texts b ps k (translate ps k script model) tt (λ u missing. missing) refl refl (tail_of (signature_behind b ps k) (back_stages ps (commands b) (names_left b) k)) (λ g. refl) is.script is.check is.passes told
+      texts = done_texts b k (translate ps k script model) (passes_end b ps) (translating_may b ps k script model) (λ u missing. missing) refl refl (tail_of (signature_behind b ps k) (back_stages ps (commands b) (names_left b) k)) (λ g. refl) is.script is.check is.passes told
           (carried_well way.table (commands b) k is.leads.within (signature_behind b ps k) (back_stages ps (commands b) (names_left b) k) (model_at way.table m) (translated b ps k (model_at way.table m)) told back_reads.given r carries);
       output = by told back_reads.given;
       promise = tt;
@@ -119,14 +128,14 @@ module _ (b : List ℕ) (ps : List Pass) (k : ℕ) (way : Way) (is : IsWay b ps 
     pub extending_read : (status : Status) → EndsAtFile (signature_of way.table way.before) told before now model status → EndsBefore (record { script = Some b; model = told }) before now (extend ps k script model) status
     extending_read status ends =
         let over = ends_over way.table way.before (signature_before b k) is.leads.before told before now model status ends in
-        late_before b ps k (extend ps k script model) tt (λ u missing. missing) refl refl (tail_of (signature_before b k) (forth_stages ps (commands b) (names_left b) k)) (λ g. refl) is.script is.check is.passes told before now model refl status
+        late_before b k (extend ps k script model) (passes_end b ps) (extending_may b ps k script model) (λ u missing. missing) refl refl (tail_of (signature_before b k) (forth_stages ps (commands b) (names_left b) k)) (λ g. refl) is.script is.check is.passes tt told before now model refl status
         (file_ends_late (signature_before b k) (forth_stages ps (commands b) (names_left b) k) told before now model status over)
         (file_fails (signature_before b k) (forth_stages ps (commands b) (names_left b) k) told before now model status over)
 
     pub extending_carried : (m : ModelLists) → IsModelRead way.table (signature_of way.table way.before) told m → (f : CarryFault) → CarriesForth way.table ps (commands b) (names_left b) k (model_at way.table m) (Err f)
         → EndsBefore (record { script = Some b; model = told }) before now (extend ps k script model) (status_of_carrying f)
     extending_carried m reads f carries =
-        late_before b ps k (extend ps k script model) tt (λ u missing. missing) refl refl (tail_of (signature_before b k) (forth_stages ps (commands b) (names_left b) k)) (λ g. refl) is.script is.check is.passes told before now model refl (status_of_carrying f)
+        late_before b k (extend ps k script model) (passes_end b ps) (extending_may b ps k script model) (λ u missing. missing) refl refl (tail_of (signature_before b k) (forth_stages ps (commands b) (names_left b) k)) (λ g. refl) is.script is.check is.passes tt told before now model refl (status_of_carrying f)
         (carrying_ends_late way.table (commands b) k is.leads.within (signature_before b k) (forth_stages ps (commands b) (names_left b) k) (model_at way.table m) (extended b ps k (model_at way.table m)) told
         (read_over way.table way.before (signature_before b k) is.leads.before told m reads).given f (status_of_carrying f) carries refl)
         (never_unread before now model f)
@@ -145,7 +154,7 @@ module _ (b : List ℕ) (ps : List Pass) (k : ℕ) (way : Way) (is : IsWay b ps 
 
     pub extended_prepared : (rules : List Name) (w : List ℕ) → w ≡ model_lines (model_at way.table r) (signature_of way.table way.behind) → IsPrepared rules (record { script = Some b; model = told }) (extend ps k script model) w
     extended_prepared rules w is_text = record {
-      texts = done_texts b ps k (extend ps k script model) tt (λ u missing. missing) refl refl (tail_of (signature_before b k) (forth_stages ps (commands b) (names_left b) k)) (λ g. refl) is.script is.check is.passes told
+      texts = done_texts b k (extend ps k script model) (passes_end b ps) (extending_may b ps k script model) (λ u missing. missing) refl refl (tail_of (signature_before b k) (forth_stages ps (commands b) (names_left b) k)) (λ g. refl) is.script is.check is.passes told
           (carried_well way.table (commands b) k is.leads.within (signature_before b k) (forth_stages ps (commands b) (names_left b) k) (model_at way.table m) (extended b ps k (model_at way.table m)) told forth_reads.given r carries);
       output = by told forth_reads.given;
       promise = tt;

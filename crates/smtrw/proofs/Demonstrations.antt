@@ -1,5 +1,5 @@
 -- What comes of a demonstration, where its script is accepted and its passes make one list of commands.
-use Rattle.std.proofs.Common.{◌≡◌, ◌∙◌, refl, ap, ℕ, ◌≤◌, false, List, length, codes, Option, Some, None, Result, Ok, Err}
+use Rattle.std.proofs.Common.{◌≡◌, ◌∙◌, refl, ap, ℕ, ◌≤◌, false, List, length, codes, Option, None, Result, Ok, Err}
 use Rattle.std.specs.List.{list_any}
 use Rattle.smt_print.specs.declared.layout.Layout.TheVariants.{Dag}
 use Rattle.smt_print.specs.Text.{lines}
@@ -15,9 +15,9 @@ use Rattle.smtrw_answers.specs.declared.status.Status.{Status}
 use Rattle.smtrw_answers.specs.declared.status.Status.TheVariants.{Done, Refused, Usage, ReadFailed, WriteFailed, OutOfMemory, ModelRefused, Beyond128, PassRefused}
 use Rattle.smtrw_answers.specs.Asked.{IsInRange}
 use Rattle.smtrw_answers.specs.Endings.{or_later, rewrite_end, script_end}
-use Rattle.smtrw_answers.specs.Laws.{DemoScriptsAreAccepted, DemoScriptsAreShort, WithoutRulesOneList, is_rules}
+use Rattle.smtrw_answers.specs.Laws.{DemoScriptsAreAccepted, DemoScriptsAreShort, WithoutRulesOneList}
 use Rattle.smtrw_answers.specs.Outputs.{assertions, demo_line, demo_passes, demo_script, rewritten, rewritten_commands}
-use Rattle.smtrw_answers.specs.Words.{greatest_size, Asked, rewrite, translate, extend, stats, demo, source_of}
+use Rattle.smtrw_answers.specs.Words.{greatest_size, is_rules, Asked, rewrite, translate, extend, blast, unblast, stats, demo, source_of}
 use Rattle.smtrw.specs.declared.rewriting.Rewriting.{Rewriting}
 use Rattle.smtrw.specs.Demo.{line_of}
 use Rattle.smtrw.specs.Prepared.{EndsEarly, IsMadeFor}
@@ -61,6 +61,8 @@ module _ (accepted : DemoScriptsAreAccepted) (short : DemoScriptsAreShort) where
   made_is_sound b (rewrite passes layout file) range made = tt
   made_is_sound b (translate passes check script model) range made = tt
   made_is_sound b (extend passes check script model) range made = tt
+  made_is_sound b (blast passes check script) range made = tt
+  made_is_sound b (unblast passes check script model) range made = tt
   made_is_sound b (stats file) range made = tt
   made_is_sound b (demo seed size) range made = script_sound seed size range.0 range.1 b made
 

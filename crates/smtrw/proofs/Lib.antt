@@ -1,6 +1,8 @@
 mod AskedNumbers
-mod CarriedModels
+mod BlastedModels
+mod BlastedWays
 mod Carriages
+mod CarriedModels
 mod Commanded
 mod Counts
 mod DemoScripts

@@ -8,6 +8,9 @@ use Rattle.smtrw_answers.specs.declared.status.Status.{Status}
 use Rattle.smtrw_answers.specs.declared.status.Status.TheVariants.{Done, Usage, OutOfMemory}
 use Rattle.smtrw_answers.specs.Answers.{err_line}
 use Rattle.smtrw_answers.specs.Said.{GotPrefix}
+use Rattle.smtrw_answers.specs.declared.words.WordsFault.{WordsFault}
+use Rattle.smtrw_answers.specs.declared.words.WordsFault.TheVariants.{Memory}
+use Rattle.smtrw_answers.specs.Asked.{Answers}
 use Rattle.smtrw_answers.specs.Words.{Asked, asked}
 use Rattle.smtrw.specs.Run.{IsComplete, MayEnd, OutFits, Promised, Quiet, ReadFits, Texts, TextsFit, WhereAsked, WordsFit, WriteFits, texts_of}
 use Rattle.smtrw.specs.WholeRun.{Sunk, IsRun, IsUnbegun}
@@ -17,19 +20,35 @@ at_either : (P : Status → Type 0) → ((fault : UsageFault) → P (Usage fault
 at_either P faulty short (Err fault) status is = subst P (sym is) (faulty fault)
 at_either P faulty short (Ok a) status is = subst P (sym is) short
 
-words : (r : Result Asked UsageFault) (status : Status) → IsUnbegun r status → WordsFit r status
+-- words without a fault may end it so
+wanting : (r : Result Asked UsageFault) → Answers r (Err Memory) → IsUnbegun r OutOfMemory
+wanting (Ok a) answers = refl
+wanting (Err fault) answers = absurd cc
+
+pub memory_wanting : (r : Result Asked UsageFault) (fault : WordsFault) → fault ≡ Memory → Answers r (Err fault) → IsUnbegun r OutOfMemory
+memory_wanting r fault is answers = wanting r (subst (λ (f : WordsFault). Answers r (Err f)) is answers)
+
+pub words_asked : (r : Result Asked UsageFault) (a : Asked) → r ≡ Ok a → IsUnbegun r OutOfMemory
+words_asked r a is = subst (λ (x : Result Asked UsageFault). IsUnbegun x OutOfMemory) (sym is) refl
+
+pub words : (r : Result Asked UsageFault) (status : Status) → IsUnbegun r status → WordsFit r status
 words (Err fault) status is = is
 words (Ok a) status is = subst (λ (s : Status). WordsFit (Ok a) s) (sym is) tt
 
 -- words without a fault end it for want of memory
-where_asked : (r : Result Asked UsageFault) (P : Status → Asked → Type 0) → ((a : Asked) → P OutOfMemory a) → (status : Status) → IsUnbegun r status → WhereAsked r (P status)
+pub where_asked : (r : Result Asked UsageFault) (P : Status → Asked → Type 0) → ((a : Asked) → P OutOfMemory a) → (status : Status) → IsUnbegun r status → WhereAsked r (P status)
 where_asked (Err fault) P short status is = tt
 where_asked (Ok a) P short status is = subst (λ (s : Status). P s a) (sym is) (short a)
 
-ends : (a : Asked) → MayEnd a OutOfMemory
+-- nothing is sent
+pub unsent : (r : Result Asked UsageFault) (sent : Option (List ℕ)) → WhereAsked r (λ a. sent ≡ sent)
+unsent (Err fault) sent = tt
+unsent (Ok a) sent = refl
+
+pub ends : (a : Asked) → MayEnd a OutOfMemory
 ends a = tt
 
-texts : (ts : Texts) (a : Asked) → TextsFit ts OutOfMemory a
+pub texts : (ts : Texts) (a : Asked) → TextsFit ts OutOfMemory a
 texts ts a = by ts.script ts.model
   where
     by : (s m : Option (List ℕ)) → TextsFit (record { script = s; model = m }) OutOfMemory a
@@ -37,7 +56,7 @@ texts ts a = by ts.script ts.model
     by (Some b) None = tt
     by (Some b) (Some g) = tt
 
-complete : (ts : Texts) (reads_before reads_now : List ℕ → ℕ) (before now : ℕ) (a : Asked) → IsComplete ts reads_before reads_now before now OutOfMemory a
+pub complete : (ts : Texts) (reads_before reads_now : List ℕ → ℕ) (before now : ℕ) (a : Asked) → IsComplete ts reads_before reads_now before now OutOfMemory a
 complete ts reads_before reads_now before now a = by ts.script ts.model
   where
     by : (s m : Option (List ℕ)) → IsComplete (record { script = s; model = m }) reads_before reads_now before now OutOfMemory a

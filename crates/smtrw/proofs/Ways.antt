@@ -1,5 +1,5 @@
 -- A script behind passes, with what is declared at a check before and behind them.
-use Rattle.std.proofs.Common.{◌≡◌, ◌∙◌, sym, ap, subst, refl, ℕ, ◌+◌, ◌<◌, ◌≤◌, nat_lt, Bool, true, false, cond, List, [], ◌∷◌, length, Some, None, Result, Ok, Err, arith}
+use Rattle.std.proofs.Common.{◌≡◌, ◌∙◌, sym, ap, subst, refl, ℕ, ◌+◌, ◌<◌, ◌≤◌, nat_lt, Bool, true, false, cond, List, [], ◌∷◌, length, Option, Some, None, Result, Ok, Err, arith}
 use Rattle.std.specs.Prelude.{count_by}
 use Rattle.std.proofs.lemmas.Bool.Decides.{nat_tests}
 use Rattle.std.proofs.lemmas.List.{length-map}
@@ -8,6 +8,7 @@ use Rattle.std.proofs.lemmas.List.Sums.{sum_by-cons}
 use Rattle.smt_terms.specs.declared.ids.SortId.{SortId}
 use Rattle.smt_terms.specs.Fresh.{Supply}
 use Rattle.smt_terms.specs.Models.{Model, IsModelOver}
+use Rattle.smt_terms.specs.Sorts.{Name}
 use Rattle.smt_terms.specs.Term.{Term}
 use Rattle.smt_values.specs.SortIds.{is_free, sort_at}
 use Rattle.term_table.specs.Formulas.{Formulas, symbol_at, IsSymbol}
@@ -26,6 +27,7 @@ use Rattle.passes.specs.declared.running.PassFault.{PassFault}
 use Rattle.passes.specs.declared.running.PassFault.TheVariants.{QuantifiedUse, Memory as NoMemoryForPassing}
 use Rattle.passes.specs.Carry.{back, forth}
 use Rattle.passes.specs.Laws.{AreCarried, CarriesSignatures, IsReady}
+use Rattle.passes.specs.Led.{LeadsTo}
 use Rattle.passes.specs.Lists.{groups_after_rules}
 use Rattle.passes.specs.Passed.{passed, refused_assertion}
 use Rattle.passes.specs.Plans.{IsPlanOf, IsPlanOver}
@@ -33,7 +35,7 @@ use Rattle.model_texts.specs.Proper.{IsProper}
 use Rattle.smtrw_answers.specs.declared.status.Status.{Status}
 use Rattle.smtrw_answers.specs.declared.status.Status.TheVariants.{Done, Refused, Usage, ReadFailed, WriteFailed, OutOfMemory, ModelRefused, Beyond128, PassRefused}
 use Rattle.smtrw_answers.specs.declared.status.Why.TheVariants.{NoSuchCheck}
-use Rattle.smtrw_answers.specs.Endings.{longest_text, check_end}
+use Rattle.smtrw_answers.specs.Endings.{longest_text, check_end, passes_end}
 use Rattle.smtrw_answers.specs.Faults.{status_of_passing, status_of_reading}
 use Rattle.smtrw_answers.specs.Outputs.{commands, names_left, read_or_none}
 use Rattle.smtrw.specs.declared.carrying.Way.{Way}
@@ -83,7 +85,7 @@ counted s (c ∷ cs) = by c (counted (after c s) cs)
     by (globals g) rest = let all = more_checks (globals g) cs false refl in omega (arith, rest, all)
     by exit rest = let all = more_checks exit cs false refl in omega (arith, rest, all)
 
-all_counted : (cs : List (Command Term)) → length (kinds cs) ≡ checks cs + 1
+pub all_counted : (cs : List (Command Term)) → length (kinds cs) ≡ checks cs + 1
 all_counted cs = length-map (points cs) (λ p. p.kind) ∙ counted start cs
 
 pub same_checks : (cs ds : List (Command Term)) → kinds ds ≡ kinds cs → checks ds ≡ checks cs
@@ -115,9 +117,18 @@ module _ (b : List ℕ) (read : List (Command Term) × Supply) (is : script b �
       ap (λ (cs : List (Command Term)). cond (nat_lt (checks cs) k) (Some (Usage (record { word = 0; why = NoSuchCheck k (checks cs) }))) None) read_commands
       ∙ ap (λ (c : Bool). cond c (Some (Usage (record { word = 0; why = NoSuchCheck k (checks read.0) }))) None) (too_many k (checks read.0) beyond)
 
-  -- what leads over passes from the commands that were read leads from the text's
+  -- what holds of the commands that were read and of the names that are left holds of the text's
+  of_text : (P : List (Command Term) → Supply → Type 0) → P read.0 read.1 → P (commands b) (names_left b)
+  of_text P holds = subst (λ (r : Result (List (Command Term) × Supply) Unaccepted). P (read_or_none r).0 (read_or_none r).1) (sym is) holds
+
+  pub led_from : (ps : List Pass) (rules : List Name) (ds : List (Command Term)) (r : Supply) → LeadsTo ps read.0 read.1 rules ds r → LeadsTo ps (commands b) (names_left b) rules ds r
+  led_from ps rules ds r = of_text (λ cs s. LeadsTo ps cs s rules ds r)
+
+  pub carried_from : (ps : List Pass) (ds : List (Command Term)) (r : Supply) → AreCarried ps read.0 ds read.1 r → AreCarried ps (commands b) ds (names_left b) r
+  carried_from ps ds r = of_text (λ cs s. AreCarried ps cs ds s r)
+
   pub leads_from : (ps : List Pass) (k : ℕ) (way : Way) → LeadsOver read.0 read.1 ps k way → LeadsOver (commands b) (names_left b) ps k way
-  leads_from ps k way leads = subst (λ (r : Result (List (Command Term) × Supply) Unaccepted). LeadsOver (read_or_none r).0 (read_or_none r).1 ps k way) (sym is) leads
+  leads_from ps k way = of_text (λ cs s. LeadsOver cs s ps k way)
 
 -- ---- models over a signature
 
@@ -176,18 +187,18 @@ missing_way b k t cs s reads short beyond =
     ((count_by is_node_check cs, refl, beyond), accepted_ends b short (commands_of t cs, s) reads, check_not_found b (commands_of t cs, s) reads k fewer ∙ ap (λ (n : ℕ). Some (Usage (record { word = 0; why = NoSuchCheck k n }))) (sym same))
 
 -- what ends the run before the passes ends it on the way
-pub script_on_the_way : (b : List ℕ) (ps : List Pass) (k : ℕ) (status : Status) → EndsAtScript b k status → EndsOnTheWay b ps k status
-script_on_the_way b ps k Done ends = ends
-script_on_the_way b ps k (Refused r) ends = ends
-script_on_the_way b ps k (Usage u) ends = ends
-script_on_the_way b ps k (ReadFailed word) ends = ends
-script_on_the_way b ps k WriteFailed ends = ends
-script_on_the_way b ps k OutOfMemory ends = ends
-script_on_the_way b ps k (ModelRefused code line byte) ends = ends
-script_on_the_way b ps k (Beyond128 assertion) ends = ends
-script_on_the_way b ps k (PassRefused code assertion) ends = absurd ends
+pub script_on_the_way : (b : List ℕ) (k : ℕ) (passing : Option Status) (status : Status) → EndsAtScript b k status → EndsOnTheWay b k passing status
+script_on_the_way b k passing Done ends = ends
+script_on_the_way b k passing (Refused r) ends = ends
+script_on_the_way b k passing (Usage u) ends = ends
+script_on_the_way b k passing (ReadFailed word) ends = ends
+script_on_the_way b k passing WriteFailed ends = ends
+script_on_the_way b k passing OutOfMemory ends = ends
+script_on_the_way b k passing (ModelRefused code line byte) ends = ends
+script_on_the_way b k passing (Beyond128 assertion) ends = ends
+script_on_the_way b k passing (PassRefused code assertion) ends = absurd ends
 
 pub refused_way : (b : List ℕ) (ps : List Pass) (k : ℕ) (read : List (Command Term) × Supply) → script b ≡ Ok read → length b ≤ longest_text → k ≤ checks read.0 → (f : PassFault) → ((a : ℕ) → f ≡ QuantifiedUse a → refused_assertion ps read.0 read.1 ≡ Some a)
-    → EndsOnTheWay b ps k (status_of_passing f)
+    → EndsOnTheWay b k (passes_end b ps) (status_of_passing f)
 refused_way b ps k read reads short last (QuantifiedUse a) refused = (accepted_ends b short read reads, check_found b read reads k last, passes_end_so b read reads ps (Some a) (refused a refl))
 refused_way b ps k read reads short last NoMemoryForPassing refused = tt

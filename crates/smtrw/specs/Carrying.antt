@@ -3,6 +3,7 @@ use Rattle.std.specs.Prelude.{◌≡◌, ℕ, ◌≤◌, false, nat_lt, List, le
 use Rattle.smt_terms.specs.Models.{Model, IsModelOver}
 use Rattle.term_table.specs.Formulas.{Formulas}
 use Rattle.smt_terms.specs.Fresh.{Supply}
+use Rattle.smt_terms.specs.Sorts.{Name}
 use Rattle.smt_terms.specs.Term.{Term}
 use Rattle.script_read.specs.CommandLists.{commands_of, is_check, AreCommandsOf}
 use Rattle.script_read.specs.Commands.{Command, Signature, signature}
@@ -14,10 +15,12 @@ use Rattle.model_texts.specs.Proper.{IsProper}
 use Rattle.passes.specs.declared.names.Pass.{Pass}
 use Rattle.passes.specs.Carry.{Stage, back, forth}
 use Rattle.passes.specs.Carrying.{IsCheck}
-use Rattle.passes.specs.Laws.{IsReady}
+use Rattle.passes.specs.Laws.{AreCarried, IsReady}
+use Rattle.passes.specs.Led.{LeadsTo}
 use Rattle.passes.specs.Lists.{groups_after_rules}
 use Rattle.passes.specs.Passed.{passed}
 use Rattle.passes.specs.Plans.{IsPlanOf, IsPlanOver}
+use Rattle.passes.specs.Removing.{IsPlanKept}
 use Rattle.smtrw_answers.specs.declared.status.Status.{Status}
 use Rattle.smtrw_answers.specs.declared.status.Status.TheVariants.{Refused, Usage, ReadFailed, OutOfMemory, ModelRefused, PassRefused}
 use Rattle.smtrw_answers.specs.Asked.{numbered}
@@ -26,6 +29,7 @@ use Rattle.smtrw_answers.specs.Outputs.{commands, names_left}
 use Rattle.smtrw_answers.specs.Words.{Word, Numbered, Asked, translate, extend}
 use Rattle.smtrw.specs.declared.carrying.Begun.{Begun}
 use Rattle.smtrw.specs.declared.carrying.Carriage.{Carriage}
+use Rattle.smtrw.specs.declared.carrying.Passage.{Passage}
 use Rattle.smtrw.specs.declared.carrying.Way.{Way}
 use Rattle.smtrw.specs.Run.{IsMissing, RoseFor}
 
@@ -46,10 +50,10 @@ EndsAtScript b k (Usage u) = IsMissing k u × (script_end b ≡ None) × (check_
 EndsAtScript b k OutOfMemory = Unit {0}
 EndsAtScript b k _ = ⊥
 
--- the same with the passes, before a model's text is read
-abbrev pub EndsOnTheWay : List ℕ → List Pass → ℕ → Status → Type 0
-EndsOnTheWay b ps k (PassRefused code assertion) = (script_end b ≡ None) × (check_end b k ≡ None) × (passes_end b ps ≡ Some (PassRefused code assertion))
-EndsOnTheWay b ps k status = EndsAtScript b k status
+-- the same with passes that end the run so, before a model's text is read
+abbrev pub EndsOnTheWay : List ℕ → ℕ → Option Status → Status → Type 0
+EndsOnTheWay b k passes (PassRefused code assertion) = (script_end b ≡ None) × (check_end b k ≡ None) × (passes ≡ Some (PassRefused code assertion))
+EndsOnTheWay b k passes status = EndsAtScript b k status
 
 -- the script b was read over the table, has the check k, and declares so much there
 pub record HasBegun (t : Formulas) (b : List ℕ) (k : ℕ) (begun : Begun) : Type 0 where
@@ -89,6 +93,18 @@ pub record IsWay (b : List ℕ) (ps : List Pass) (k : ℕ) (way : Way) : Type 0 
 -- it is the way of some script
 abbrev pub IsWayOfSome : List Pass → ℕ → Way → Type 0
 IsWayOfSome ps k way = (b : List ℕ) × IsWay b ps k way
+
+-- ---- the script behind the passes
+
+-- nothing in the script b ends the run before the model's text, and the passes have led from its commands to these, with stored rules of
+-- these names
+pub record IsPassage (b : List ℕ) (ps : List Pass) (k : ℕ) (rules : List Name) (p : Passage) : Type 0 where
+  pub way : IsWay b ps k p.way
+  pub numbers : AreCommandsOf p.way.table p.script.commands
+  pub leads : LeadsTo ps (commands b) (names_left b) rules (commands_of p.way.table p.script.commands) p.fresh
+  pub carried : AreCarried ps (commands b) (commands_of p.way.table p.script.commands) (names_left b) p.fresh
+  -- what the plan keeps is of the table
+  pub kept : IsPlanKept p.way.table p.way.plan
 
 -- ---- the model's text
 

@@ -1,3 +1,4 @@
+pub mod Blasting
 pub mod Carrying
 pub mod Counted
 pub mod Demo

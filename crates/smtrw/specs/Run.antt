@@ -7,8 +7,9 @@ use Rattle.smtrw_answers.specs.declared.status.Usage.{Usage as UsageFault}
 use Rattle.smtrw_answers.specs.declared.status.Status.{Status}
 use Rattle.smtrw_answers.specs.declared.status.Why.TheVariants.{NoSuchCheck}
 use Rattle.smtrw_answers.specs.declared.status.Status.TheVariants.{Done, Refused, Usage, ReadFailed, WriteFailed, OutOfMemory, ModelRefused, Beyond128, PassRefused}
-use Rattle.smtrw_answers.specs.Words.{Word, Numbered, Source, of_file, drawn, Asked, rewrite, translate, extend, source_of, model_file_of}
-use Rattle.smtrw_answers.specs.Endings.{or_later, script_end, check_end, passes_end, end_of}
+use Rattle.smtrw_answers.specs.Words.{Word, Numbered, Source, of_file, drawn, Asked, rewrite, translate, extend, blast, unblast, source_of, model_file_of}
+use Rattle.smtrw_answers.specs.Endings.{or_later, script_end, check_end, passes_end, blasting_end, end_of}
+use Rattle.smtrw_answers.specs.Blasting.{IsBlasting}
 use Rattle.smtrw_answers.specs.Headline.{IsRewriting}
 use Rattle.smtrw_answers.specs.Outputs.{demo_script}
 use Rattle.smtrw_answers.specs.Written.{IsOutputOf}
@@ -24,20 +25,30 @@ WhereAsked (Ok asked) P = P asked
 abbrev pub CarriesModel : Asked → Type 0
 CarriesModel (translate passes check script model) = Unit {0}
 CarriesModel (extend passes check script model) = Unit {0}
+CarriesModel (unblast passes check script model) = Unit {0}
 CarriesModel _ = ⊥
 
 -- the commands that run passes
 abbrev pub RunsPasses : Asked → Type 0
 RunsPasses (rewrite passes layout script) = Unit {0}
+RunsPasses (blast passes check script) = Unit {0}
 RunsPasses asked = CarriesModel asked
 
--- the check at which a model is carried is missing: there are fewer
+-- the commands that make a check over bit vectors one over truth values
+abbrev pub BlastsCheck : Asked → Type 0
+BlastsCheck (blast passes check script) = Unit {0}
+BlastsCheck (unblast passes check script model) = Unit {0}
+BlastsCheck _ = ⊥
+
+-- the check that is asked for is missing: there are fewer
 abbrev pub IsMissing : ℕ → UsageFault → Type 0
 IsMissing check fault = (n : ℕ) × (fault ≡ record { word = 0; why = NoSuchCheck check n }) × (n < check)
 
 abbrev pub MissesCheck : Asked → UsageFault → Type 0
 MissesCheck (translate passes check script model) fault = IsMissing check fault
 MissesCheck (extend passes check script model) fault = IsMissing check fault
+MissesCheck (blast passes check script) fault = IsMissing check fault
+MissesCheck (unblast passes check script model) fault = IsMissing check fault
 MissesCheck _ fault = ⊥
 
 -- `Usage` comes exactly where the words have a fault, and is that one; else it says of no word that the check is missing
@@ -46,11 +57,12 @@ WordsFit (Err fault) status = status ≡ Usage fault
 WordsFit (Ok asked) (Usage fault) = MissesCheck asked fault
 WordsFit (Ok asked) _ = Unit {0}
 
--- a model is refused, and a value or a width of a term, only where a model is carried; a pass refuses only where passes are run
+-- a model is refused, and a value or a width of a term, only where a model is carried; a pass refuses only where passes are run, and what
+-- isn't over bits only where a check is made one over truth values
 abbrev pub MayEnd : Asked → Status → Type 0
 MayEnd asked (ModelRefused code line byte) = CarriesModel asked
 MayEnd asked (Beyond128 assertion) = CarriesModel asked
-MayEnd asked (PassRefused code assertion) = ((code ≡ 50) × RunsPasses asked) ⊎ ((code ≡ 71) × CarriesModel asked)
+MayEnd asked (PassRefused code assertion) = ((code ≡ 50) × RunsPasses asked) ⊎ (((code ≡ 71) × CarriesModel asked) ⊎ ((code ≡ 90) × BlastsCheck asked))
 MayEnd asked _ = Unit {0}
 
 -- ---- the texts that the words name
@@ -104,12 +116,17 @@ WriteFits before now _ = Unit {0}
 abbrev pub check_end_of : Asked → List ℕ → Option Status
 check_end_of (translate passes check script model) b = check_end b check
 check_end_of (extend passes check script model) b = check_end b check
+check_end_of (blast passes check script) b = check_end b check
+check_end_of (unblast passes check script model) b = check_end b check
 check_end_of _ b = None
 
+-- with the bits, where the check is made one over truth values
 abbrev pub passes_end_of : Asked → List ℕ → Option Status
 passes_end_of (rewrite passes layout script) b = passes_end b passes
 passes_end_of (translate passes check script model) b = passes_end b passes
 passes_end_of (extend passes check script model) b = passes_end b passes
+passes_end_of (blast passes check script) b = blasting_end b passes check
+passes_end_of (unblast passes check script model) b = blasting_end b passes check
 passes_end_of _ b = None
 
 -- before a model is read
@@ -117,7 +134,7 @@ abbrev pub early_end : Asked → List ℕ → Option Status
 early_end asked b = or_later (script_end b) (or_later (check_end_of asked b) (passes_end_of asked b))
 
 -- a told script is refused exactly where it is too long or isn't accepted, and so; a check is missing exactly where it has fewer,
--- and a pass refuses exactly where it meets what it refuses
+-- and a pass refuses exactly where it meets what it refuses, or where a live term isn't one over bits
 abbrev pub ScriptFits : Asked → List ℕ → Status → Type 0
 ScriptFits asked b (Refused r) = early_end asked b ≡ Some (Refused r)
 ScriptFits asked b (Usage u) = early_end asked b ≡ Some (Usage u)
@@ -154,10 +171,12 @@ Quiet before now Done = Unit {0}
 Quiet before now WriteFailed = Unit {0}
 Quiet before now _ = now ≡ before
 
--- what was sent of a told script at `Done` is a rewriting of it by the passes
+-- what was sent of a told script at `Done` is a rewriting of it by the passes, or what takes the place of its check behind them
 abbrev pub Promised : Texts → Option (List ℕ) → Option (List ℕ) → Status → Asked → Type 0
 Promised ts before now Done (rewrite passes layout file) =
     elim ts.script [ None ↦ Unit {0} | Some b ↦ (w : List ℕ) × (now ≡ with_bytes before w) × IsRewriting b passes w ]
+Promised ts before now Done (blast passes check file) =
+    elim ts.script [ None ↦ Unit {0} | Some b ↦ (w : List ℕ) × (now ≡ with_bytes before w) × IsBlasting b passes check w ]
 Promised ts before now status asked = Unit {0}
 
 abbrev pub NoneRose : (Word → ℕ) → (Word → ℕ) → Option Numbered → Type 0

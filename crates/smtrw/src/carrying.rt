@@ -13,7 +13,8 @@ ghost use Rattle.model_texts.specs.Proper.{IsProper};
 ghost use Rattle.smtrw_answers.specs.declared.status.Why.TheVariants.{NoSuchCheck};
 ghost use Rattle.smtrw_answers.specs.Asked.{numbered};
 ghost use Rattle.smtrw_answers.specs.Words.{Numbered};
-ghost use Rattle.smtrw.specs.Carrying.{EndsAtFile, EndsAtScript, EndsOnTheWay, HasBegun, IsModelRead, IsWay, IsWayOfSome, ReadsText, extension, translation};
+ghost use Rattle.smtrw_answers.specs.Endings.{passes_end};
+ghost use Rattle.smtrw.specs.Carrying.{EndsAtFile, EndsAtScript, EndsOnTheWay, HasBegun, IsModelRead, IsPassage, IsWay, IsWayOfSome, ReadsText, extension, translation};
 ghost use Rattle.smtrw.specs.Prepared.{EndsBefore, IsPrepared, texts_beside};
 
 use crate::rewriting::know_passes;
@@ -62,10 +63,10 @@ pub fn translated<I: Inputs>(
     ensures before { (script : Numbered) → IfErr result (EndsBefore (texts_beside forest.now.bytes (I.text inputs.old) (translation script asked.now)) (I.faults inputs.old) (I.faults inputs.new) (translation script asked.now)) }
     ensures text { (script : Numbered) → IfOk result (IsPrepared (⟦<RuleBook as Named>⟧.names book.now) (texts_beside forest.now.bytes (I.text inputs.old) (translation script asked.now)) (translation script asked.now)) }
 {
-    let way = way_over(alloc, forest, asked.passes, asked.check, book)?;
+    let passage = passage_over(alloc, forest, asked.passes, asked.check, book)?;
     // Left to the end of the program, which gives back all memory at once.
-    let way = ManuallyDrop::new(way);
-    carried_back(alloc, &way, asked, inputs)
+    let passage = ManuallyDrop::new(passage);
+    carried_back(alloc, &passage.way, asked, inputs)
 }
 
 /// The text of the model that a model in a file stands for, before the passes.
@@ -101,10 +102,10 @@ pub fn extended<I: Inputs>(
     ensures before { (script : Numbered) → IfErr result (EndsBefore (texts_beside forest.now.bytes (I.text inputs.old) (extension script asked.now)) (I.faults inputs.old) (I.faults inputs.new) (extension script asked.now)) }
     ensures text { (script : Numbered) → IfOk result (IsPrepared (⟦<RuleBook as Named>⟧.names book.now) (texts_beside forest.now.bytes (I.text inputs.old) (extension script asked.now)) (extension script asked.now)) }
 {
-    let way = way_over(alloc, forest, asked.passes, asked.check, book)?;
+    let passage = passage_over(alloc, forest, asked.passes, asked.check, book)?;
     // Left to the end of the program, which gives back all memory at once.
-    let way = ManuallyDrop::new(way);
-    carried_forth(alloc, &way, asked, inputs)
+    let passage = ManuallyDrop::new(passage);
+    carried_forth(alloc, &passage.way, asked, inputs)
 }
 
 /// The text of the model that a model in a file stands for, behind the passes.
@@ -129,26 +130,34 @@ fn carried_forth<I: Inputs>(
 /// What models of a check are carried with: the table of all terms, the plan of the passes, and what is declared at the check
 /// before and behind them.
 #[derive(Drop)]
-struct Way {
-    table: Table,
-    plan: Plan,
-    before: Signature,
-    behind: Signature,
+pub(crate) struct Way {
+    pub(crate) table: Table,
+    pub(crate) plan: Plan,
+    pub(crate) before: Signature,
+    pub(crate) behind: Signature,
 }
 
-/// The way over the passes that a script goes through, at a check.
-fn way_over(
+/// A script behind the passes, with the names that are left to draw and the way over the passes.
+#[derive(Drop)]
+pub(crate) struct Passage {
+    pub(crate) way: Way,
+    pub(crate) script: Script,
+    pub(crate) fresh: Fresh,
+}
+
+/// Reads a script that has a check, and goes over the passes with it.
+pub(crate) fn passage_over(
     alloc: Global,
     forest: &Forest,
     passes: &Passes,
     check: u64,
     book: &RuleBook,
-) -> Result<Way, Status>
+) -> Result<Passage, Status>
     requires read { IsRead forest.now }
     requires short { length forest.now.bytes ≤ longest_text }
     requires first { 1 ≤ check }
-    ensures way { IfOk result (IsWay forest.now.bytes passes.now check) }
-    ensures ends { IfErr result (EndsOnTheWay forest.now.bytes passes.now check) }
+    ensures passage { IfOk result (IsPassage forest.now.bytes passes.now check (⟦<RuleBook as Named>⟧.names book.now)) }
+    ensures ends { IfErr result (EndsOnTheWay forest.now.bytes check (passes_end forest.now.bytes passes.now)) }
 {
     reading_gives_a_printable_script();
     names_left_are_new();
@@ -160,12 +169,13 @@ fn way_over(
     let mut fresh = begun.fresh;
     let (script, plan) = run_passes(alloc, &mut table, begun.script, passes, book, &mut fresh)?;
     let behind = signature_at(alloc, &table, &script, check)?;
-    Ok(Way {
+    let way = Way {
         table,
         plan,
         before: begun.before,
         behind,
-    })
+    };
+    Ok(Passage { way, script, fresh })
 }
 
 /// A script that was read, with the names that are left to draw and what is declared at a check.
@@ -217,7 +227,7 @@ fn find_check(script: &Script, check: u64) -> Result<(), Status>
 }
 
 /// The model over a signature that the text in a file gives.
-fn model_in_file<I: Inputs>(
+pub(crate) fn model_in_file<I: Inputs>(
     alloc: Global,
     inputs: &mut I,
     file: File,
@@ -256,7 +266,7 @@ fn model_in_text(
 }
 
 /// The model's text over a signature.
-fn printed(
+pub(crate) fn printed(
     alloc: Global,
     table: &Table,
     model: &Model,

@@ -10,6 +10,7 @@ ghost use Rattle.smtrw_answers.specs.Words.{asked, source_of};
 ghost use Rattle.smtrw.specs.Prepared.{Delivers, EndsBefore, IsMadeFor, IsPrepared, texts_beside};
 ghost use Rattle.smtrw.specs.Run.{IsComplete, MayEnd, OutFits, Promised, Quiet, ReadFits, TextsFit, WhereAsked, WordsFit, WriteFits, texts_of};
 
+use crate::blasting::{blasted, unblasted};
 use crate::carrying::{Carriage, extended, translated};
 use crate::counting::counted;
 use crate::demo::{demo_script, demonstrated};
@@ -175,6 +176,20 @@ fn written<I: Inputs>(
                 model: *model,
             };
             extended(alloc, &forest, &carriage, inputs, book)
+        }
+        Asked::Blast { passes, check, .. } => blasted(alloc, &forest, passes, *check, book),
+        Asked::Unblast {
+            passes,
+            check,
+            model,
+            ..
+        } => {
+            let carriage = Carriage {
+                passes,
+                check: *check,
+                model: *model,
+            };
+            unblasted(alloc, &forest, &carriage, inputs, book)
         }
         Asked::Stats { .. } => counted(alloc, &forest),
         Asked::Demo { seed, size } => demonstrated(alloc, forest, *seed, *size, book),

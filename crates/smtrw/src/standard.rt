@@ -90,7 +90,8 @@ fn unbegun(alloc: Global, words: &[String]) -> Status
     ensures { IsUnbegun (asked (map string_bytes words.now)) result }
 {
     match parse_words(alloc, words) {
+        Ok(_) => Status::OutOfMemory,
         Err(WordsFault::Usage(usage)) => Status::Usage(usage),
-        _ => Status::OutOfMemory,
+        Err(WordsFault::Memory) => Status::OutOfMemory,
     }
 }

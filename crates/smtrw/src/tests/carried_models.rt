@@ -7,7 +7,7 @@ use std::test::Fail;
 
 /// Tries rows, with `$` between them: the status's number, the words, the script, the model's text, and what goes out on both
 /// streams, with `%` between these.
-fn all_carry(rt: &impl Abort, alloc: Global, rows: &str) -> Result<(), Fail> {
+pub(super) fn all_carry(rt: &impl Abort, alloc: Global, rows: &str) -> Result<(), Fail> {
     for row in rows.split('$') {
         let mut parts = row.split('%');
         match (

@@ -1,4 +1,4 @@
-use Rattle.std.proofs.Common.{◌≡◌, ◌∙◌, ap, ℕ, List, length}
+use Rattle.std.proofs.Common.{◌≡◌, ap, ℕ, List, length}
 use Rattle.smtrw_answers.specs.declared.status.Status.{Status}
 use Rattle.smtrw_answers.specs.declared.status.Status.TheVariants.{OutOfMemory}
 use Rattle.smtrw.proofs.CarriedModels.{if_refused}

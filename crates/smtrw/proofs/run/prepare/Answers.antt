@@ -1,11 +1,10 @@
 use Rattle.std.proofs.Common.{rules, ◌≡◌, ◌∙◌, refl, sym, ap, subst, ℕ, ◌≤◌, List, length}
-use Rattle.std.specs.Prelude.{IfSome, vec_len}
+use Rattle.std.specs.Prelude.{IfSome}
 use Rattle.smtrw_answers.specs.declared.words.File.{File}
 use Rattle.smtrw_answers.specs.declared.words.Source.{Source as Found}
 use Rattle.smtrw_answers.specs.declared.words.Source.TheVariants.{File as FromFile}
 use Rattle.smtrw_answers.specs.Asked.{asked_seen, numbered, source_seen}
 use Rattle.smtrw_answers.specs.Endings.{longest_text}
-use Rattle.smtrw_answers.specs.Outputs.{demo_script}
 use Rattle.smtrw_answers.specs.Words.{greatest_size, Asked, Source, of_file, source_of}
 use Rattle.smtrw.specs.Prepared.{EndsBefore, IsPrepared}
 use Rattle.smtrw.specs.Run.{RoseForScript, script_text_of, texts_of}

@@ -3,7 +3,7 @@ use Rattle.std.specs.Prelude.{IfErr, IfOk}
 use Rattle.smt_terms.specs.Sorts.{Name}
 use Rattle.smtrw_answers.specs.declared.status.Status.{Status}
 use Rattle.smtrw_answers.specs.declared.words.Asked.{Asked}
-use Rattle.smtrw_answers.specs.declared.words.Asked.TheVariants.{Rewrite, Translate, Extend, Stats, Demo}
+use Rattle.smtrw_answers.specs.declared.words.Asked.TheVariants.{Rewrite, Translate, Extend, Blast, Unblast, Stats, Demo}
 use Rattle.smtrw_answers.specs.Asked.{asked_seen, numbered}
 use Rattle.smtrw_answers.specs.Endings.{longest_text}
 use Rattle.smtrw_answers.specs.Faults.{status_of_lexing}
@@ -96,6 +96,41 @@ returns-in-Extend-clause-text g c =
     prepared_asked _ b text c.extended.result c.args.asked.now found c.in-Extend.is
     (read_prepared b c.in_ok-forest.forest.bytes c.in_ok-forest.ensures.bytes text _ (asked_seen found) c.extended.result (c.extended.ensures.text (numbered c.in-Extend.script)))
 
+pub returns-in-Blast-clause-before : goal.returns-in-Blast-clause-before
+returns-in-Blast-clause-before g c =
+    let b = c.args.bytes.items in
+    let text = g.I.Inputs.text c.args.inputs.now in
+    let faults = g.I.Inputs.faults c.args.inputs.now in
+    let found : Asked = Blast c.in-Blast.passes c.in-Blast.check c.in-Blast.script in
+    before_asked b text faults faults c.blasted.result c.args.asked.now found c.in-Blast.is
+    (read_before b c.in_ok-forest.forest.bytes c.in_ok-forest.ensures.bytes text faults faults (asked_seen found) c.blasted.result (c.blasted.ensures.before (numbered c.in-Blast.script) text faults faults))
+
+pub returns-in-Blast-clause-text : goal.returns-in-Blast-clause-text
+returns-in-Blast-clause-text g c =
+    let b = c.args.bytes.items in
+    let text = g.I.Inputs.text c.args.inputs.now in
+    let found : Asked = Blast c.in-Blast.passes c.in-Blast.check c.in-Blast.script in
+    prepared_asked _ b text c.blasted.result c.args.asked.now found c.in-Blast.is
+    (read_prepared b c.in_ok-forest.forest.bytes c.in_ok-forest.ensures.bytes text _ (asked_seen found) c.blasted.result (c.blasted.ensures.text (numbered c.in-Blast.script) _ text))
+
+pub returns-in-Unblast-clause-before : goal.returns-in-Unblast-clause-before
+returns-in-Unblast-clause-before g c =
+    let b = c.args.bytes.items in
+    let text = g.I.Inputs.text c.args.inputs.now in
+    let faults = g.I.Inputs.faults c.args.inputs.now in
+    let later = g.I.Inputs.faults c.unblasted.new.inputs in
+    let found : Asked = Unblast c.in-Unblast.passes c.in-Unblast.check c.in-Unblast.script c.in-Unblast.model in
+    before_asked b text faults later c.unblasted.result c.args.asked.now found c.in-Unblast.is
+    (read_before b c.in_ok-forest.forest.bytes c.in_ok-forest.ensures.bytes text faults later (asked_seen found) c.unblasted.result (c.unblasted.ensures.before (numbered c.in-Unblast.script)))
+
+pub returns-in-Unblast-clause-text : goal.returns-in-Unblast-clause-text
+returns-in-Unblast-clause-text g c =
+    let b = c.args.bytes.items in
+    let text = g.I.Inputs.text c.args.inputs.now in
+    let found : Asked = Unblast c.in-Unblast.passes c.in-Unblast.check c.in-Unblast.script c.in-Unblast.model in
+    prepared_asked _ b text c.unblasted.result c.args.asked.now found c.in-Unblast.is
+    (read_prepared b c.in_ok-forest.forest.bytes c.in_ok-forest.ensures.bytes text _ (asked_seen found) c.unblasted.result (c.unblasted.ensures.text (numbered c.in-Unblast.script) _))
+
 pub returns-in-Stats-clause-before : goal.returns-in-Stats-clause-before
 returns-in-Stats-clause-before g c =
     let b = c.args.bytes.items in
@@ -137,3 +172,31 @@ extended-requires-clause-first g c =
     let found : Asked = Extend c.in-Extend.passes c.in-Extend.check c.in-Extend.script c.in-Extend.model in
     let is : c.args.asked.now ≡ found = c.in-Extend.is in
     subst (λ (a : Asked). IsInRange (asked_seen a)) is c.requires.range
+
+pub blasted-requires-clause-first : goal.blasted-requires-clause-first
+blasted-requires-clause-first g c =
+    let found : Asked = Blast c.in-Blast.passes c.in-Blast.check c.in-Blast.script in
+    let is : c.args.asked.now ≡ found = c.in-Blast.is in
+    let range : IsInRange (asked_seen found) = subst (λ (a : Asked). IsInRange (asked_seen a)) is c.requires.range in
+    range.0
+
+pub blasted-requires-clause-rules : goal.blasted-requires-clause-rules
+blasted-requires-clause-rules g c =
+    let found : Asked = Blast c.in-Blast.passes c.in-Blast.check c.in-Blast.script in
+    let is : c.args.asked.now ≡ found = c.in-Blast.is in
+    let range : IsInRange (asked_seen found) = subst (λ (a : Asked). IsInRange (asked_seen a)) is c.requires.range in
+    range.1
+
+pub unblasted-requires-clause-first : goal.unblasted-requires-clause-first
+unblasted-requires-clause-first g c =
+    let found : Asked = Unblast c.in-Unblast.passes c.in-Unblast.check c.in-Unblast.script c.in-Unblast.model in
+    let is : c.args.asked.now ≡ found = c.in-Unblast.is in
+    let range : IsInRange (asked_seen found) = subst (λ (a : Asked). IsInRange (asked_seen a)) is c.requires.range in
+    range.0
+
+pub unblasted-requires-clause-rules : goal.unblasted-requires-clause-rules
+unblasted-requires-clause-rules g c =
+    let found : Asked = Unblast c.in-Unblast.passes c.in-Unblast.check c.in-Unblast.script c.in-Unblast.model in
+    let is : c.args.asked.now ≡ found = c.in-Unblast.is in
+    let range : IsInRange (asked_seen found) = subst (λ (a : Asked). IsInRange (asked_seen a)) is c.requires.range in
+    range.1

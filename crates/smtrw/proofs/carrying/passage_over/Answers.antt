@@ -5,13 +5,14 @@ use Rattle.script_read.specs.CommandLists.{commands_of}
 use Rattle.script_read.specs.Commands.{Command}
 use Rattle.passes.specs.Laws.{IsReady}
 use Rattle.smtrw_answers.specs.declared.status.Status.TheVariants.{OutOfMemory}
+use Rattle.smtrw_answers.specs.Endings.{passes_end}
 use Rattle.smtrw_answers.specs.Faults.{status_of_passing}
 use Rattle.smtrw.specs.declared.carrying.Way.{Way}
 use Rattle.smtrw.specs.Carrying.{EndsOnTheWay}
 use Rattle.smtrw.proofs.CarriedModels.{if_refused}
 use Rattle.smtrw.proofs.Commanded.{checks_are}
-use Rattle.smtrw.proofs.Ways.{leads_over, refused_way, same_checks, script_on_the_way, way_is}
-use Rattle.smtrw.proofs.carrying.way_over.Goals as goal
+use Rattle.smtrw.proofs.Ways.{carried_from, leads_over, led_from, refused_way, same_checks, script_on_the_way, way_is}
+use Rattle.smtrw.proofs.carrying.passage_over.Goals as goal
 
 pub run_passes-requires-clause-ready : goal.run_passes-requires-clause-ready
 run_passes-requires-clause-ready g c =
@@ -27,7 +28,7 @@ returns-in_err-begun-clause-ends g c =
     let ps = c.args.passes.now in
     let k = c.args.check in
     let status = c.in_err-begun.field-0.0 in
-    if_refused _ (EndsOnTheWay b ps k) status c.from_residual.ensures.1 (script_on_the_way b ps k status c.in_err-begun.ensures.ends)
+    if_refused _ (EndsOnTheWay b k (passes_end b ps)) status c.from_residual.ensures.1 (script_on_the_way b k (passes_end b ps) status c.in_err-begun.ensures.ends)
 
 pub returns-in_err-script-clause-ends : goal.returns-in_err-script-clause-ends
 returns-in_err-script-clause-ends g c =
@@ -39,7 +40,7 @@ returns-in_err-script-clause-ends g c =
     let read : List (Command Term) × Supply = (commands_of c.read_with_check.new.table c.in_ok-begun.begun.script.commands, c.in_ok-begun.begun.fresh) in
     let last = begun.last in
     let checks = checks_are c.read_with_check.new.table c.in_ok-begun.begun.script.commands in
-    if_refused _ (EndsOnTheWay b ps k) (status_of_passing fault) c.from_residual-in_err-script.ensures.1
+    if_refused _ (EndsOnTheWay b k (passes_end b ps)) (status_of_passing fault) c.from_residual-in_err-script.ensures.1
     (refused_way b ps k read begun.reads c.requires.short (omega (arith, last, checks)) fault c.in_err-script.ensures.refused)
 
 pub signature_at-requires-clause-last : goal.signature_at-requires-clause-last
@@ -53,10 +54,10 @@ signature_at-requires-clause-last g c =
     omega (arith, before, behind, same, last)
 
 pub returns-in_err-behind-clause-ends : goal.returns-in_err-behind-clause-ends
-returns-in_err-behind-clause-ends g c = if_refused _ (EndsOnTheWay c.args.forest.now.bytes c.args.passes.now c.args.check) OutOfMemory c.from_residual-in_err-behind.ensures.1 tt
+returns-in_err-behind-clause-ends g c = if_refused _ (EndsOnTheWay c.args.forest.now.bytes c.args.check (passes_end c.args.forest.now.bytes c.args.passes.now)) OutOfMemory c.from_residual-in_err-behind.ensures.1 tt
 
-pub returns-clause-way : goal.returns-clause-way
-returns-clause-way g c =
+pub returns-clause-passage : goal.returns-clause-passage
+returns-clause-passage g c =
     let b = c.args.forest.now.bytes in
     let ps = c.args.passes.now in
     let k = c.args.check in
@@ -76,5 +77,12 @@ returns-clause-way g c =
     let grows = c.in_ok-script.ensures.grows in
     let last = checks_are old c.in_ok-begun.begun.script.commands in
     let few = begun.last in
-    way_is b ps k cs ds s r ready carried led law old way grows begun.reads c.requires.short c.in_ok-script.ensures.refused
-    (leads_over b ps k cs ds s r ready carried led law old way grows c.requires.first (omega (arith, last, few)) order begun.live begun.before c.in_ok-behind.ensures.numbers c.in_ok-behind.ensures.signature c.in_ok-script.ensures.over c.in_ok-script.ensures.plan)
+    let is_way = way_is b ps k cs ds s r ready carried led law old way grows begun.reads c.requires.short c.in_ok-script.ensures.refused
+    (leads_over b ps k cs ds s r ready carried led law old way grows c.requires.first (omega (arith, last, few)) order begun.live begun.before c.in_ok-behind.ensures.numbers c.in_ok-behind.ensures.signature c.in_ok-script.ensures.over c.in_ok-script.ensures.plan) in
+    record {
+      way = is_way;
+      numbers = c.in_ok-script.ensures.numbers;
+      leads = led_from b (cs, s) begun.reads ps _ ds r c.in_ok-script.ensures.leads;
+      carried = carried_from b (cs, s) begun.reads ps ds r carried;
+      kept = c.in_ok-script.ensures.kept;
+    }
