@@ -9,4 +9,8 @@ mod PartLists
 mod ClauseLists
 mod ClauseValues
 mod AnsweredModels
-mod Answered
+pub mod Answered
+mod LiveNumbered
+mod DistinctSymbols
+mod LinkedChecks
+mod UnlinkedRoots

@@ -97,6 +97,23 @@ fn count_clauses(table: &Table, numbers: &Numbers, roots: &[NodeId]) -> Result<u
     Ok(count)
 }
 
+// Whether these are clauses over different constants of the table, as `dimacs_text` asks.
+pub(crate) fn check_clauses(
+    alloc: Global,
+    table: &Table,
+    roots: &[NodeId],
+    constants: &[SymId],
+) -> Result<(), LinkFault>
+    requires roots { AreNodes table.now roots.now }
+    requires constants { AreConstants table.now constants.now }
+    ensures clauses { OnOk result (All (λ u. is_clause (constants_at table.now constants.now) u ≡ true) (trees_at table.now roots.now)) }
+    ensures fault { IfErr result (IsLinkFault (constants_at table.now constants.now) (trees_at table.now roots.now)) }
+{
+    let numbers = Numbers::of(alloc, table, constants)?;
+    count_clauses(table, &numbers, roots)?;
+    Ok(())
+}
+
 // Appends a number in decimal digits.
 fn push_number(text: &mut Vec<u8>, number: u64) -> Result<(), AllocError>
     ensures { OnOk result (text.new.items ≡ text.old.items ++ decimal number) }

@@ -1,5 +1,6 @@
-//! The laws of clauses, each as the contract of a function that does nothing.
+//! The laws of clauses and of checks, each as the contract of a function that does nothing.
 
+ghost use Rattle.dimacs_link.specs.Checks.{ChecksAreLinked};
 ghost use Rattle.dimacs_link.specs.Laws.{AnswersAreModels, ModelsAreAnswers};
 
 /// The model that truth values of the constants stand for makes all roots true exactly where the truth values make their clauses
@@ -12,3 +13,12 @@ pub fn answers_are_models()
 pub fn models_are_answers()
     ensures { ModelsAreAnswers }
 {}
+
+/// Where the live assertions and the literals of a check are clauses, truth values make the clauses true exactly where the model that
+/// they stand for satisfies the check; and a model satisfies it exactly where the truth values of the constants in it make them true.
+pub fn checks_are_linked()
+    ensures { ChecksAreLinked }
+{
+    answers_are_models();
+    models_are_answers();
+}

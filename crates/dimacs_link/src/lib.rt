@@ -4,6 +4,7 @@
 
 mod answer_models;
 mod answers;
+mod checks;
 mod clauses;
 mod items;
 pub mod laws;
@@ -16,5 +17,6 @@ mod truths;
 
 pub use answer_models::answer_model;
 pub use answers::{Answer, AnswerFault, read_answer};
+pub use checks::{LinkCheckFault, clause_constants, link_check};
 pub use clauses::{LinkFault, dimacs_text};
 pub use truths::Truths;
