@@ -35,11 +35,11 @@ module _ (laws : TextLaws) (b : List ℕ) (ps : List Pass) (k : ℕ) (blasted : 
       let is : IsModelOf ds 1 m = printed_model laws Dag ds blasted.printable m 1 over held in
       let up = blasted.lifts m is.over in
       let behind : IsModelOf (rewritten_commands b ps) k (lifted b ps k m) = record { over = up.0; sat = up.1 ∙ is.sat } in
-      model_read laws b reads (unblasted b ps k m) k (carried.back k (lifted b ps k m) behind)
+      model_read laws.reading b reads (unblasted b ps k m) k (carried.back k (lifted b ps k m) behind)
 
   model_forth : (m : Model) → IsModelAt b k m → holds m b k ≡ true → IsModelAt (blasted_text b ps k) 1 (blasted_model b ps k m) × (holds (blasted_model b ps k m) (blasted_text b ps k) 1 ≡ true)
   model_forth m over held =
-      let is : IsModelOf (rewritten_commands b ps) k (extended b ps k m) = carried.forth k m (read_model laws b reads m k over held) in
+      let is : IsModelOf (rewritten_commands b ps) k (extended b ps k m) = carried.forth k m (read_model laws.reading b reads m k over held) in
       let down = blasted.lowers (extended b ps k m) is.over in
       let made : IsModelOf ds 1 (blasted_model b ps k m) = record { over = down.0; sat = down.1 ∙ is.sat } in
       model_printed laws Dag ds blasted.printable (blasted_model b ps k m) 1 made
@@ -59,4 +59,4 @@ module _ (laws : TextLaws) (b : List ℕ) (ps : List Pass) (k : ℕ) (blasted : 
 pub keeps_blasting : BlastingLaws → BlastingKeepsItsPromise
 keeps_blasting laws b ps k accepted some few taken ready carried =
     let blasted : IsBlasted (rewritten_commands b ps) k (names_behind b ps) (blasted_commands b ps k) = laws.blasted (rewritten_commands b ps) k (names_behind b ps) ready.printable ready.names some few taken in
-    promise laws.texts b ps k blasted carried (read_found (script b) ((laws.texts.answers b).1 accepted))
+    promise laws.texts b ps k blasted carried (read_found (script b) ((laws.texts.reading.answers b).1 accepted))

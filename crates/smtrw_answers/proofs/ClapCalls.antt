@@ -10,12 +10,12 @@ use Rattle.clap.specs.declared.parser.matches.ArgMatches.{ArgMatches}
 use Rattle.clap.specs.declared.parser.matches.Found.{Found}
 use Rattle.clap.proofs.WalkLemmas.{first_value-rows}
 use Rattle.smtrw_answers.specs.declared.status.Usage.{Usage}
-use Rattle.smtrw_answers.specs.Words.{Word, Numbered, Command, rewriting, translating, extending, blasting, unblasting, counting, demonstrating, takes_pass, Setting, Given, nothing_given, words_from, Asked, rewrite, translate, extend, blast, unblast, stats, demo, asked_with, asked_or_missing, at_end, asked_of, asked, command_named}
+use Rattle.smtrw_answers.specs.Words.{Word, Numbered, Command, rewriting, translating, extending, blasting, unblasting, linking, answering, counting, demonstrating, takes_pass, Setting, Given, nothing_given, words_from, Asked, rewrite, translate, extend, blast, unblast, dimacs, answer, stats, demo, asked_with, asked_or_missing, at_end, asked_of, asked, command_named}
 use Rattle.smtrw_answers.specs.Asking.{IsAskedBy, IsRewriting, IsCarrying, IsBlasting, IsCounting, IsDemonstrating, GivesRewriting, GivesCarrying, GivesBlasting, GivesCounting, GivesDemonstrating}
 use Rattle.smtrw_answers.proofs.ClapRows.{rewrite_app, carry_app, blast_app, stats_app, demo_app, rewrite_is_simple, carry_is_simple, blast_is_simple, stats_is_simple, demo_is_simple}
 use Rattle.smtrw_answers.proofs.ClapCommands.{rewrite_taking, carry_taking, blast_taking, stats_taking, demo_taking}
 use Rattle.smtrw_answers.proofs.ClapWords.{and_then_ok, file_put}
-use Rattle.smtrw_answers.proofs.ClapMatches.{Matched, all_matched, rewriting_given, translating_given, extending_given, unblasting_given, blasting_given, counting_given, demonstrating_given}
+use Rattle.smtrw_answers.proofs.ClapMatches.{Matched, all_matched, rewriting_given, translating_given, extending_given, unblasting_given, answering_given, blasting_given, linking_given, counting_given, demonstrating_given}
 use Rattle.smtrw_answers.proofs.DemoWords.{number_put, numbers_given}
 
 -- ---- a command without the flag for help
@@ -48,6 +48,13 @@ asked_with_by unblasting i g [] a e = absurd cc
 asked_with_by unblasting i g (s ∷ []) a e = absurd cc
 asked_with_by unblasting i g (s ∷ m ∷ []) a e = subst (IsAskedBy unblasting) (ok_asked _ a e) refl
 asked_with_by unblasting i g (s ∷ m ∷ x ∷ fs) a e = absurd cc
+asked_with_by linking i g [] a e = absurd cc
+asked_with_by linking i g (f ∷ []) a e = subst (IsAskedBy linking) (ok_asked _ a e) refl
+asked_with_by linking i g (f ∷ x ∷ fs) a e = absurd cc
+asked_with_by answering i g [] a e = absurd cc
+asked_with_by answering i g (s ∷ []) a e = absurd cc
+asked_with_by answering i g (s ∷ m ∷ []) a e = subst (IsAskedBy answering) (ok_asked _ a e) refl
+asked_with_by answering i g (s ∷ m ∷ x ∷ fs) a e = absurd cc
 asked_with_by counting i g [] a e = absurd cc
 asked_with_by counting i g (f ∷ []) a e = subst (IsAskedBy counting) (ok_asked _ a e) refl
 asked_with_by counting i g (f ∷ x ∷ fs) a e = absurd cc
@@ -99,7 +106,9 @@ rewriting_taken (w ∷ ws) is = go (asked (w ∷ ws)) refl is
     go (Ok (translate ps k s m)) e is = absurd is
     go (Ok (extend ps k s m)) e is = absurd is
     go (Ok (blast ps k f)) e is = absurd is
+    go (Ok (dimacs ps k f)) e is = absurd is
     go (Ok (unblast ps k s m)) e is = absurd is
+    go (Ok (answer ps k s m)) e is = absurd is
     go (Ok (stats f)) e is = absurd is
     go (Ok (demo s n)) e is = absurd is
     go (Err u) e is = absurd is
@@ -127,27 +136,41 @@ carrying_taken name (w ∷ ws) is = go (asked (w ∷ ws)) refl is
         let all = all_matched unblasting (carry_app name) (codes "script" ∷ codes "model" ∷ []) (carry_taking name) file_put w ws (unblast ps k s m) of in
         taken_as unblasting (carry_app name) (codes "script" ∷ codes "model" ∷ []) (w ∷ ws) all.0 (carry_is_simple name) all.1 GivesCarrying (unblast ps k s m) e
         (λ found same. unblasting_given (matches_of (carry_app name) (w ∷ ws)) found same (suc (suc (length ws))) all.0 ps k s m all.1.holds all.2)
+    go (Ok (answer ps k s m)) e is =
+        let by = asked_of_by (command_named w) ws (answer ps k s m) e in
+        let of = by_command answering by.0 w ws (answer ps k s m) by.1 by.2 e in
+        let all = all_matched answering (carry_app name) (codes "script" ∷ codes "model" ∷ []) (carry_taking name) file_put w ws (answer ps k s m) of in
+        taken_as answering (carry_app name) (codes "script" ∷ codes "model" ∷ []) (w ∷ ws) all.0 (carry_is_simple name) all.1 GivesCarrying (answer ps k s m) e
+        (λ found same. answering_given (matches_of (carry_app name) (w ∷ ws)) found same (suc (suc (length ws))) all.0 ps k s m all.1.holds all.2)
     go (Ok (rewrite ps l f)) e is = absurd is
     go (Ok (blast ps k f)) e is = absurd is
+    go (Ok (dimacs ps k f)) e is = absurd is
     go (Ok (stats f)) e is = absurd is
     go (Ok (demo s n)) e is = absurd is
     go (Err u) e is = absurd is
 
-pub blasting_taken : (words : List Word) → IsBlasting (asked words) → IsTaken blast_app GivesBlasting words
-blasting_taken [] is = absurd is
-blasting_taken (w ∷ ws) is = go (asked (w ∷ ws)) refl is
+pub blasting_taken : (name : Text) (words : List Word) → IsBlasting (asked words) → IsTaken (blast_app name) GivesBlasting words
+blasting_taken name [] is = absurd is
+blasting_taken name (w ∷ ws) is = go (asked (w ∷ ws)) refl is
   where
-    go : (r : Result Asked Usage) → asked (w ∷ ws) ≡ r → IsBlasting r → IsTaken blast_app GivesBlasting (w ∷ ws)
+    go : (r : Result Asked Usage) → asked (w ∷ ws) ≡ r → IsBlasting r → IsTaken (blast_app name) GivesBlasting (w ∷ ws)
     go (Ok (blast ps k f)) e is =
         let by = asked_of_by (command_named w) ws (blast ps k f) e in
         let of = by_command blasting by.0 w ws (blast ps k f) by.1 by.2 e in
-        let all = all_matched blasting blast_app (codes "script" ∷ []) blast_taking file_put w ws (blast ps k f) of in
-        taken_as blasting blast_app (codes "script" ∷ []) (w ∷ ws) all.0 blast_is_simple all.1 GivesBlasting (blast ps k f) e
-        (λ found same. blasting_given (matches_of blast_app (w ∷ ws)) found same (suc (suc (length ws))) all.0 ps k f all.1.holds all.2)
+        let all = all_matched blasting (blast_app name) (codes "script" ∷ []) (blast_taking name) file_put w ws (blast ps k f) of in
+        taken_as blasting (blast_app name) (codes "script" ∷ []) (w ∷ ws) all.0 (blast_is_simple name) all.1 GivesBlasting (blast ps k f) e
+        (λ found same. blasting_given (matches_of (blast_app name) (w ∷ ws)) found same (suc (suc (length ws))) all.0 ps k f all.1.holds all.2)
+    go (Ok (dimacs ps k f)) e is =
+        let by = asked_of_by (command_named w) ws (dimacs ps k f) e in
+        let of = by_command linking by.0 w ws (dimacs ps k f) by.1 by.2 e in
+        let all = all_matched linking (blast_app name) (codes "script" ∷ []) (blast_taking name) file_put w ws (dimacs ps k f) of in
+        taken_as linking (blast_app name) (codes "script" ∷ []) (w ∷ ws) all.0 (blast_is_simple name) all.1 GivesBlasting (dimacs ps k f) e
+        (λ found same. linking_given (matches_of (blast_app name) (w ∷ ws)) found same (suc (suc (length ws))) all.0 ps k f all.1.holds all.2)
     go (Ok (rewrite ps l f)) e is = absurd is
     go (Ok (translate ps k s m)) e is = absurd is
     go (Ok (extend ps k s m)) e is = absurd is
     go (Ok (unblast ps k s m)) e is = absurd is
+    go (Ok (answer ps k s m)) e is = absurd is
     go (Ok (stats f)) e is = absurd is
     go (Ok (demo s n)) e is = absurd is
     go (Err u) e is = absurd is
@@ -166,7 +189,9 @@ counting_taken (w ∷ ws) is = go (asked (w ∷ ws)) refl is
     go (Ok (translate ps k s m)) e is = absurd is
     go (Ok (extend ps k s m)) e is = absurd is
     go (Ok (blast ps k f)) e is = absurd is
+    go (Ok (dimacs ps k f)) e is = absurd is
     go (Ok (unblast ps k s m)) e is = absurd is
+    go (Ok (answer ps k s m)) e is = absurd is
     go (Ok (rewrite ps l f)) e is = absurd is
     go (Ok (demo s n)) e is = absurd is
     go (Err u) e is = absurd is
@@ -185,7 +210,9 @@ demonstrating_taken (w ∷ ws) is = go (asked (w ∷ ws)) refl is
     go (Ok (translate ps k s m)) e is = absurd is
     go (Ok (extend ps k s m)) e is = absurd is
     go (Ok (blast ps k f)) e is = absurd is
+    go (Ok (dimacs ps k f)) e is = absurd is
     go (Ok (unblast ps k s m)) e is = absurd is
+    go (Ok (answer ps k s m)) e is = absurd is
     go (Ok (rewrite ps l f)) e is = absurd is
     go (Ok (stats f)) e is = absurd is
     go (Err u) e is = absurd is

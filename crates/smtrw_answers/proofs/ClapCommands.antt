@@ -137,7 +137,7 @@ rewrite_taking = record {
   taken = λ name ws rows p n stand settles turns. leaf_takes (built rewrite_app) nothing_held ws refl (rewrite_level ws rows p n stand settles turns);
 }
 
--- ---- translating, extending and unblasting
+-- ---- translating, extending, unblasting and answering
 
 abbrev carry_ids : List Text
 carry_ids = codes "script" ∷ codes "model" ∷ []
@@ -237,7 +237,7 @@ module _ (name : Text) where
     taken = λ word ws rows p n stand settles turns. leaf_takes (built (carry_app name)) nothing_held ws refl (carry_level ws rows p n stand settles turns);
   }
 
--- ---- blasting
+-- ---- blasting and linking
 
 abbrev blast_ids : List Text
 blast_ids = codes "script" ∷ []
@@ -247,70 +247,71 @@ no_blast_option of_passes = refl
 no_blast_option of_layout = refl
 no_blast_option of_check = refl
 
-abbrev blast_shape : Shape
-blast_shape = (built blast_app).top
+module _ (name : Text) where
+  abbrev blast_shape : Shape
+  blast_shape = (built (blast_app name)).top
 
-blast_passes : TakesOption blast_shape of_passes
-unfolding walked
-blast_passes = record {
-  attached = λ rows p n v. refl;
-  attached_turn = λ rows p n v settles no_row. rw (settles, no_row) refl;
-  begun = λ rows p n. refl;
-  begun_turn = λ rows p n settles. rw settles refl;
-  value = λ rows n w plain. rw (plain.no_end, plain.no_long, plain.no_short) refl;
-  value_turn = λ rows n w plain. rw (plain.no_end, plain.no_long, plain.no_short) refl;
-  settled = λ rows w. refl;
-  settles = λ rows w no_row. rw no_row refl;
-}
+  blast_passes : TakesOption blast_shape of_passes
+  unfolding walked
+  blast_passes = record {
+    attached = λ rows p n v. refl;
+    attached_turn = λ rows p n v settles no_row. rw (settles, no_row) refl;
+    begun = λ rows p n. refl;
+    begun_turn = λ rows p n settles. rw settles refl;
+    value = λ rows n w plain. rw (plain.no_end, plain.no_long, plain.no_short) refl;
+    value_turn = λ rows n w plain. rw (plain.no_end, plain.no_long, plain.no_short) refl;
+    settled = λ rows w. refl;
+    settles = λ rows w no_row. rw no_row refl;
+  }
 
-blast_check : TakesOption blast_shape of_check
-unfolding walked
-blast_check = record {
-  attached = λ rows p n v. refl;
-  attached_turn = λ rows p n v settles no_row. rw (settles, no_row) refl;
-  begun = λ rows p n. refl;
-  begun_turn = λ rows p n settles. rw settles refl;
-  value = λ rows n w plain. rw (plain.no_end, plain.no_long, plain.no_short) refl;
-  value_turn = λ rows n w plain. rw (plain.no_end, plain.no_long, plain.no_short) refl;
-  settled = λ rows w. refl;
-  settles = λ rows w no_row. rw no_row refl;
-}
+  blast_check : TakesOption blast_shape of_check
+  unfolding walked
+  blast_check = record {
+    attached = λ rows p n v. refl;
+    attached_turn = λ rows p n v settles no_row. rw (settles, no_row) refl;
+    begun = λ rows p n. refl;
+    begun_turn = λ rows p n settles. rw settles refl;
+    value = λ rows n w plain. rw (plain.no_end, plain.no_long, plain.no_short) refl;
+    value_turn = λ rows n w plain. rw (plain.no_end, plain.no_long, plain.no_short) refl;
+    settled = λ rows w. refl;
+    settles = λ rows w no_row. rw no_row refl;
+  }
 
-blast_script : TakesPlace blast_shape blast_ids []
-unfolding walked
-blast_script = record {
-  id = codes "script";
-  met = λ rows p w plain. rw (plain.no_end, plain.no_long, plain.no_short, and_false) refl;
-  turn = λ rows p w plain settles. rw (plain.no_end, plain.no_long, plain.no_short, settles, and_false) refl;
-  settles = λ rows w no_row. rw no_row refl;
-  added = λ rows w no_row. row_added (codes "script") w _ rows refl no_row;
-  free = λ rows is. is.0;
-  put = λ f old new added is. (added.first, tt);
-  apart = script_apart;
-}
+  blast_script : TakesPlace blast_shape blast_ids []
+  unfolding walked
+  blast_script = record {
+    id = codes "script";
+    met = λ rows p w plain. rw (plain.no_end, plain.no_long, plain.no_short, and_false) refl;
+    turn = λ rows p w plain settles. rw (plain.no_end, plain.no_long, plain.no_short, settles, and_false) refl;
+    settles = λ rows w no_row. rw no_row refl;
+    added = λ rows w no_row. row_added (codes "script") w _ rows refl no_row;
+    free = λ rows is. is.0;
+    put = λ f old new added is. (added.first, tt);
+    apart = script_apart;
+  }
 
-blast_place : (fs : List Numbered) → nat_le 1 (length fs) ≡ false → TakesPlace blast_shape blast_ids fs
-blast_place [] room = blast_script
-blast_place (f ∷ fs) room = absurd (no_room 1 (suc (length fs)) (omega arith) room)
+  blast_place : (fs : List Numbered) → nat_le 1 (length fs) ≡ false → TakesPlace blast_shape blast_ids fs
+  blast_place [] room = blast_script
+  blast_place (f ∷ fs) room = absurd (no_room 1 (suc (length fs)) (omega arith) room)
 
-blast_finished : (rows : List Row) (p : Pending) → finished blast_shape.rules (held_at rows p) ≡ settled_rows blast_shape.rules p rows
-blast_finished rows p = simp same_either
+  blast_finished : (rows : List Row) (p : Pending) → finished blast_shape.rules (held_at rows p) ≡ settled_rows blast_shape.rules p rows
+  blast_finished rows p = simp same_either
 
-blast_level : (ws : List Word) (rows : List Row) (p : Pending) (n : ℕ) → walk blast_shape.rules [] nothing_held ws ≡ walk_at rows p idle n
-    → settle_passes blast_shape.rules false (held_at rows p) ≡ true → walk_passes blast_shape [] (walk_at [] None idle 1) ws ≡ true
-    → level_passes blast_shape [] nothing_held ws false ≡ true
-blast_level ws rows p n stand settles turns = rw (stand, turns, settles) refl
+  blast_level : (ws : List Word) (rows : List Row) (p : Pending) (n : ℕ) → walk blast_shape.rules [] nothing_held ws ≡ walk_at rows p idle n
+      → settle_passes blast_shape.rules false (held_at rows p) ≡ true → walk_passes blast_shape [] (walk_at [] None idle 1) ws ≡ true
+      → level_passes blast_shape [] nothing_held ws false ≡ true
+  blast_level ws rows p n stand settles turns = rw (stand, turns, settles) refl
 
-pub blast_taking : Taking (settings_of blasting) (needed blasting) blast_app blast_ids
-blast_taking = record {
-  options = λ w o among. two_options blast_shape of_passes of_check w o blast_passes blast_check among;
-  place = blast_place;
-  no_operands = (refl, tt);
-  apart = no_blast_option;
-  finished_at = blast_finished;
-  found = λ name ws. refl;
-  taken = λ name ws rows p n stand settles turns. leaf_takes (built blast_app) nothing_held ws refl (blast_level ws rows p n stand settles turns);
-}
+  pub blast_taking : Taking (settings_of blasting) (needed blasting) (blast_app name) blast_ids
+  blast_taking = record {
+    options = λ w o among. two_options blast_shape of_passes of_check w o blast_passes blast_check among;
+    place = blast_place;
+    no_operands = (refl, tt);
+    apart = no_blast_option;
+    finished_at = blast_finished;
+    found = λ word ws. refl;
+    taken = λ word ws rows p n stand settles turns. leaf_takes (built (blast_app name)) nothing_held ws refl (blast_level ws rows p n stand settles turns);
+  }
 
 -- ---- statistics
 

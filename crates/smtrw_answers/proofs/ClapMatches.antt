@@ -9,8 +9,8 @@ use Rattle.clap.specs.declared.parser.matches.Found.{Found}
 use Rattle.smt_print.specs.declared.layout.Layout.{Layout}
 use Rattle.smt_print.specs.declared.layout.Layout.TheVariants.{Tree}
 use Rattle.passes.specs.declared.names.Pass.{Pass}
-use Rattle.smtrw_answers.specs.Words.{Word, Numbered, Command, rewriting, translating, extending, blasting, unblasting, counting, demonstrating, needed, takes_pass, Setting, settings_of, Given, nothing_given, passes_of, layout_of, check_of, words_from, Asked, rewrite, translate, extend, blast, unblast, stats, demo, asked_with, asked_or_missing, at_end, asked_of}
-use Rattle.smtrw_answers.specs.Asking.{passes_in, layout_in, check_in, CarryingIn, GivesRewriting, GivesBlasting, GivesCounting, GivesDemonstrating, number_of}
+use Rattle.smtrw_answers.specs.Words.{Word, Numbered, Command, rewriting, translating, extending, blasting, unblasting, linking, answering, counting, demonstrating, needed, takes_pass, Setting, settings_of, Given, nothing_given, passes_of, layout_of, check_of, words_from, Asked, rewrite, translate, extend, blast, unblast, dimacs, answer, stats, demo, asked_with, asked_or_missing, at_end, asked_of}
+use Rattle.smtrw_answers.specs.Asking.{passes_in, layout_in, check_in, CarryingIn, BlastingIn, GivesRewriting, GivesCounting, GivesDemonstrating, number_of}
 use Rattle.smtrw_answers.proofs.ClapRows.{first_of-none}
 use Rattle.smtrw_answers.proofs.ClapWalk.{walk_at, OperandsIn, Taking}
 use Rattle.smtrw_answers.proofs.ClapWords.{PassesIn, LayoutIn, CheckIn, Holds, Stands, waiting_of, PutsWords, along_all, nothing_along, and_then_ok}
@@ -115,16 +115,37 @@ module _ (rows : List Row) (found : Found) (same : (id : Text) → first_value f
       parts (x ∷ y ∷ []) is = (cc, cc, cc)
       parts (x ∷ y ∷ z ∷ xs) is = absurd cc
 
+  pub answering_given : (i : ℕ) (g : Given) (ps : List Pass) (k : ℕ) (s m : Numbered) → Holds answering (codes "script" ∷ codes "model" ∷ []) g rows
+      → asked_or_missing i (asked_with answering g g.plain) ≡ Ok (answer ps k s m) → CarryingIn answering ps k s m found
+  answering_given i g ps k s m holds e = carried answering g ps k s m holds (parts g.plain e)
+    where
+      parts : (fs : List Numbered) → asked_or_missing i (asked_with answering g fs) ≡ Ok (answer ps k s m) → (fs ≡ s ∷ m ∷ []) × (passes_of g ≡ ps) × (check_of g ≡ k)
+      parts [] is = absurd cc
+      parts (x ∷ []) is = absurd cc
+      parts (x ∷ y ∷ []) is = (cc, cc, cc)
+      parts (x ∷ y ∷ z ∷ xs) is = absurd cc
+
+  alone : (c : Command) (g : Given) (ps : List Pass) (k : ℕ) (f : Numbered) → Holds c (codes "script" ∷ []) g rows → (g.plain ≡ f ∷ []) × (passes_of g ≡ ps) × (check_of g ≡ k) → BlastingIn c ps k f found
+  alone c g ps k f holds is = (
+    ap (passes_in c) (same (codes "passes")) ∙ passes_found c g.passes rows holds.passes ∙ ap Ok is.1,
+    ap check_in (same (codes "check")) ∙ check_found g.check rows holds.check ∙ ap Some is.2,
+    same (codes "script") ∙ (subst (λ fs. OperandsIn (codes "script" ∷ []) fs rows) is.0 holds.operands).0,
+  )
+
   pub blasting_given : (i : ℕ) (g : Given) (ps : List Pass) (k : ℕ) (f : Numbered) → Holds blasting (codes "script" ∷ []) g rows
-      → asked_or_missing i (asked_with blasting g g.plain) ≡ Ok (blast ps k f) → GivesBlasting (Ok (blast ps k f)) found
-  blasting_given i g ps k f holds e =
-      let is = parts g.plain e in (
-        ap (passes_in blasting) (same (codes "passes")) ∙ passes_found blasting g.passes rows holds.passes ∙ ap Ok is.1,
-        ap check_in (same (codes "check")) ∙ check_found g.check rows holds.check ∙ ap Some is.2,
-        same (codes "script") ∙ (subst (λ fs. OperandsIn (codes "script" ∷ []) fs rows) is.0 holds.operands).0,
-      )
+      → asked_or_missing i (asked_with blasting g g.plain) ≡ Ok (blast ps k f) → BlastingIn blasting ps k f found
+  blasting_given i g ps k f holds e = alone blasting g ps k f holds (parts g.plain e)
     where
       parts : (fs : List Numbered) → asked_or_missing i (asked_with blasting g fs) ≡ Ok (blast ps k f) → (fs ≡ f ∷ []) × (passes_of g ≡ ps) × (check_of g ≡ k)
+      parts [] is = absurd cc
+      parts (x ∷ []) is = (cc, cc, cc)
+      parts (x ∷ y ∷ xs) is = absurd cc
+
+  pub linking_given : (i : ℕ) (g : Given) (ps : List Pass) (k : ℕ) (f : Numbered) → Holds linking (codes "script" ∷ []) g rows
+      → asked_or_missing i (asked_with linking g g.plain) ≡ Ok (dimacs ps k f) → BlastingIn linking ps k f found
+  linking_given i g ps k f holds e = alone linking g ps k f holds (parts g.plain e)
+    where
+      parts : (fs : List Numbered) → asked_or_missing i (asked_with linking g fs) ≡ Ok (dimacs ps k f) → (fs ≡ f ∷ []) × (passes_of g ≡ ps) × (check_of g ≡ k)
       parts [] is = absurd cc
       parts (x ∷ []) is = (cc, cc, cc)
       parts (x ∷ y ∷ xs) is = absurd cc

@@ -44,8 +44,8 @@ rewrite_app = with_rule (with_rule (with_rule (app_named (codes "rewrite")) pass
 abbrev pub carry_app : Text → App
 carry_app name = with_rule (with_rule (with_rule (with_rule (app_named name) passes_rule) check_rule) script_rule) model_rule
 
-abbrev pub blast_app : App
-blast_app = with_rule (with_rule (with_rule (app_named (codes "blast")) passes_rule) check_rule) script_rule
+abbrev pub blast_app : Text → App
+blast_app name = with_rule (with_rule (with_rule (app_named name) passes_rule) check_rule) script_rule
 
 abbrev pub stats_app : App
 stats_app = with_rule (app_named (codes "stats")) file_rule
@@ -59,8 +59,8 @@ rewrite_is_simple = refl
 pub carry_is_simple : (name : Text) → is_simple (carry_app name) ≡ true
 carry_is_simple name = refl
 
-pub blast_is_simple : is_simple blast_app ≡ true
-blast_is_simple = refl
+pub blast_is_simple : (name : Text) → is_simple (blast_app name) ≡ true
+blast_is_simple name = refl
 
 pub stats_is_simple : is_simple stats_app ≡ true
 stats_is_simple = refl

@@ -1,7 +1,7 @@
 -- The words that are no options, as the code holds them.
 use Rattle.std.proofs.Common.{◌≡◌, ◌==◌, ℕ, true, false, nat_le, List, [], ◌∷◌, length, Some, Err, refl, sym, ap, subst}
 use Rattle.smtrw_answers.specs.declared.grammar.Name.{Name}
-use Rattle.smtrw_answers.specs.declared.grammar.Name.TheVariants.{Rewrite, Translate, Extend, Blast, Unblast, Stats, Demo}
+use Rattle.smtrw_answers.specs.declared.grammar.Name.TheVariants.{Rewrite, Translate, Extend, Blast, Unblast, Dimacs, Answer, Stats, Demo}
 use Rattle.smtrw_answers.specs.declared.grammar.Operands.TheVariants.{Absent, One, Two}
 use Rattle.smtrw_answers.specs.declared.grammar.Seen.{Seen}
 use Rattle.smtrw_answers.specs.declared.status.Usage.{Usage}
@@ -15,6 +15,8 @@ needs_one Translate = refl
 needs_one Extend = refl
 needs_one Blast = refl
 needs_one Unblast = refl
+needs_one Dimacs = refl
+needs_one Answer = refl
 needs_one Stats = refl
 needs_one Demo = refl
 
@@ -28,6 +30,8 @@ needs_two Translate two = refl
 needs_two Extend two = refl
 needs_two Blast two = absurd cc
 needs_two Unblast two = refl
+needs_two Dimacs two = absurd cc
+needs_two Answer two = refl
 needs_two Stats two = absurd cc
 needs_two Demo two = refl
 

@@ -1,3 +1,4 @@
+mod AnsweredTexts
 mod BlastedPromise
 mod CarriedModels
 mod CarriedTexts
@@ -22,11 +23,13 @@ pub mod GrammarNames
 pub mod GrammarNumbers
 pub mod GrammarOperands
 pub mod GrammarWords
+mod LinkedPromise
 mod OneText
 pub mod PlannedWords
 mod Promise
 mod ReadModels
 mod ReadPoints
+mod ReadableAnswers
 mod ReadableLifts
 mod ReadableTables
 mod ReadableTexts

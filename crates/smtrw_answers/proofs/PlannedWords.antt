@@ -6,12 +6,38 @@ use Rattle.clap.specs.declared.parser.matches.Found.{Found}
 use Rattle.smtrw_answers.specs.declared.status.Usage.{Usage as UsageFault}
 use Rattle.smtrw_answers.specs.declared.grammar.Plan.{Plan}
 use Rattle.smtrw_answers.specs.declared.grammar.Plan.TheVariants as plan
-use Rattle.smtrw_answers.specs.Words.{Word, Asked, rewrite, translate, extend, blast, unblast, stats, demo}
-use Rattle.smtrw_answers.specs.Asking.{EndFits, GivesCounting, GivesDemonstrating, number_of}
+use Rattle.smtrw_answers.specs.Words.{Word, Asked, rewrite, translate, extend, blast, unblast, dimacs, answer, stats, demo}
+use Rattle.smtrw_answers.specs.Asking.{EndFits, IsBlasting, GivesCounting, GivesDemonstrating, number_of}
 
 pub planned_ok : (p : Plan) (r : Result Asked UsageFault) → EndFits (Ok p) r → IsOk r
 planned_ok p (Ok a) is = refl
 planned_ok p (Err u) is = absurd is
+
+-- ---- a check over bits or as clauses
+
+pub blasting_planned : (r : Result Asked UsageFault) (script : ℕ) → EndFits (Ok (plan.Blast script)) r → IsBlasting r
+blasting_planned (Ok (rewrite ps l f)) script is = absurd cc
+blasting_planned (Ok (translate ps k s m)) script is = absurd cc
+blasting_planned (Ok (extend ps k s m)) script is = absurd cc
+blasting_planned (Ok (blast ps k f)) script is = tt
+blasting_planned (Ok (unblast ps k s m)) script is = absurd cc
+blasting_planned (Ok (dimacs ps k f)) script is = absurd cc
+blasting_planned (Ok (answer ps k s m)) script is = absurd cc
+blasting_planned (Ok (stats f)) script is = absurd cc
+blasting_planned (Ok (demo s n)) script is = absurd cc
+blasting_planned (Err u) script is = absurd is
+
+pub linking_planned : (r : Result Asked UsageFault) (script : ℕ) → EndFits (Ok (plan.Dimacs script)) r → IsBlasting r
+linking_planned (Ok (rewrite ps l f)) script is = absurd cc
+linking_planned (Ok (translate ps k s m)) script is = absurd cc
+linking_planned (Ok (extend ps k s m)) script is = absurd cc
+linking_planned (Ok (blast ps k f)) script is = absurd cc
+linking_planned (Ok (unblast ps k s m)) script is = absurd cc
+linking_planned (Ok (dimacs ps k f)) script is = tt
+linking_planned (Ok (answer ps k s m)) script is = absurd cc
+linking_planned (Ok (stats f)) script is = absurd cc
+linking_planned (Ok (demo s n)) script is = absurd cc
+linking_planned (Err u) script is = absurd is
 
 -- ---- statistics
 
@@ -27,7 +53,9 @@ counting_answer (Ok (rewrite ps l f)) found number name is gives at = absurd giv
 counting_answer (Ok (translate ps k s m)) found number name is gives at = absurd gives
 counting_answer (Ok (extend ps k s m)) found number name is gives at = absurd gives
 counting_answer (Ok (blast ps k f)) found number name is gives at = absurd gives
+counting_answer (Ok (dimacs ps k f)) found number name is gives at = absurd gives
 counting_answer (Ok (unblast ps k s m)) found number name is gives at = absurd gives
+counting_answer (Ok (answer ps k s m)) found number name is gives at = absurd gives
 counting_answer (Ok (demo s n)) found number name is gives at = absurd gives
 counting_answer (Err u) found number name is gives at = absurd gives
 
@@ -40,7 +68,9 @@ counting_found (Ok (rewrite ps l f)) found gives none = absurd gives
 counting_found (Ok (translate ps k s m)) found gives none = absurd gives
 counting_found (Ok (extend ps k s m)) found gives none = absurd gives
 counting_found (Ok (blast ps k f)) found gives none = absurd gives
+counting_found (Ok (dimacs ps k f)) found gives none = absurd gives
 counting_found (Ok (unblast ps k s m)) found gives none = absurd gives
+counting_found (Ok (answer ps k s m)) found gives none = absurd gives
 counting_found (Ok (demo s n)) found gives none = absurd gives
 counting_found (Err u) found gives none = absurd gives
 
@@ -55,6 +85,8 @@ seed_found (Ok (rewrite ps l f)) found gives none = absurd gives
 seed_found (Ok (translate ps k s m)) found gives none = absurd gives
 seed_found (Ok (extend ps k s m)) found gives none = absurd gives
 seed_found (Ok (blast ps k f)) found gives none = absurd gives
+seed_found (Ok (dimacs ps k f)) found gives none = absurd gives
 seed_found (Ok (unblast ps k s m)) found gives none = absurd gives
+seed_found (Ok (answer ps k s m)) found gives none = absurd gives
 seed_found (Ok (stats f)) found gives none = absurd gives
 seed_found (Err u) found gives none = absurd gives

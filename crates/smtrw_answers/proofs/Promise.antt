@@ -75,7 +75,7 @@ module _ (laws : TextLaws) (b : List ℕ) (ps : List Pass) (layout : Layout) (ds
   w = lines layout ds
 
   read : SamePoints b (commands b)
-  read = points laws b reads
+  read = points laws.reading b reads
 
   printed : ReadsBack layout ds
   printed = text laws layout ds ready.printable
@@ -85,7 +85,7 @@ module _ (laws : TextLaws) (b : List ℕ) (ps : List Pass) (layout : Layout) (ds
     signatures = printed.signatures k ∙ equal.signatures k ∙ read.signatures k;
     count = sym (each_length MeansTheSame (live ds k) (live (forms_script w) k) (printed.live k)) ∙ sym (each_length Keeps (live cs k) (live ds k) (equal.live k)) ∙ read.live k;
     meanings = λ m over.
-        let meant = means laws b reads m k in
+        let meant = means laws.reading b reads m k in
         let formulas : list_all (has_sort bool) (live cs k) ≡ true = all_first (has_sort bool) (live cs k) (literals cs k) meant.truth_values in
         meanings_same m over.valid (live (forms_script b) k) (live cs k) (live ds k) (live (forms_script w) k) meant.asserted formulas (equal.live k) (printed.live k);
   }
@@ -95,9 +95,9 @@ module _ (laws : TextLaws) (b : List ℕ) (ps : List Pass) (layout : Layout) (ds
     accepted = printed.accepted;
     same_points = printed.kinds ∙ carried.kinds ∙ read.kinds;
     equivalence = λ equivalences k is. equivalent_at (same equivalences) k;
-    translation = λ k is m over held. model_read laws b reads (translated b ps k m) k (carried.back k m (printed_model laws layout ds ready.printable m k over held));
-    extension = λ k is m over held. model_printed laws layout ds ready.printable (extended b ps k m) k (carried.forth k m (read_model laws b reads m k over held));
+    translation = λ k is m over held. model_read laws.reading b reads (translated b ps k m) k (carried.back k m (printed_model laws layout ds ready.printable m k over held));
+    extension = λ k is m over held. model_printed laws layout ds ready.printable (extended b ps k m) k (carried.forth k m (read_model laws.reading b reads m k over held));
   }
 
 pub keeps_promise : TextLaws → RewritingKeepsItsPromise
-keeps_promise laws b ps layout cs s accepted ready same carried = promise laws b ps layout cs s ready same carried (read_found (script b) ((laws.answers b).1 accepted))
+keeps_promise laws b ps layout cs s accepted ready same carried = promise laws b ps layout cs s ready same carried (read_found (script b) ((laws.reading.answers b).1 accepted))

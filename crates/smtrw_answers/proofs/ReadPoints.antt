@@ -30,10 +30,13 @@ pub read_found : (x : Result (List (Command Term) × Supply) Unaccepted) → is_
 read_found (Ok r) is = refl
 read_found (Err e) is = absurd cc
 
-pub record TextLaws : Type 0 where
+pub record ReadingLaws : Type 0 where
   pub answers : ReadingAnswers
   pub points : PointsAgree
   pub meaning : ReadingKeepsMeaning
+
+pub record TextLaws : Type 0 where
+  pub reading : ReadingLaws
   pub printed : PrintingReadsBack
 
 over_same : (m : Model) (g h : Signature) → g ≡ h → IsModelOver g.sorts g.symbols m → IsModelOver h.sorts h.symbols m
@@ -41,7 +44,7 @@ over_same m g h same over = subst (λ (f : Signature). IsModelOver f.sorts f.sym
 
 -- ---- a text that was read
 
-module _ (laws : TextLaws) (b : List ℕ) (reads : script b ≡ Ok (read_or_none (script b))) where
+module _ (laws : ReadingLaws) (b : List ℕ) (reads : script b ≡ Ok (read_or_none (script b))) where
   abbrev cs : List (Command Term)
   cs = commands b
 

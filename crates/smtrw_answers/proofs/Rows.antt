@@ -5,5 +5,6 @@ mod Outputs
 mod Rewritten
 mod Carrying
 mod Blasting
+mod Linking
 mod Headline
 mod Endings

@@ -26,7 +26,7 @@ use Rattle.smtrw_answers.proofs.SameChecks.{checks_passed}
 
 -- ---- a run that ends well
 
-check_there : (n k : ℕ) (s : Status) → (if nat_lt n k then Some s else None) ≡ None → k ≤ n
+pub check_there : (n k : ℕ) (s : Status) → (if nat_lt n k then Some s else None) ≡ None → k ≤ n
 check_there n k s h = by (nat_lt n k) refl h
   where
     by : (b : Bool) → nat_lt n k ≡ b → (if b then Some s else None) ≡ None → k ≤ n

@@ -34,6 +34,7 @@ cause_names =
     ∷ (60, codes "ModelForm") ∷ (61, codes "ModelSort") ∷ (62, codes "NotATable") ∷ (63, codes "ModelNumber") ∷ (64, codes "ModelTwice")
     ∷ (71, codes "EvalWidth")
     ∷ (90, codes "NotBits")
+    ∷ (95, codes "DimacsForm") ∷ (96, codes "NotClauses")
     ∷ []
 
 abbrev pub name_among : List (ℕ × Word) → ℕ → Word

@@ -4,13 +4,13 @@ use Rattle.std.specs.List.{list_any}
 use Rattle.smtrw_answers.specs.declared.status.Usage.{Usage as UsageFault}
 use Rattle.smtrw_answers.specs.declared.words.File.{File}
 use Rattle.smtrw_answers.specs.declared.words.Asked.{Asked}
-use Rattle.smtrw_answers.specs.declared.words.Asked.TheVariants.{Rewrite, Translate, Extend, Blast, Unblast, Stats, Demo}
+use Rattle.smtrw_answers.specs.declared.words.Asked.TheVariants.{Rewrite, Translate, Extend, Blast, Unblast, Dimacs, Answer, Stats, Demo}
 use Rattle.smtrw_answers.specs.declared.words.Source.{Source}
 use Rattle.smtrw_answers.specs.declared.words.Source.TheVariants.{File as FromFile, Drawn}
 use Rattle.smtrw_answers.specs.declared.words.Carried.{Carried}
 use Rattle.smtrw_answers.specs.declared.words.WordsFault.{WordsFault}
 use Rattle.smtrw_answers.specs.declared.words.WordsFault.TheVariants.{Usage, Memory}
-use Rattle.smtrw_answers.specs.Words.{Numbered, Source as ScriptSource, of_file, drawn, is_rules, greatest_size, Asked as AskedFor, rewrite, translate, extend, blast, unblast, stats, demo}
+use Rattle.smtrw_answers.specs.Words.{Numbered, Source as ScriptSource, of_file, drawn, is_rules, greatest_size, Asked as AskedFor, rewrite, translate, extend, blast, unblast, dimacs, answer, stats, demo}
 
 -- the word of a file, with its number
 abbrev pub numbered : File → Numbered
@@ -23,6 +23,8 @@ asked_seen (Translate ps k s m) = translate ps k (numbered s) (numbered m)
 asked_seen (Extend ps k s m) = extend ps k (numbered s) (numbered m)
 asked_seen (Blast ps k f) = blast ps k (numbered f)
 asked_seen (Unblast ps k s m) = unblast ps k (numbered s) (numbered m)
+asked_seen (Dimacs ps k f) = dimacs ps k (numbered f)
+asked_seen (Answer ps k s a) = answer ps k (numbered s) (numbered a)
 asked_seen (Stats f) = stats (numbered f)
 asked_seen (Demo seed size) = demo seed size
 
@@ -36,19 +38,21 @@ Answers r (Ok a) = r ≡ Ok (asked_seen a)
 Answers r (Err (Usage u)) = r ≡ Err u
 Answers r (Err Memory) = IsOk r
 
--- ---- what `translate`, `extend` and `unblast` have in common
+-- ---- what `translate`, `extend`, `unblast` and `answer` have in common
 
 -- the numbers of the words of the script and of the model
 abbrev pub CarriesFiles : ℕ → ℕ → Result AskedFor UsageFault → Type 0
 CarriesFiles script model (Ok (translate ps k s m)) = (s.number ≡ script) × (m.number ≡ model)
 CarriesFiles script model (Ok (extend ps k s m)) = (s.number ≡ script) × (m.number ≡ model)
 CarriesFiles script model (Ok (unblast ps k s m)) = (s.number ≡ script) × (m.number ≡ model)
+CarriesFiles script model (Ok (answer ps k s a)) = (s.number ≡ script) × (a.number ≡ model)
 CarriesFiles script model _ = ⊥
 
 abbrev pub IsCarried : AskedFor → Carried → Type 0
 IsCarried (translate ps k s m) c = (ps ≡ c.passes) × (k ≡ c.check) × (s ≡ numbered c.script) × (m ≡ numbered c.model)
 IsCarried (extend ps k s m) c = (ps ≡ c.passes) × (k ≡ c.check) × (s ≡ numbered c.script) × (m ≡ numbered c.model)
 IsCarried (unblast ps k s m) c = (ps ≡ c.passes) × (k ≡ c.check) × (s ≡ numbered c.script) × (m ≡ numbered c.model)
+IsCarried (answer ps k s a) c = (ps ≡ c.passes) × (k ≡ c.check) × (s ≡ numbered c.script) × (a ≡ numbered c.model)
 IsCarried _ c = ⊥
 
 -- exactly the values of the words, or want of memory
@@ -57,12 +61,14 @@ GivesCarried (Ok a) (Ok c) = IsCarried a c
 GivesCarried (Ok a) (Err e) = e ≡ Memory
 GivesCarried (Err u) r = ⊥
 
--- checks are counted from 1, no stored rules are among the passes of what is made of bits, and a demonstration has at least one step
--- and at most so many
+-- checks are counted from 1, no stored rules are among the passes of what is made of bits or clauses, and a demonstration has at least
+-- one step and at most so many
 abbrev pub IsInRange : AskedFor → Type 0
 IsInRange (translate ps k s m) = 1 ≤ k
 IsInRange (extend ps k s m) = 1 ≤ k
 IsInRange (blast ps k f) = (1 ≤ k) × (list_any is_rules ps ≡ false)
 IsInRange (unblast ps k s m) = (1 ≤ k) × (list_any is_rules ps ≡ false)
+IsInRange (dimacs ps k f) = (1 ≤ k) × (list_any is_rules ps ≡ false)
+IsInRange (answer ps k s a) = (1 ≤ k) × (list_any is_rules ps ≡ false)
 IsInRange (demo seed size) = (1 ≤ size) × (size ≤ greatest_size)
 IsInRange _ = Unit {0}

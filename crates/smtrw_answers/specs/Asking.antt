@@ -11,7 +11,7 @@ use Rattle.passes.specs.declared.names.ListFault.{ListFault}
 use Rattle.passes.specs.Lists.{pass_list_of}
 use Rattle.smtrw_answers.specs.declared.status.Usage.{Usage}
 use Rattle.smtrw_answers.specs.declared.grammar.Name.{Name}
-use Rattle.smtrw_answers.specs.declared.grammar.Name.TheVariants.{Rewrite, Translate, Extend, Blast, Unblast, Stats, Demo}
+use Rattle.smtrw_answers.specs.declared.grammar.Name.TheVariants.{Rewrite, Translate, Extend, Blast, Unblast, Dimacs, Answer, Stats, Demo}
 use Rattle.smtrw_answers.specs.declared.grammar.Setting.{Setting as CodeSetting}
 use Rattle.smtrw_answers.specs.declared.grammar.Setting.TheVariants.{Passes, Layout as LayoutOption, Check}
 use Rattle.smtrw_answers.specs.declared.grammar.Operands.{Operands}
@@ -19,7 +19,7 @@ use Rattle.smtrw_answers.specs.declared.grammar.Operands.TheVariants.{Absent, On
 use Rattle.smtrw_answers.specs.declared.grammar.Seen.{Seen}
 use Rattle.smtrw_answers.specs.declared.grammar.Plan.{Plan}
 use Rattle.smtrw_answers.specs.declared.grammar.Plan.TheVariants as plan
-use Rattle.smtrw_answers.specs.Words.{Word, Numbered, Command, rewriting, translating, extending, blasting, unblasting, counting, demonstrating, needed, Setting, of_passes, of_layout, of_check, takes_pass, Given, number_in, is_from, is_up_to, greatest_size, layout_named, Asked, rewrite, translate, extend, blast, unblast, stats, demo}
+use Rattle.smtrw_answers.specs.Words.{Word, Numbered, Command, rewriting, translating, extending, blasting, unblasting, linking, answering, counting, demonstrating, needed, Setting, of_passes, of_layout, of_check, takes_pass, Given, number_in, is_from, is_up_to, greatest_size, layout_named, Asked, rewrite, translate, extend, blast, unblast, dimacs, answer, stats, demo}
 
 -- ---- commands and options of the code
 
@@ -29,6 +29,8 @@ command_of Translate = translating
 command_of Extend = extending
 command_of Blast = blasting
 command_of Unblast = unblasting
+command_of Dimacs = linking
+command_of Answer = answering
 command_of Stats = counting
 command_of Demo = demonstrating
 
@@ -104,6 +106,8 @@ IsPlanOf (translate ps k s m) p = p ≡ plan.Translate s.number m.number
 IsPlanOf (extend ps k s m) p = p ≡ plan.Extend s.number m.number
 IsPlanOf (blast ps k f) p = p ≡ plan.Blast f.number
 IsPlanOf (unblast ps k s m) p = p ≡ plan.Unblast s.number m.number
+IsPlanOf (dimacs ps k f) p = p ≡ plan.Dimacs f.number
+IsPlanOf (answer ps k s a) p = p ≡ plan.Answer s.number a.number
 IsPlanOf (stats f) p = p ≡ plan.Stats f.number
 IsPlanOf (demo seed size) p = p ≡ plan.Demo
 
@@ -146,6 +150,8 @@ IsAskedBy c (translate ps k s m) = c ≡ translating
 IsAskedBy c (extend ps k s m) = c ≡ extending
 IsAskedBy c (blast ps k f) = c ≡ blasting
 IsAskedBy c (unblast ps k s m) = c ≡ unblasting
+IsAskedBy c (dimacs ps k f) = c ≡ linking
+IsAskedBy c (answer ps k s a) = c ≡ answering
 IsAskedBy c (stats f) = c ≡ counting
 IsAskedBy c (demo seed size) = c ≡ demonstrating
 
@@ -161,10 +167,12 @@ abbrev pub IsCarrying : Result Asked Usage → Type 0
 IsCarrying (Ok (translate ps k s m)) = Unit {0}
 IsCarrying (Ok (extend ps k s m)) = Unit {0}
 IsCarrying (Ok (unblast ps k s m)) = Unit {0}
+IsCarrying (Ok (answer ps k s a)) = Unit {0}
 IsCarrying _ = ⊥
 
 abbrev pub IsBlasting : Result Asked Usage → Type 0
 IsBlasting (Ok (blast ps k f)) = Unit {0}
+IsBlasting (Ok (dimacs ps k f)) = Unit {0}
 IsBlasting _ = ⊥
 
 abbrev pub IsCounting : Result Asked Usage → Type 0
@@ -193,13 +201,18 @@ abbrev pub GivesCarrying : Result Asked Usage → Found → Type 0
 GivesCarrying (Ok (translate ps k s m)) found = CarryingIn translating ps k s m found
 GivesCarrying (Ok (extend ps k s m)) found = CarryingIn extending ps k s m found
 GivesCarrying (Ok (unblast ps k s m)) found = CarryingIn unblasting ps k s m found
+GivesCarrying (Ok (answer ps k s a)) found = CarryingIn answering ps k s a found
 GivesCarrying _ found = ⊥
 
-abbrev pub GivesBlasting : Result Asked Usage → Found → Type 0
-GivesBlasting (Ok (blast ps k f)) found =
-    (passes_in blasting (first_value found (codes "passes")) ≡ Ok ps)
+abbrev pub BlastingIn : Command → List Pass → ℕ → Numbered → Found → Type 0
+BlastingIn c ps k f found =
+    (passes_in c (first_value found (codes "passes")) ≡ Ok ps)
     × (check_in (first_value found (codes "check")) ≡ Some k)
     × (first_value found (codes "script") ≡ Some f.word)
+
+abbrev pub GivesBlasting : Result Asked Usage → Found → Type 0
+GivesBlasting (Ok (blast ps k f)) found = BlastingIn blasting ps k f found
+GivesBlasting (Ok (dimacs ps k f)) found = BlastingIn linking ps k f found
 GivesBlasting _ found = ⊥
 
 abbrev pub GivesCounting : Result Asked Usage → Found → Type 0

@@ -1,8 +1,8 @@
 -- How a run ends by its texts alone, where no device fails and memory is there: the first of these refusals, in this order,
 -- or well. The script is read before the check's number is looked at, then come the passes, then the live terms that aren't ones
--- over bits, then the model's text, and last the terms that have to be evaluated.
+-- over bits, or clauses, then the text of the model or the answer, and last the terms that have to be evaluated.
 use Rattle.std.specs.Prelude.{ℕ, nat_lt, if◌then◌else◌, List, length, Result, Ok, Err, Option, Some, None, option_map}
-use Rattle.smt_lex.specs.Lex.{Fault, bad_byte, bad_token, open_text, unbalanced}
+use Rattle.smt_lex.specs.Lex.{Fault, bad_byte, bad_token, open_text, unbalanced, line_at}
 use Rattle.smt_terms.specs.Models.{Model}
 use Rattle.script_terms.specs.declared.faults.Refusal.{Refusal}
 use Rattle.script_terms.specs.Refusals.{code_of, Unaccepted, unread, refused}
@@ -17,9 +17,14 @@ use Rattle.smtrw_answers.specs.declared.status.Why.TheVariants.{NoSuchCheck}
 use Rattle.smtrw_answers.specs.declared.status.Status.{Status}
 use Rattle.smtrw_answers.specs.declared.status.Status.TheVariants.{Refused, Usage, ModelRefused, Beyond128, PassRefused}
 use Rattle.bit_scripts.specs.Scripts.{refused_root}
-use Rattle.smtrw_answers.specs.Words.{Asked, rewrite, translate, extend, blast, unblast, stats, demo}
+use Rattle.smtrw_answers.specs.Words.{Asked, rewrite, translate, extend, blast, unblast, dimacs, answer, stats, demo}
 use Rattle.smtrw_answers.specs.Outputs.{commands, names_left, rewritten_commands}
+use Rattle.dimacs_link.specs.declared.answers.Answer.{Answer}
+use Rattle.dimacs_link.specs.declared.answers.Answer.TheVariants.{Sat, Unsat, Unknown}
+use Rattle.dimacs_link.specs.AnswerTexts.{reading}
+use Rattle.dimacs_link.specs.Checks.{unlinked_root}
 use Rattle.smtrw_answers.specs.Blasting.{lifted, signature_blasted}
+use Rattle.smtrw_answers.specs.Linking.{linked_constants, linked_model}
 use Rattle.smtrw_answers.specs.Carrying.{signature_before, signature_behind}
 
 abbrev pub or_later : Option Status → Option Status → Option Status
@@ -71,6 +76,14 @@ bits_end b ps k = option_map (λ i. PassRefused 90 i) (refused_root (rewritten_c
 abbrev pub blasting_end : List ℕ → List Pass → ℕ → Option Status
 blasting_end b ps k = or_later (passes_end b ps) (bits_end b ps k)
 
+-- a term that is live at the check behind the passes isn't a clause
+abbrev pub clauses_end : List ℕ → List Pass → ℕ → Option Status
+clauses_end b ps k = option_map (λ i. PassRefused 96 i) (unlinked_root (rewritten_commands b ps) k)
+
+-- the passes, and then the clauses
+abbrev pub linking_end : List ℕ → List Pass → ℕ → Option Status
+linking_end b ps k = or_later (passes_end b ps) (clauses_end b ps k)
+
 -- ---- the model
 
 abbrev pub model_refusal_of : Unmodelled → Status
@@ -121,6 +134,26 @@ unblast_end b ps k g =
     (or_later (blasting_end b ps k)
     (text_end g (model_end (unblast_stages b ps k) (model_of g (signature_blasted b ps k))))))
 
+abbrev pub dimacs_end : List ℕ → List Pass → ℕ → Option Status
+dimacs_end b ps k = or_later (script_end b) (or_later (check_end b k) (linking_end b ps k))
+
+-- terms are evaluated for the model that an answer gives alone
+abbrev pub answer_stages : List ℕ → List Pass → ℕ → Answer → Option Status
+answer_stages b ps k (Sat vs) = stages_end (back_stages ps (commands b) (names_left b) k (linked_model b ps k vs))
+answer_stages b ps k Unsat = None
+answer_stages b ps k Unknown = None
+
+abbrev pub reading_end : List ℕ → List Pass → ℕ → List ℕ → Result Answer ℕ → Option Status
+reading_end b ps k g (Ok a) = answer_stages b ps k a
+reading_end b ps k g (Err place) = Some (ModelRefused 95 (line_at g place) place)
+
+abbrev pub answer_end : List ℕ → List Pass → ℕ → List ℕ → Option Status
+answer_end b ps k g =
+    or_later (script_end b)
+    (or_later (check_end b k)
+    (or_later (linking_end b ps k)
+    (text_end g (reading_end b ps k g (reading (length (linked_constants b ps k)) g)))))
+
 abbrev pub stats_end : List ℕ → Option Status
 stats_end b = script_end b
 
@@ -131,5 +164,7 @@ end_of (translate passes check script model) b g = translate_end b passes check 
 end_of (extend passes check script model) b g = extend_end b passes check g
 end_of (blast passes check script) b g = blast_end b passes check
 end_of (unblast passes check script model) b g = unblast_end b passes check g
+end_of (dimacs passes check script) b g = dimacs_end b passes check
+end_of (answer passes check script reply) b g = answer_end b passes check g
 end_of (stats script) b g = stats_end b
 end_of (demo seed size) b g = None

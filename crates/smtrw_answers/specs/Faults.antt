@@ -1,4 +1,4 @@
--- The statuses that faults of a script's or a model's text lead to, those of passes, of carrying a model and of blasting a check.
+-- The statuses that faults of a script's or a model's text lead to, those of passes, of carrying a model, of blasting a check and of clauses.
 use Rattle.smt_lex.specs.declared.faults.LexFault.{LexFault}
 use Rattle.smt_lex.specs.declared.faults.LexFault.TheVariants.{BadByte, BadToken, OpenText, Unbalanced, Memory}
 use Rattle.script_terms.specs.declared.faults.ScriptFault.{ScriptFault}
@@ -11,6 +11,10 @@ use Rattle.passes.specs.declared.running.PassFault.{PassFault}
 use Rattle.passes.specs.declared.running.PassFault.TheVariants.{QuantifiedUse, Memory as NoMemoryForPassing}
 use Rattle.bit_scripts.specs.declared.scripts.BlastScriptFault.{BlastScriptFault}
 use Rattle.bit_scripts.specs.declared.scripts.BlastScriptFault.TheVariants.{NotBits, Memory as NoMemoryForBits}
+use Rattle.dimacs_link.specs.declared.checks.LinkCheckFault.{LinkCheckFault}
+use Rattle.dimacs_link.specs.declared.checks.LinkCheckFault.TheVariants.{NotClauses, Memory as NoMemoryForClauses}
+use Rattle.dimacs_link.specs.declared.answers.AnswerFault.{AnswerFault}
+use Rattle.dimacs_link.specs.declared.answers.AnswerFault.TheVariants.{Form, Memory as NoMemoryForAnswer}
 use Rattle.smtrw_answers.specs.declared.status.Why.TheVariants.{NoSuchCheck}
 use Rattle.smtrw_answers.specs.declared.status.Status.{Status}
 use Rattle.smtrw_answers.specs.declared.status.Status.TheVariants.{Refused, Usage, OutOfMemory, ModelRefused, Beyond128, PassRefused}
@@ -62,3 +66,13 @@ status_of_carrying NoMemoryForCarrying = OutOfMemory
 abbrev pub status_of_blasting : BlastScriptFault → Status
 status_of_blasting (NotBits assertion) = PassRefused 90 assertion
 status_of_blasting NoMemoryForBits = OutOfMemory
+
+-- ---- of clauses and answers
+
+abbrev pub status_of_linking : LinkCheckFault → Status
+status_of_linking (NotClauses assertion) = PassRefused 96 assertion
+status_of_linking NoMemoryForClauses = OutOfMemory
+
+abbrev pub status_of_answer : AnswerFault → Status
+status_of_answer (Form line byte) = ModelRefused 95 line byte
+status_of_answer NoMemoryForAnswer = OutOfMemory

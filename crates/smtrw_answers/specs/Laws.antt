@@ -1,6 +1,6 @@
--- The statements of the laws of what is written: that rewriting and blasting keep their promises, where one text alone may be
+-- The statements of the laws of what is written: that rewriting, blasting and linking keep their promises, where one text alone may be
 -- written, that carried models read back, and that what `demo` makes is read.
-use Rattle.std.specs.Prelude.{◌≡◌, ◌≤◌, ℕ, false, List, length, None, Ok, IsTrue}
+use Rattle.std.specs.Prelude.{◌≡◌, ◌≤◌, ℕ, Bool, false, List, length, None, Ok, IsTrue}
 use Rattle.std.specs.List.{list_any}
 use Rattle.smt_terms.specs.Fresh.{Supply}
 use Rattle.smt_terms.specs.Models.{Model}
@@ -17,8 +17,12 @@ use Rattle.passes.specs.Led.{Leads}
 use Rattle.passes.specs.Laws.{IsReady, AreEquivalent, CarriesModels}
 use Rattle.bit_scripts.specs.Scripts.{refused_root}
 use Rattle.smtrw_answers.specs.Blasting.{names_behind, blasted_text, signature_blasted, unblasted, unblasted_text, IsBlasting}
+use Rattle.dimacs_link.specs.declared.answers.Answer.TheVariants.{Sat}
+use Rattle.dimacs_link.specs.AnswerTexts.{reading}
+use Rattle.dimacs_link.specs.Checks.{unlinked_root}
+use Rattle.smtrw_answers.specs.Linking.{linked_constants, linked_text, answered, answer_text, IsLinking}
 use Rattle.smtrw_answers.specs.Carrying.{translated, extended, signature_before, signature_behind, translated_text, extended_text}
-use Rattle.smtrw_answers.specs.Endings.{longest_text, translate_end, extend_end, unblast_end}
+use Rattle.smtrw_answers.specs.Endings.{longest_text, translate_end, extend_end, unblast_end, answer_end}
 use Rattle.smtrw_answers.specs.Words.{greatest_size, is_rules}
 use Rattle.smtrw_answers.specs.Headline.{IsRewriting, are_equivalences}
 use Rattle.smtrw_answers.specs.Outputs.{commands, names_left, rewritten, rewritten_commands, MayBeWritten, demo_script}
@@ -63,6 +67,17 @@ BlastingKeepsItsPromise = (b : List ℕ) (ps : List Pass) (k : ℕ) →
 abbrev pub UnblastedTextsReadBack : Type 0
 UnblastedTextsReadBack = (b : List ℕ) (ps : List Pass) (k : ℕ) (g out : List ℕ) (m : Model) → 1 ≤ k → unblast_end b ps k g ≡ None → model_of g (signature_blasted b ps k) ≡ Ok m → unblasted_text b ps k g ≡ Ok out
     → model_of out (signature_before b k) ≡ Ok (unblasted b ps k m)
+
+-- the same of clauses
+abbrev pub LinkingKeepsItsPromise : Type 0
+LinkingKeepsItsPromise = (b : List ℕ) (ps : List Pass) (k : ℕ) →
+    fault b ≡ None → 1 ≤ k → k ≤ checks (rewritten_commands b ps) → unlinked_root (rewritten_commands b ps) k ≡ None → IsReady (rewritten_commands b ps) (names_behind b ps) →
+    CarriesModels (commands b) (rewritten_commands b ps) (translated b ps) (extended b ps) → IsLinking b ps k (linked_text b ps k)
+
+-- where `answer` ends well with truth values, what it writes reads back as the model that they stand for
+abbrev pub AnsweredTextsReadBack : Type 0
+AnsweredTextsReadBack = (b : List ℕ) (ps : List Pass) (k : ℕ) (g out : List ℕ) (vs : List Bool) → 1 ≤ k → answer_end b ps k g ≡ None → reading (length (linked_constants b ps k)) g ≡ Ok (Sat vs) → answer_text b ps k g ≡ Ok out
+    → model_of out (signature_before b k) ≡ Ok (answered b ps k vs)
 
 -- the script of a demonstration of one step or more is accepted
 abbrev pub DemoScriptsAreAccepted : Type 0

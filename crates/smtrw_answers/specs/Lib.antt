@@ -10,4 +10,5 @@ pub mod Endings
 pub mod Faults
 pub mod Headline
 pub mod Laws
+pub mod Linking
 pub mod Written

@@ -35,6 +35,8 @@ pub data Command : Type 0 where
   extending : Command
   blasting : Command
   unblasting : Command
+  linking : Command
+  answering : Command
   counting : Command
   demonstrating : Command
 
@@ -45,6 +47,8 @@ command_names =
     ∷ (codes "extend", extending)
     ∷ (codes "blast", blasting)
     ∷ (codes "unblast", unblasting)
+    ∷ (codes "dimacs", linking)
+    ∷ (codes "answer", answering)
     ∷ (codes "stats", counting)
     ∷ (codes "demo", demonstrating)
     ∷ []
@@ -63,6 +67,8 @@ needed translating = 2
 needed extending = 2
 needed blasting = 1
 needed unblasting = 2
+needed linking = 1
+needed answering = 2
 needed counting = 1
 needed demonstrating = 2
 
@@ -79,6 +85,8 @@ settings_of translating = (codes "--passes", of_passes) ∷ (codes "--check", of
 settings_of extending = (codes "--passes", of_passes) ∷ (codes "--check", of_check) ∷ []
 settings_of blasting = (codes "--passes", of_passes) ∷ (codes "--check", of_check) ∷ []
 settings_of unblasting = (codes "--passes", of_passes) ∷ (codes "--check", of_check) ∷ []
+settings_of linking = (codes "--passes", of_passes) ∷ (codes "--check", of_check) ∷ []
+settings_of answering = (codes "--passes", of_passes) ∷ (codes "--check", of_check) ∷ []
 settings_of counting = []
 settings_of demonstrating = []
 
@@ -86,10 +94,12 @@ abbrev pub is_rules : Pass → Bool
 is_rules Rules = true
 is_rules _ = false
 
--- the passes that may stand in the list of a command: what is made of bits is the definitions' alone, so no stored rules
+-- the passes that may stand in the list of a command: what is made of bits or of clauses is the definitions' alone, so no stored rules
 abbrev pub takes_pass : Command → Pass → Bool
 takes_pass blasting p = not (is_rules p)
 takes_pass unblasting p = not (is_rules p)
+takes_pass linking p = not (is_rules p)
+takes_pass answering p = not (is_rules p)
 takes_pass c p = any_pass p
 
 -- the option that a word is, with its value where the word holds it, as `--name=value` does
@@ -226,6 +236,10 @@ pub data Asked : Type 0 where
   blast : List Pass → ℕ → Numbered → Asked
   -- passes, the check's number, the script and the model
   unblast : List Pass → ℕ → Numbered → Numbered → Asked
+  -- passes, the check's number and the script
+  dimacs : List Pass → ℕ → Numbered → Asked
+  -- passes, the check's number, the script and the answer
+  answer : List Pass → ℕ → Numbered → Numbered → Asked
   stats : Numbered → Asked
   -- seed and size
   demo : ℕ → ℕ → Asked
@@ -246,6 +260,8 @@ asked_with translating g (s ∷ m ∷ []) = Some (translate (passes_of g) (check
 asked_with extending g (s ∷ m ∷ []) = Some (extend (passes_of g) (check_of g) s m)
 asked_with blasting g (f ∷ []) = Some (blast (passes_of g) (check_of g) f)
 asked_with unblasting g (s ∷ m ∷ []) = Some (unblast (passes_of g) (check_of g) s m)
+asked_with linking g (f ∷ []) = Some (dimacs (passes_of g) (check_of g) f)
+asked_with answering g (s ∷ a ∷ []) = Some (answer (passes_of g) (check_of g) s a)
 asked_with counting g (f ∷ []) = Some (stats f)
 asked_with demonstrating g (s ∷ n ∷ []) = Some (demo (digits_value 10 s.word) (digits_value 10 n.word))
 asked_with c g fs = None
@@ -265,14 +281,17 @@ source_of (translate passes check file model) = of_file file
 source_of (extend passes check file model) = of_file file
 source_of (blast passes check file) = of_file file
 source_of (unblast passes check file model) = of_file file
+source_of (dimacs passes check file) = of_file file
+source_of (answer passes check file reply) = of_file file
 source_of (stats file) = of_file file
 source_of (demo seed size) = drawn seed size
 
--- the word that names the model, where the command reads one
+-- the word that names the model or the answer, where the command reads one
 abbrev pub model_file_of : Asked → Option Numbered
 model_file_of (translate passes check file model) = Some model
 model_file_of (extend passes check file model) = Some model
 model_file_of (unblast passes check file model) = Some model
+model_file_of (answer passes check file reply) = Some reply
 model_file_of _ = None
 
 -- behind the last word: nothing is awaited, and there are as many words as the command takes

@@ -1,11 +1,12 @@
 //! The statuses that end a run before anything is written, by what was met on the way.
 
 ghost use Rattle.std.specs.Prelude.{◌≡◌};
-ghost use Rattle.smtrw_answers.specs.Faults.{status_of_blasting, status_of_carrying, status_of_lexing, status_of_model, status_of_model_lexing, status_of_passing, status_of_reading};
+ghost use Rattle.smtrw_answers.specs.Faults.{status_of_answer, status_of_blasting, status_of_carrying, status_of_lexing, status_of_linking, status_of_model, status_of_model_lexing, status_of_passing, status_of_reading};
 ghost use Rattle.smtrw_answers.specs.declared.status.Status.TheVariants.{OutOfMemory};
 
 use crate::status::{Status, Usage, Why};
 use bit_scripts::BlastScriptFault;
+use dimacs_link::{AnswerFault, LinkCheckFault};
 use model_texts::ModelFault;
 use passes::{CarryFault, PassFault};
 use script_read::{Refusal, ScriptFault};
@@ -133,6 +134,35 @@ impl From<BlastScriptFault> for Status {
                 assertion,
             },
             BlastScriptFault::Memory => Status::OutOfMemory,
+        }
+    }
+}
+
+impl From<LinkCheckFault> for Status {
+    ghost from_gives = { λ fault status. status ≡ status_of_linking fault };
+
+    fn from(fault: LinkCheckFault) -> Status {
+        match fault {
+            LinkCheckFault::NotClauses { assertion } => Status::PassRefused {
+                code: 96,
+                assertion,
+            },
+            LinkCheckFault::Memory => Status::OutOfMemory,
+        }
+    }
+}
+
+impl From<AnswerFault> for Status {
+    ghost from_gives = { λ fault status. status ≡ status_of_answer fault };
+
+    fn from(fault: AnswerFault) -> Status {
+        match fault {
+            AnswerFault::Form { line, byte } => Status::ModelRefused {
+                code: 95,
+                line,
+                byte,
+            },
+            AnswerFault::Memory => Status::OutOfMemory,
         }
     }
 }

@@ -25,6 +25,8 @@ pub(crate) enum Name {
     Extend,
     Blast,
     Unblast,
+    Dimacs,
+    Answer,
     Stats,
     Demo,
 }
@@ -36,7 +38,7 @@ impl Name {
     {
         matches!(
             self,
-            Name::Translate | Name::Extend | Name::Unblast | Name::Demo
+            Name::Translate | Name::Extend | Name::Unblast | Name::Answer | Name::Demo
         )
     }
 
@@ -50,6 +52,8 @@ impl Name {
             Name::Extend => "extend",
             Name::Blast => "blast",
             Name::Unblast => "unblast",
+            Name::Dimacs => "dimacs",
+            Name::Answer => "answer",
             Name::Stats => "stats",
             Name::Demo => "demo",
         }
@@ -123,6 +127,8 @@ pub(crate) enum Plan {
     Extend { script: u32, model: u32 },
     Blast { script: u32 },
     Unblast { script: u32, model: u32 },
+    Dimacs { script: u32 },
+    Answer { script: u32, answer: u32 },
     Stats { file: u32 },
     Demo,
 }
@@ -174,6 +180,10 @@ fn command_of_word(word: &str) -> Option<Name>
         Some(Name::Blast)
     } else if word == "unblast" {
         Some(Name::Unblast)
+    } else if word == "dimacs" {
+        Some(Name::Dimacs)
+    } else if word == "answer" {
+        Some(Name::Answer)
     } else if word == "stats" {
         Some(Name::Stats)
     } else if word == "demo" {
@@ -259,12 +269,13 @@ fn value_given(
     }
 }
 
-/// The passes of a list, by those that the command takes: stored rules may not stand in the list of one that works on bits.
+/// The passes of a list, by those that the command takes: stored rules may not stand in the list of one that works on bits
+/// or clauses.
 pub(crate) fn list_for(command: Name, list: &str) -> Result<Passes, ListFault>
     ensures { result ≡ pass_list_of (takes_pass (command_of command)) list.now }
 {
     match command {
-        Name::Blast | Name::Unblast => list_without_rules(list),
+        Name::Blast | Name::Unblast | Name::Dimacs | Name::Answer => list_without_rules(list),
         _ => parse_list(list),
     }
 }
@@ -362,8 +373,8 @@ fn option_in(command: Name, word: &str) -> Option<(Setting, Option<&str>)>
 {
     match command {
         Name::Rewrite => passes_option(word).or(layout_option(word)),
-        Name::Translate | Name::Extend | Name::Blast | Name::Unblast => option_for_check(word),
         Name::Stats | Name::Demo => None,
+        _ => option_for_check(word),
     }
 }
 
@@ -474,6 +485,8 @@ fn at_end(command: Name, seen: Seen, number: u32) -> Result<Plan, Usage>
         (Name::Extend, Operands::Two(script, model)) => Ok(Plan::Extend { script, model }),
         (Name::Blast, Operands::One(script)) => Ok(Plan::Blast { script }),
         (Name::Unblast, Operands::Two(script, model)) => Ok(Plan::Unblast { script, model }),
+        (Name::Dimacs, Operands::One(script)) => Ok(Plan::Dimacs { script }),
+        (Name::Answer, Operands::Two(script, answer)) => Ok(Plan::Answer { script, answer }),
         (Name::Stats, Operands::One(file)) => Ok(Plan::Stats { file }),
         (Name::Demo, Operands::Two(_, _)) => Ok(Plan::Demo),
         _ => Err(fault(number, Why::Missing)),

@@ -9,11 +9,14 @@ ghost use Rattle.smtrw_answers.specs.Laws.{
   ExtendedTextsReadBack,
   BlastingKeepsItsPromise,
   UnblastedTextsReadBack,
+  LinkingKeepsItsPromise,
+  AnsweredTextsReadBack,
   DemoScriptsAreAccepted,
   DemoScriptsAreShort,
 };
 
 use bit_scripts::laws::scripts_are_blasted;
+use dimacs_link::laws::checks_are_linked;
 use model_texts::laws::{
     printable_signatures_are_proper, printable_signatures_are_writable, printed_models_read_back,
 };
@@ -98,6 +101,34 @@ pub fn unblasted_texts_read_back()
     printable_signatures_are_writable();
     printed_models_read_back();
     scripts_are_blasted();
+}
+
+/// Truth values that make true the clauses that `dimacs` writes of an accepted text, where it ends well, stand for a model of the text at
+/// the check, and every model of the text there makes them true.
+pub fn linking_keeps_its_promise()
+    ensures { LinkingKeepsItsPromise }
+{
+    reading_answers();
+    terms_and_forms_agree();
+    reading_keeps_meaning();
+    checks_are_linked();
+}
+
+/// Where `answer` ends well with truth values, what it writes reads back as the model that they stand for.
+pub fn answered_texts_read_back()
+    ensures { AnsweredTextsReadBack }
+{
+    reading_answers();
+    reading_gives_a_printable_script();
+    names_left_are_new();
+    passes_keep_commands();
+    passes_leave_models();
+    groups_carry_models();
+    removals_carry_models();
+    printable_signatures_are_proper();
+    printable_signatures_are_writable();
+    printed_models_read_back();
+    checks_are_linked();
 }
 
 /// The script of a demonstration is accepted and no longer than a script may be.

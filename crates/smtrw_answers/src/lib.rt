@@ -13,9 +13,10 @@ mod words;
 
 pub use endings::{TOO_LONG, model_unread};
 pub use laws::{
-    blasting_keeps_its_promise, carried_texts_read_back, demo_scripts_are_accepted,
-    eight_write_one_text, rewriting_keeps_its_promise, unblasted_texts_read_back,
-    without_rules_one_list, without_rules_one_text,
+    answered_texts_read_back, blasting_keeps_its_promise, carried_texts_read_back,
+    demo_scripts_are_accepted, eight_write_one_text, linking_keeps_its_promise,
+    rewriting_keeps_its_promise, unblasted_texts_read_back, without_rules_one_list,
+    without_rules_one_text,
 };
 pub use lines::complain;
 pub use status::{Status, Usage, Why};

@@ -256,6 +256,8 @@ fn cause_name_of(code: u16) -> &'static str
         64 => "ModelTwice",
         71 => "EvalWidth",
         90 => "NotBits",
+        95 => "DimacsForm",
+        96 => "NotClauses",
         _ => "",
     }
 }

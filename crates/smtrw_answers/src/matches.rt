@@ -29,7 +29,7 @@ pub(crate) fn rewrite_matches<'a>(
     command.try_get_matches_from(words)
 }
 
-/// The values of the words of `translate`, `extend` or `unblast`.
+/// The values of the words of `translate`, `extend`, `unblast` or `answer`, whose answer is called the model here.
 pub(crate) fn carry_matches<'a>(
     alloc: Global,
     name: &'a str,
@@ -52,8 +52,12 @@ pub(crate) fn carry_matches<'a>(
     command.try_get_matches_from(words)
 }
 
-/// The values of the words of `blast`.
-pub(crate) fn blast_matches<'a>(alloc: Global, words: &'a [String]) -> Result<ArgMatches<'a>, Error>
+/// The values of the words of `blast` or `dimacs`.
+pub(crate) fn blast_matches<'a>(
+    alloc: Global,
+    name: &'a str,
+    words: &'a [String],
+) -> Result<ArgMatches<'a>, Error>
     requires { IsBlasting (asked (map string_bytes words.now)) }
     ensures values { IfOk result (λ m. GivesBlasting (asked (map string_bytes words.entry.now)) (found_of m)) }
     ensures memory { IfErr result (λ e. kind_of e ≡ ErrorKind.OutOfMemory) }
@@ -61,7 +65,7 @@ pub(crate) fn blast_matches<'a>(alloc: Global, words: &'a [String]) -> Result<Ar
     let passes = Arg::new(alloc, "passes").long("passes");
     let check = Arg::new(alloc, "check").long("check");
     let script = Arg::new(alloc, "script");
-    let command = Command::new(alloc, "blast")
+    let command = Command::new(alloc, name)
         .disable_help_flag(true)
         .arg(passes)?
         .arg(check)?

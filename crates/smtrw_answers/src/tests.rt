@@ -23,7 +23,7 @@ fn has_fault(alloc: Global, line: &str, fault: Usage) -> Result<bool, AllocError
     }
 }
 
-const FAULTS: [(&str, u32, Why); 40] = [
+const FAULTS: [(&str, u32, Why); 46] = [
     ("rewrite", 2, Why::Missing),
     ("show 1 2", 1, Why::UnknownCommand),
     ("rewrite a --check=1", 3, Why::BadOption),
@@ -58,6 +58,12 @@ const FAULTS: [(&str, u32, Why); 40] = [
     ("unblast --passes=rules,cnf s m", 2, Why::BadPass),
     ("unblast - -", 3, Why::TwoInputs),
     ("unblast s", 3, Why::Missing),
+    ("dimacs --passes=rules -", 2, Why::BadPass),
+    ("dimacs a b", 3, Why::Extra),
+    ("dimacs", 2, Why::Missing),
+    ("answer --passes rules,cnf s m", 3, Why::BadPass),
+    ("answer - -", 3, Why::TwoInputs),
+    ("answer s --check=1", 4, Why::Missing),
     ("demo 5", 3, Why::Missing),
     ("demo 1 0", 3, Why::BadValue),
     ("demo 1 10001", 3, Why::BadValue),
@@ -138,7 +144,7 @@ fn rewrites(rt: HostRuntime) -> Result<(), Fail> {
     Ok(())
 }
 
-/// What a line of `translate`, `extend` or `unblast` asks for.
+/// What a line of `translate`, `extend`, `unblast` or `answer` asks for.
 struct Carry {
     command: &'static str,
     passes: usize,
@@ -174,6 +180,14 @@ fn asks_to_carry(alloc: Global, line: &str, carry: &Carry) -> Result<bool, Alloc
                 model,
             },
         ) => ("unblast", passes.len(), check, script, model),
+        Ok(
+            Asked::Answer {
+                passes,
+                check,
+                script,
+                answer,
+            },
+        ) => ("answer", passes.len(), check, script, answer),
         _ => return Ok(false),
     };
     Ok(
@@ -185,7 +199,7 @@ fn asks_to_carry(alloc: Global, line: &str, carry: &Carry) -> Result<bool, Alloc
     )
 }
 
-const CARRIES: [(&str, Carry); 5] = [
+const CARRIES: [(&str, Carry); 6] = [
     (
         "translate a -",
         Carry {
@@ -236,6 +250,16 @@ const CARRIES: [(&str, Carry); 5] = [
             model: (3, "-"),
         },
     ),
+    (
+        "answer - --check=2 a --passes ite,cnf",
+        Carry {
+            command: "answer",
+            passes: 2,
+            check: 2,
+            script: (2, "-"),
+            model: (4, "a"),
+        },
+    ),
 ];
 
 #[test]
@@ -246,7 +270,7 @@ fn carried_models(rt: HostRuntime) -> Result<(), Fail> {
     Ok(())
 }
 
-/// Whether a line asks for so many passes and a check of a file over bits, which is its word of this number.
+/// Whether a line asks for so many passes and a check of a file, over bits or as clauses; the file is its word of this number.
 fn asks_to_blast(
     alloc: Global,
     line: &str,
@@ -256,23 +280,36 @@ fn asks_to_blast(
     name: &str,
 ) -> Result<bool, AllocError> {
     let words = words_of(alloc, line)?;
-    match parse_words(alloc, words.as_slice()) {
+    let (command, passes, found, script) = match parse_words(alloc, words.as_slice()) {
         Ok(
             Asked::Blast {
                 passes,
-                check: found,
+                check,
                 script,
             },
-        ) => Ok(
-            passes.len() == count && found == check && script.word == number && script.name == name,
-        ),
-        _ => Ok(false),
-    }
+        ) => ("blast", passes.len(), check, script),
+        Ok(
+            Asked::Dimacs {
+                passes,
+                check,
+                script,
+            },
+        ) => ("dimacs", passes.len(), check, script),
+        _ => return Ok(false),
+    };
+    Ok(
+        line.starts_with(command)
+            && passes == count
+            && found == check
+            && (script.word, script.name) == (number, name),
+    )
 }
 
-const BLASTS: [(&str, usize, u64, u32, &str); 2] = [
+const BLASTS: [(&str, usize, u64, u32, &str); 4] = [
     ("blast -", 0, 1, 2, "-"),
     ("blast --check 2 --passes=simplify,ite a", 2, 2, 5, "a"),
+    ("dimacs -", 0, 1, 2, "-"),
+    ("dimacs --passes ite,cnf a --check=3", 2, 3, 4, "a"),
 ];
 
 #[test]

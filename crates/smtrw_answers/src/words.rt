@@ -68,6 +68,21 @@ pub enum Asked<'a> {
         script: File<'a>,
         model: File<'a>,
     },
+    /// `dimacs`: the clauses of a check of the script behind the passes, as DIMACS text. Without the options there are no
+    /// passes, and the check is the first. Stored rules may not stand among the passes.
+    Dimacs {
+        passes: Passes,
+        check: u64,
+        script: File<'a>,
+    },
+    /// `answer`: a solver's answer to what `dimacs` makes of a check of the script, as a model of the script. Without the
+    /// options there are no passes, and the check is the first. Stored rules may not stand among the passes.
+    Answer {
+        passes: Passes,
+        check: u64,
+        script: File<'a>,
+        answer: File<'a>,
+    },
     /// `stats`: the numbers of a script.
     Stats {
         file: File<'a>,
@@ -102,6 +117,8 @@ impl<'a> Asked<'a> {
             Asked::Extend { script, .. } => Source::File(*script),
             Asked::Blast { script, .. } => Source::File(*script),
             Asked::Unblast { script, .. } => Source::File(*script),
+            Asked::Dimacs { script, .. } => Source::File(*script),
+            Asked::Answer { script, .. } => Source::File(*script),
             Asked::Stats { file } => Source::File(*file),
             Asked::Demo { seed, size } => Source::Drawn {
                 seed: *seed,
@@ -111,7 +128,7 @@ impl<'a> Asked<'a> {
     }
 }
 
-/// What the words of `translate`, `extend` and `unblast` have in common.
+/// What the words of `translate`, `extend`, `unblast` and `answer` have in common; an answer stands here as the model.
 #[derive(Drop)]
 struct Carried<'a> {
     passes: Passes,
@@ -143,6 +160,13 @@ pub fn parse_words<'a>(alloc: Global, words: &'a [String]) -> Result<Asked<'a>, 
         Ok(Plan::Extend { script, model }) => extend(alloc, words, script, model),
         Ok(Plan::Blast { script }) => blast(alloc, words, script),
         Ok(Plan::Unblast { script, model }) => unblast(alloc, words, script, model),
+        Ok(Plan::Dimacs { script }) => dimacs(alloc, words, script),
+        Ok(
+            Plan::Answer {
+                script,
+                answer: word,
+            },
+        ) => answer(alloc, words, script, word),
         Ok(Plan::Stats { file }) => stats(alloc, words, file),
         Ok(Plan::Demo) => demo(alloc, words),
     }
@@ -225,7 +249,25 @@ fn unblast<'a>(
     })
 }
 
-/// The values of the words of `translate`, `extend` or `unblast`, whose script and model are the words of these numbers.
+fn answer<'a>(
+    alloc: Global,
+    words: &'a [String],
+    script: u32,
+    answer: u32,
+) -> Result<Asked<'a>, WordsFault>
+    requires { EndFits (Ok (a_plan.Answer script answer)) (asked_for (map string_bytes words.now)) }
+    ensures { Answers (asked_for (map string_bytes words.entry.now)) result }
+{
+    let carried = carry_values(alloc, Name::Answer, words, script, answer)?;
+    Ok(Asked::Answer {
+        passes: carried.passes,
+        check: carried.check,
+        script: carried.script,
+        answer: carried.model,
+    })
+}
+
+/// The values of the words of `translate`, `extend`, `unblast` or `answer`, whose script and model are the words of these numbers.
 fn carry_values<'a>(
     alloc: Global,
     command: Name,
@@ -270,7 +312,7 @@ fn blast<'a>(alloc: Global, words: &'a [String], word: u32) -> Result<Asked<'a>,
     requires { EndFits (Ok (a_plan.Blast word)) (asked_for (map string_bytes words.now)) }
     ensures { Answers (asked_for (map string_bytes words.entry.now)) result }
 {
-    let Ok(matches) = blast_matches(alloc, words) else {
+    let Ok(matches) = blast_matches(alloc, "blast", words) else {
         return Err(WordsFault::Memory);
     };
     let Ok(passes) = passes_of(Name::Blast, matches.get_str("passes")) else {
@@ -283,6 +325,29 @@ fn blast<'a>(alloc: Global, words: &'a [String], word: u32) -> Result<Asked<'a>,
         unreachable!()
     };
     Ok(Asked::Blast {
+        passes,
+        check,
+        script: File { word, name },
+    })
+}
+
+fn dimacs<'a>(alloc: Global, words: &'a [String], word: u32) -> Result<Asked<'a>, WordsFault>
+    requires { EndFits (Ok (a_plan.Dimacs word)) (asked_for (map string_bytes words.now)) }
+    ensures { Answers (asked_for (map string_bytes words.entry.now)) result }
+{
+    let Ok(matches) = blast_matches(alloc, "dimacs", words) else {
+        return Err(WordsFault::Memory);
+    };
+    let Ok(passes) = passes_of(Name::Dimacs, matches.get_str("passes")) else {
+        unreachable!()
+    };
+    let Some(check) = check_of(matches.get_str("check")) else {
+        unreachable!()
+    };
+    let Some(name) = matches.get_str("script") else {
+        unreachable!()
+    };
+    Ok(Asked::Dimacs {
         passes,
         check,
         script: File { word, name },

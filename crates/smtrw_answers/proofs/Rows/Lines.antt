@@ -87,5 +87,13 @@ not_bits : err_line (PassRefused 90 1) words ≡ codes "smtrw: pass refused: 90 
 unfolding cause_name
 not_bits = refl
 
+not_clauses : err_line (PassRefused 96 1) words ≡ codes "smtrw: pass refused: 96 NotClauses in assertion 1\n"
+unfolding cause_name
+not_clauses = refl
+
+no_answer : err_line (ModelRefused 95 2 18) words ≡ codes "smtrw: model refused: 95 DimacsForm at line 2, byte 18\n"
+unfolding cause_name
+no_answer = refl
+
 numbers : map number_of (Done ∷ refused 36 2 2 9 ∷ usage 1 Missing ∷ ReadFailed 2 ∷ WriteFailed ∷ OutOfMemory ∷ ModelRefused 60 1 0 ∷ Beyond128 1 ∷ PassRefused 50 1 ∷ []) ≡ 0 ∷ 1 ∷ 2 ∷ 3 ∷ 4 ∷ 5 ∷ 6 ∷ 7 ∷ 8 ∷ []
 numbers = refl

@@ -7,7 +7,7 @@ use Rattle.passes.specs.Lists.{pass_named}
 use Rattle.smtrw_answers.specs.declared.status.Usage.{Usage}
 use Rattle.smtrw_answers.specs.declared.status.Why.{Why}
 use Rattle.smtrw_answers.specs.declared.status.Why.TheVariants.{Missing, UnknownCommand, BadOption, Repeated, BadValue, BadPass, AfterRules, Extra, TwoInputs}
-use Rattle.smtrw_answers.specs.Words.{Numbered, Asked, rewrite, translate, extend, blast, unblast, stats, demo, asked}
+use Rattle.smtrw_answers.specs.Words.{Numbered, Asked, rewrite, translate, extend, blast, unblast, dimacs, answer, stats, demo, asked}
 
 abbrev asked_for : List String → Result Asked Usage
 asked_for words = asked (map codes words)
@@ -254,3 +254,39 @@ second_file_of_blast = refl
 
 no_model : asked_for ("unblast" ∷ "s" ∷ []) ≡ fault 3 Missing
 no_model = refl
+
+-- ---- what is made of clauses
+
+dimacs_alone : asked_for ("dimacs" ∷ "-" ∷ []) ≡ Ok (dimacs [] 1 (word 2 "-"))
+dimacs_alone = refl
+
+dimacs_with_options : asked_for ("dimacs" ∷ "a" ∷ "--check=2" ∷ "--passes" ∷ "simplify,cnf" ∷ []) ≡ Ok (dimacs (Simplify ∷ Cnf ∷ []) 2 (word 2 "a"))
+unfolding pass_named
+dimacs_with_options = refl
+
+answer_alone : asked_for ("answer" ∷ "a" ∷ "-" ∷ []) ≡ Ok (answer [] 1 (word 2 "a") (word 3 "-"))
+answer_alone = refl
+
+answer_with_options : asked_for ("answer" ∷ "--check" ∷ "3" ∷ "-" ∷ "--passes=cnf" ∷ "m" ∷ []) ≡ Ok (answer (Cnf ∷ []) 3 (word 4 "-") (word 6 "m"))
+unfolding pass_named
+answer_with_options = refl
+
+rules_over_clauses : asked_for ("dimacs" ∷ "--passes" ∷ "rules" ∷ "-" ∷ []) ≡ fault 3 BadPass
+unfolding pass_named
+rules_over_clauses = refl
+
+rules_before_groups_of_answer : asked_for ("answer" ∷ "--passes=rules,cnf" ∷ "s" ∷ "m" ∷ []) ≡ fault 2 BadPass
+unfolding pass_named
+rules_before_groups_of_answer = refl
+
+two_inputs_of_answer : asked_for ("answer" ∷ "-" ∷ "-" ∷ []) ≡ fault 3 TwoInputs
+two_inputs_of_answer = refl
+
+layout_of_dimacs : asked_for ("dimacs" ∷ "--layout" ∷ "dag" ∷ "-" ∷ []) ≡ fault 2 BadOption
+layout_of_dimacs = refl
+
+second_file_of_dimacs : asked_for ("dimacs" ∷ "a" ∷ "b" ∷ []) ≡ fault 3 Extra
+second_file_of_dimacs = refl
+
+no_answer : asked_for ("answer" ∷ "s" ∷ []) ≡ fault 3 Missing
+no_answer = refl

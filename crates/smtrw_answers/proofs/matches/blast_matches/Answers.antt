@@ -8,7 +8,7 @@ use Rattle.smtrw_answers.proofs.ClapCalls.{app_of-without_help, blasting_taken}
 use Rattle.smtrw_answers.proofs.matches.blast_matches.Goals as goal
 
 -- the command that is built
-is_built : (c : goal.After-try_get_matches_from) → app_of c.in_ok-command.command ≡ blast_app
+is_built : (c : goal.After-try_get_matches_from) → app_of c.in_ok-command.command ≡ blast_app c.args.name.now
 is_built c =
     let passes_is : rule_of c.long-passes.result ≡ passes_rule = search rules in
     let check_is : rule_of c.long-check.result ≡ check_rule = search rules in
@@ -20,12 +20,12 @@ is_built c =
 
 pub returns-clause-values : goal.returns-clause-values
 returns-clause-values c =
-    let taken = blasting_taken (map string_bytes c.args.words.now) c.requires in
+    let taken = blasting_taken c.args.name.now (map string_bytes c.args.words.now) c.requires in
     let call = c.try_get_matches_from in
     IfOk-weaker call.result _ _ (λ m has. taken.gives m (subst (λ a. HasMatchesOf a (map string_bytes c.args.words.now) m) (is_built c) has)) call.ensures.matches
 
 pub returns-clause-memory : goal.returns-clause-memory
 returns-clause-memory c =
-    let taken = blasting_taken (map string_bytes c.args.words.now) c.requires in
+    let taken = blasting_taken c.args.name.now (map string_bytes c.args.words.now) c.requires in
     let call = c.try_get_matches_from in
     IfErr-weaker call.result _ _ (λ e fails. fails (ap (λ a. takes a (map string_bytes c.args.words.now)) (is_built c) ∙ taken.takes)) call.ensures.passes
