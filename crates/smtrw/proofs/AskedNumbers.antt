@@ -13,7 +13,7 @@ use Rattle.std.specs.List.{list_all, list_any}
 use Rattle.std.specs.Str.Parse.{digits_value}
 use Rattle.smtrw_answers.specs.declared.status.Usage.{Usage}
 use Rattle.smtrw_answers.specs.declared.status.Why.TheVariants.{BadValue, Repeated, Extra, TwoInputs}
-use Rattle.smtrw_answers.specs.Words.{Word, Numbered, at, Command, rewriting, translating, extending, blasting, unblasting, counting, demonstrating, command_named, needed, Setting, of_passes, of_layout, of_check, settings_of, is_rules, takes_pass, setting_among, is_dashed, Given, nothing_given, is_given, number_in, is_from, is_up_to, layout_named, with_passes, with_layout, with_check, with_value, with_setting, option_word, with_plain, greatest_size, is_number_for, of_kind, plain_word, word_behind, and_then, words_from, Asked, asked_with, asked_or_missing, at_end, asked_of, asked}
+use Rattle.smtrw_answers.specs.Words.{Word, Numbered, at, Command, rewriting, translating, extending, blasting, unblasting, linking, answering, counting, demonstrating, command_named, needed, Setting, of_passes, of_layout, of_check, settings_of, is_rules, takes_pass, setting_among, is_dashed, Given, nothing_given, is_given, number_in, is_from, is_up_to, layout_named, with_passes, with_layout, with_check, with_value, with_setting, option_word, with_plain, greatest_size, is_number_for, of_kind, plain_word, word_behind, and_then, words_from, Asked, asked_with, asked_or_missing, at_end, asked_of, asked}
 use Rattle.smtrw_answers.specs.Asked.{IsInRange}
 use Rattle.smtrw.specs.Run.{WhereAsked}
 
@@ -40,6 +40,8 @@ WithoutRules (Some ps) = list_any is_rules ps ≡ false
 abbrev ListFits : Command → Option (List Pass) → Type 0
 ListFits blasting given = WithoutRules given
 ListFits unblasting given = WithoutRules given
+ListFits linking given = WithoutRules given
+ListFits answering given = WithoutRules given
 ListFits rewriting given = Unit {0}
 ListFits translating given = Unit {0}
 ListFits extending given = Unit {0}
@@ -53,6 +55,8 @@ PlainFit translating fs = Unit {0}
 PlainFit extending fs = Unit {0}
 PlainFit blasting fs = Unit {0}
 PlainFit unblasting fs = Unit {0}
+PlainFit linking fs = Unit {0}
+PlainFit answering fs = Unit {0}
 PlainFit counting fs = Unit {0}
 
 abbrev Fits : Command → Given → Type 0
@@ -80,6 +84,8 @@ none_ruled (p ∷ ps) all = by (is_rules p) (λ passed. none_ruled ps passed) al
 list_fits : (c : Command) (ps : List Pass) → list_all (takes_pass c) ps ≡ true → ListFits c (Some ps)
 list_fits blasting ps all = none_ruled ps all
 list_fits unblasting ps all = none_ruled ps all
+list_fits linking ps all = none_ruled ps all
+list_fits answering ps all = none_ruled ps all
 list_fits rewriting ps all = tt
 list_fits translating ps all = tt
 list_fits extending ps all = tt
@@ -165,6 +171,8 @@ kind_keeps translating i w g = file_keeps translating (λ fs. tt) i w g (bytes_e
 kind_keeps extending i w g = file_keeps extending (λ fs. tt) i w g (bytes_eq w (codes "-") && list_any (λ f. bytes_eq f.word (codes "-")) g.plain)
 kind_keeps blasting i w g = file_keeps blasting (λ fs. tt) i w g (bytes_eq w (codes "-") && list_any (λ f. bytes_eq f.word (codes "-")) g.plain)
 kind_keeps unblasting i w g = file_keeps unblasting (λ fs. tt) i w g (bytes_eq w (codes "-") && list_any (λ f. bytes_eq f.word (codes "-")) g.plain)
+kind_keeps linking i w g = file_keeps linking (λ fs. tt) i w g (bytes_eq w (codes "-") && list_any (λ f. bytes_eq f.word (codes "-")) g.plain)
+kind_keeps answering i w g = file_keeps answering (λ fs. tt) i w g (bytes_eq w (codes "-") && list_any (λ f. bytes_eq f.word (codes "-")) g.plain)
 kind_keeps counting i w g = file_keeps counting (λ fs. tt) i w g (bytes_eq w (codes "-") && list_any (λ f. bytes_eq f.word (codes "-")) g.plain)
 
 -- ---- word by word
@@ -230,6 +238,13 @@ with_plain_words unblasting i g [] from list fit = tt
 with_plain_words unblasting i g (s ∷ []) from list fit = tt
 with_plain_words unblasting i g (s ∷ m ∷ []) from list fit = (check_from g.check from, list_without g.passes list)
 with_plain_words unblasting i g (s ∷ m ∷ x ∷ fs) from list fit = tt
+with_plain_words linking i g [] from list fit = tt
+with_plain_words linking i g (f ∷ []) from list fit = (check_from g.check from, list_without g.passes list)
+with_plain_words linking i g (f ∷ x ∷ fs) from list fit = tt
+with_plain_words answering i g [] from list fit = tt
+with_plain_words answering i g (s ∷ []) from list fit = tt
+with_plain_words answering i g (s ∷ m ∷ []) from list fit = (check_from g.check from, list_without g.passes list)
+with_plain_words answering i g (s ∷ m ∷ x ∷ fs) from list fit = tt
 with_plain_words counting i g [] from list fit = tt
 with_plain_words counting i g (f ∷ []) from list fit = tt
 with_plain_words counting i g (f ∷ x ∷ fs) from list fit = tt
@@ -248,6 +263,8 @@ nothing_fits translating = (tt, tt, tt)
 nothing_fits extending = (tt, tt, tt)
 nothing_fits blasting = (tt, tt, tt)
 nothing_fits unblasting = (tt, tt, tt)
+nothing_fits linking = (tt, tt, tt)
+nothing_fits answering = (tt, tt, tt)
 nothing_fits counting = (tt, tt, tt)
 nothing_fits demonstrating = (tt, tt, tt)
 

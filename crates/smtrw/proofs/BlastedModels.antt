@@ -55,10 +55,10 @@ blasting_code b ps k code assertion is = by (passes_end b ps) refl is
     by (Some s) at found = inl (passes_end_code b ps code assertion (at ∙ found))
 
 blasting_may : (b : List ℕ) (ps : List Pass) (k : ℕ) (script : Numbered) (code assertion : ℕ) → blasting_end b ps k ≡ Some (PassRefused code assertion) → MayEnd (blast ps k script) (PassRefused code assertion)
-blasting_may b ps k script code assertion is = elim (blasting_code b ps k code assertion is) [ inl passes ↦ inl (passes, tt) | inr bits ↦ inr (inr (bits, tt)) ]
+blasting_may b ps k script code assertion is = elim (blasting_code b ps k code assertion is) [ inl passes ↦ inl (passes, tt) | inr bits ↦ inr (inr (inl (bits, tt))) ]
 
 unblasting_may : (b : List ℕ) (ps : List Pass) (k : ℕ) (script model : Numbered) (code assertion : ℕ) → blasting_end b ps k ≡ Some (PassRefused code assertion) → MayEnd (unblast ps k script model) (PassRefused code assertion)
-unblasting_may b ps k script model code assertion is = elim (blasting_code b ps k code assertion is) [ inl passes ↦ inl (passes, tt) | inr bits ↦ inr (inr (bits, tt)) ]
+unblasting_may b ps k script model code assertion is = elim (blasting_code b ps k code assertion is) [ inl passes ↦ inl (passes, tt) | inr bits ↦ inr (inr (inl (bits, tt))) ]
 
 -- ---- the text over truth values
 

@@ -88,14 +88,14 @@ some_given sig stages (Some g) m end gives is = given_end sig stages g m gives �
 
 -- ---- carrying
 
-wide_end : (stages : List Stage) (a : ℕ) → too_wide stages ≡ Some a → stages_end stages ≡ Some (PassRefused 71 a)
+pub wide_end : (stages : List Stage) (a : ℕ) → too_wide stages ≡ Some a → stages_end stages ≡ Some (PassRefused 71 a)
 wide_end stages a wide = ap (λ (o : Option ℕ). or_later (option_map (λ (i : ℕ). PassRefused 71 i) o) (option_map (λ (i : ℕ). Beyond128 i) (beyond stages))) wide
 
-beyond_end : (stages : List Stage) (o : Option ℕ) → too_wide stages ≡ None → beyond stages ≡ o → stages_end stages ≡ option_map (λ (i : ℕ). Beyond128 i) o
+pub beyond_end : (stages : List Stage) (o : Option ℕ) → too_wide stages ≡ None → beyond stages ≡ o → stages_end stages ≡ option_map (λ (i : ℕ). Beyond128 i) o
 beyond_end stages o narrow is i = or_later (option_map (λ (a : ℕ). PassRefused 71 a) (narrow i)) (option_map (λ (a : ℕ). Beyond128 a) (is i))
 
 module _ (t : Formulas) (cs : List (Command Term)) (k : ℕ) (within : IsCheck k cs) (sig : Signature) (stages : Model → List Stage) (m to : Model) (told : Option (List ℕ)) (gives : IfSome told (λ g. GivesModel sig g m)) where
-  no_check : (k ≡ 0) ⊎ (checks cs < k) → ⊥
+  pub no_check : (k ≡ 0) ⊎ (checks cs < k) → ⊥
   no_check (inl zero) = let least = within.0 in omega (arith, least, zero)
   no_check (inr more) = let most = within.1 in omega (arith, most, more)
 

@@ -17,7 +17,7 @@ use Rattle.smtrw_answers.specs.Asked.{IsInRange}
 use Rattle.smtrw_answers.specs.Endings.{or_later, rewrite_end, script_end}
 use Rattle.smtrw_answers.specs.Laws.{DemoScriptsAreAccepted, DemoScriptsAreShort, WithoutRulesOneList}
 use Rattle.smtrw_answers.specs.Outputs.{assertions, demo_line, demo_passes, demo_script, rewritten, rewritten_commands}
-use Rattle.smtrw_answers.specs.Words.{greatest_size, is_rules, Asked, rewrite, translate, extend, blast, unblast, stats, demo, source_of}
+use Rattle.smtrw_answers.specs.Words.{greatest_size, is_rules, Asked, rewrite, translate, extend, blast, unblast, dimacs, answer, stats, demo, source_of}
 use Rattle.smtrw.specs.declared.rewriting.Rewriting.{Rewriting}
 use Rattle.smtrw.specs.Demo.{line_of}
 use Rattle.smtrw.specs.Prepared.{EndsEarly, IsMadeFor}
@@ -63,6 +63,8 @@ module _ (accepted : DemoScriptsAreAccepted) (short : DemoScriptsAreShort) where
   made_is_sound b (extend passes check script model) range made = tt
   made_is_sound b (blast passes check script) range made = tt
   made_is_sound b (unblast passes check script model) range made = tt
+  made_is_sound b (dimacs passes check script) range made = tt
+  made_is_sound b (answer passes check script text) range made = tt
   made_is_sound b (stats file) range made = tt
   made_is_sound b (demo seed size) range made = script_sound seed size range.0 range.1 b made
 

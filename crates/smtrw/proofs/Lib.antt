@@ -1,3 +1,4 @@
+mod AnswerTexts
 mod AskedNumbers
 mod BlastedModels
 mod BlastedWays
@@ -10,7 +11,10 @@ mod Demonstrations
 mod EarlyEnds
 mod EightRun
 mod Endings
+mod LinkedModels
+mod LinkedWays
 mod ModelTexts
+mod Passages
 mod ReadTexts
 mod Sent
 mod Texts

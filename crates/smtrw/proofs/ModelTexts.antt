@@ -29,7 +29,7 @@ use Rattle.smtrw.specs.Carrying.{EndsAtFile, EndsAtModel, IsModelRead, ReadsText
 pub not_too_long : (g : List ℕ) → length g ≤ longest_text → nat_lt longest_text (length g) ≡ false
 not_too_long g short = grind (arith, nat_tests)
 
-too_long : (g : List ℕ) → longest_text < length g → nat_lt longest_text (length g) ≡ true
+pub too_long : (g : List ℕ) → longest_text < length g → nat_lt longest_text (length g) ≡ true
 too_long g long = grind (arith, nat_tests)
 
 -- ---- a text that is too long

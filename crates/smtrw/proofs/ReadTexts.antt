@@ -12,13 +12,15 @@ use Rattle.passes.specs.Carry.{back_stages, forth_stages}
 use Rattle.smtrw_answers.specs.declared.status.Status.{Status}
 use Rattle.smtrw_answers.specs.declared.status.Status.TheVariants.{Done, Refused, Usage, ReadFailed, WriteFailed, OutOfMemory, ModelRefused, Beyond128, PassRefused}
 use Rattle.smtrw_answers.specs.declared.words.Asked.{Asked as AskedSeen}
-use Rattle.smtrw_answers.specs.declared.words.Asked.TheVariants.{Rewrite, Translate, Extend, Blast, Unblast, Stats, Demo}
+use Rattle.smtrw_answers.specs.declared.words.Asked.TheVariants.{Rewrite, Translate, Extend, Blast, Unblast, Dimacs, Answer, Stats, Demo}
 use Rattle.smtrw_answers.specs.Asked.{asked_seen}
+use Rattle.dimacs_link.specs.AnswerTexts.{reading}
 use Rattle.smtrw_answers.specs.Blasting.{signature_blasted}
+use Rattle.smtrw_answers.specs.Linking.{linked_constants}
 use Rattle.smtrw_answers.specs.Carrying.{signature_before, signature_behind}
 use Rattle.smtrw_answers.specs.Headline.{IsRewriting}
 use Rattle.smtrw_answers.specs.Words.{Word, Numbered, Source, of_file, drawn, Asked, rewrite, stats, demo, source_of, model_file_of}
-use Rattle.smtrw_answers.specs.Endings.{longest_text, too_long, or_later, end_of, script_end, check_end, passes_end, blasting_end, model_end, rewrite_end, stats_end, text_end, unblast_stages}
+use Rattle.smtrw_answers.specs.Endings.{longest_text, too_long, or_later, end_of, script_end, check_end, passes_end, blasting_end, linking_end, reading_end, model_end, rewrite_end, stats_end, text_end, unblast_stages}
 use Rattle.smtrw_answers.specs.Outputs.{commands, names_left, stats_lines, demo_line, MayBeWritten}
 use Rattle.smtrw.specs.declared.rewriting.Rewriting.{Rewriting}
 use Rattle.smtrw.specs.Prepared.{EndsBefore, EndsEarly, IsPrepared, Writes, texts_beside}
@@ -64,6 +66,9 @@ end_refused (Extend ps k s m) b g sound status is =
 end_refused (Blast ps k f) b g sound status is = ap (λ (o : Option Status). or_later o (or_later (check_end b k) (blasting_end b ps k))) is
 end_refused (Unblast ps k s m) b g sound status is =
     ap (λ (o : Option Status). or_later o (or_later (check_end b k) (or_later (blasting_end b ps k) (text_end g (model_end (unblast_stages b ps k) (model_of g (signature_blasted b ps k))))))) is
+end_refused (Dimacs ps k f) b g sound status is = ap (λ (o : Option Status). or_later o (or_later (check_end b k) (linking_end b ps k))) is
+end_refused (Answer ps k s a) b g sound status is =
+    ap (λ (o : Option Status). or_later o (or_later (check_end b k) (or_later (linking_end b ps k) (text_end g (reading_end b ps k g (reading (length (linked_constants b ps k)) g)))))) is
 end_refused (Stats f) b g sound status is = is
 end_refused (Demo seed size) b g sound status is = absurd cc
 

@@ -3,7 +3,7 @@ use Rattle.std.proofs.Common.{refl, ℕ, inl, List, Option, Some, None, Ok}
 use Rattle.smt_terms.specs.Sorts.{Name}
 use Rattle.smtrw_answers.specs.declared.status.Status.{Status}
 use Rattle.smtrw_answers.specs.declared.status.Status.TheVariants.{Done, Refused, Usage, ReadFailed, WriteFailed, OutOfMemory, ModelRefused, Beyond128, PassRefused}
-use Rattle.smtrw_answers.specs.Words.{Word, Asked, rewrite, translate, extend, blast, unblast, stats, demo}
+use Rattle.smtrw_answers.specs.Words.{Word, Asked, rewrite, translate, extend, blast, unblast, dimacs, answer, stats, demo}
 use Rattle.smtrw.specs.Prepared.{Delivers, IsPrepared, Promises}
 use Rattle.smtrw.specs.Run.{IsComplete, MayEnd, OutFits, Promised, Quiet, ReadFits, Texts, TextsFit, WordsFit, WriteFits}
 
@@ -79,6 +79,9 @@ module _ (rules : List Name) (ts : Texts) (asked : Asked) (before now flushed : 
   kept None (blast passes check file) promises is = tt
   kept (Some b) (blast passes check file) promises is = (w, is.0, promises)
   kept s (unblast passes check file model) promises is = tt
+  kept None (dimacs passes check file) promises is = tt
+  kept (Some b) (dimacs passes check file) promises is = (w, is.0, promises)
+  kept s (answer passes check file text) promises is = tt
   kept s (stats file) promises is = tt
   kept s (demo seed size) promises is = tt
 

@@ -2,6 +2,7 @@ pub mod Blasting
 pub mod Carrying
 pub mod Counted
 pub mod Demo
+pub mod Linking
 pub mod Prepared
 pub mod Rewriting
 pub mod Run

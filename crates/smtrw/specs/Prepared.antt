@@ -4,8 +4,9 @@ use Rattle.smt_io.specs.Told.{with_bytes}
 use Rattle.smt_terms.specs.Sorts.{Name}
 use Rattle.smtrw_answers.specs.declared.status.Status.{Status}
 use Rattle.smtrw_answers.specs.declared.status.Status.TheVariants.{Done, Refused, WriteFailed, OutOfMemory, PassRefused}
-use Rattle.smtrw_answers.specs.Words.{Word, Source, of_file, drawn, Asked, rewrite, blast, model_file_of}
+use Rattle.smtrw_answers.specs.Words.{Word, Source, of_file, drawn, Asked, rewrite, blast, dimacs, model_file_of}
 use Rattle.smtrw_answers.specs.Blasting.{IsBlasting}
+use Rattle.smtrw_answers.specs.Linking.{IsLinking}
 use Rattle.smtrw_answers.specs.Headline.{IsRewriting}
 use Rattle.smtrw_answers.specs.Outputs.{demo_script}
 use Rattle.smtrw_answers.specs.Written.{IsOutputOf}
@@ -50,11 +51,13 @@ pub record EndsBefore (ts : Texts) (before now : Word → ℕ) (asked : Asked) (
   pub read : ReadFits before now status asked
   pub texts : TextsFit ts status asked
 
--- what is written of a told script by `rewrite` is a rewriting of it, and by `blast` what takes the place of its check
+-- what is written of a told script by `rewrite` is a rewriting of it, by `blast` what takes the place of its check, and by
+-- `dimacs` its clauses
 abbrev pub Promises : Option (List ℕ) → Asked → List ℕ → Type 0
 Promises None asked w = Unit {0}
 Promises (Some b) (rewrite passes layout file) w = IsRewriting b passes w
 Promises (Some b) (blast passes check file) w = IsBlasting b passes check w
+Promises (Some b) (dimacs passes check file) w = IsLinking b passes check w
 Promises (Some b) asked w = Unit {0}
 
 -- what is sent where nothing ends the run before

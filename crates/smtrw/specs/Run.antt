@@ -7,9 +7,10 @@ use Rattle.smtrw_answers.specs.declared.status.Usage.{Usage as UsageFault}
 use Rattle.smtrw_answers.specs.declared.status.Status.{Status}
 use Rattle.smtrw_answers.specs.declared.status.Why.TheVariants.{NoSuchCheck}
 use Rattle.smtrw_answers.specs.declared.status.Status.TheVariants.{Done, Refused, Usage, ReadFailed, WriteFailed, OutOfMemory, ModelRefused, Beyond128, PassRefused}
-use Rattle.smtrw_answers.specs.Words.{Word, Numbered, Source, of_file, drawn, Asked, rewrite, translate, extend, blast, unblast, source_of, model_file_of}
-use Rattle.smtrw_answers.specs.Endings.{or_later, script_end, check_end, passes_end, blasting_end, end_of}
+use Rattle.smtrw_answers.specs.Words.{Word, Numbered, Source, of_file, drawn, Asked, rewrite, translate, extend, blast, unblast, dimacs, answer, source_of, model_file_of}
+use Rattle.smtrw_answers.specs.Endings.{or_later, script_end, check_end, passes_end, blasting_end, linking_end, end_of}
 use Rattle.smtrw_answers.specs.Blasting.{IsBlasting}
+use Rattle.smtrw_answers.specs.Linking.{IsLinking}
 use Rattle.smtrw_answers.specs.Headline.{IsRewriting}
 use Rattle.smtrw_answers.specs.Outputs.{demo_script}
 use Rattle.smtrw_answers.specs.Written.{IsOutputOf}
@@ -21,17 +22,19 @@ abbrev pub WhereAsked : Result Asked UsageFault → (Asked → Type 0) → Type 
 WhereAsked (Err fault) P = Unit {0}
 WhereAsked (Ok asked) P = P asked
 
--- the commands that carry a model
+-- the commands that carry a model, one that is read or one that an answer stands for
 abbrev pub CarriesModel : Asked → Type 0
 CarriesModel (translate passes check script model) = Unit {0}
 CarriesModel (extend passes check script model) = Unit {0}
 CarriesModel (unblast passes check script model) = Unit {0}
+CarriesModel (answer passes check script text) = Unit {0}
 CarriesModel _ = ⊥
 
 -- the commands that run passes
 abbrev pub RunsPasses : Asked → Type 0
 RunsPasses (rewrite passes layout script) = Unit {0}
 RunsPasses (blast passes check script) = Unit {0}
+RunsPasses (dimacs passes check script) = Unit {0}
 RunsPasses asked = CarriesModel asked
 
 -- the commands that make a check over bit vectors one over truth values
@@ -39,6 +42,12 @@ abbrev pub BlastsCheck : Asked → Type 0
 BlastsCheck (blast passes check script) = Unit {0}
 BlastsCheck (unblast passes check script model) = Unit {0}
 BlastsCheck _ = ⊥
+
+-- the commands that take a check for clauses
+abbrev pub LinksCheck : Asked → Type 0
+LinksCheck (dimacs passes check script) = Unit {0}
+LinksCheck (answer passes check script text) = Unit {0}
+LinksCheck _ = ⊥
 
 -- the check that is asked for is missing: there are fewer
 abbrev pub IsMissing : ℕ → UsageFault → Type 0
@@ -49,6 +58,8 @@ MissesCheck (translate passes check script model) fault = IsMissing check fault
 MissesCheck (extend passes check script model) fault = IsMissing check fault
 MissesCheck (blast passes check script) fault = IsMissing check fault
 MissesCheck (unblast passes check script model) fault = IsMissing check fault
+MissesCheck (dimacs passes check script) fault = IsMissing check fault
+MissesCheck (answer passes check script text) fault = IsMissing check fault
 MissesCheck _ fault = ⊥
 
 -- `Usage` comes exactly where the words have a fault, and is that one; else it says of no word that the check is missing
@@ -58,11 +69,11 @@ WordsFit (Ok asked) (Usage fault) = MissesCheck asked fault
 WordsFit (Ok asked) _ = Unit {0}
 
 -- a model is refused, and a value or a width of a term, only where a model is carried; a pass refuses only where passes are run, and what
--- isn't over bits only where a check is made one over truth values
+-- isn't over bits only where a check is made one over truth values, and what is no clause only where a check is taken for clauses
 abbrev pub MayEnd : Asked → Status → Type 0
 MayEnd asked (ModelRefused code line byte) = CarriesModel asked
 MayEnd asked (Beyond128 assertion) = CarriesModel asked
-MayEnd asked (PassRefused code assertion) = ((code ≡ 50) × RunsPasses asked) ⊎ (((code ≡ 71) × CarriesModel asked) ⊎ ((code ≡ 90) × BlastsCheck asked))
+MayEnd asked (PassRefused code assertion) = ((code ≡ 50) × RunsPasses asked) ⊎ (((code ≡ 71) × CarriesModel asked) ⊎ (((code ≡ 90) × BlastsCheck asked) ⊎ ((code ≡ 96) × LinksCheck asked)))
 MayEnd asked _ = Unit {0}
 
 -- ---- the texts that the words name
@@ -118,15 +129,19 @@ check_end_of (translate passes check script model) b = check_end b check
 check_end_of (extend passes check script model) b = check_end b check
 check_end_of (blast passes check script) b = check_end b check
 check_end_of (unblast passes check script model) b = check_end b check
+check_end_of (dimacs passes check script) b = check_end b check
+check_end_of (answer passes check script text) b = check_end b check
 check_end_of _ b = None
 
--- with the bits, where the check is made one over truth values
+-- with the bits, where the check is made one over truth values, and with the clauses, where it is taken for these
 abbrev pub passes_end_of : Asked → List ℕ → Option Status
 passes_end_of (rewrite passes layout script) b = passes_end b passes
 passes_end_of (translate passes check script model) b = passes_end b passes
 passes_end_of (extend passes check script model) b = passes_end b passes
 passes_end_of (blast passes check script) b = blasting_end b passes check
 passes_end_of (unblast passes check script model) b = blasting_end b passes check
+passes_end_of (dimacs passes check script) b = linking_end b passes check
+passes_end_of (answer passes check script text) b = linking_end b passes check
 passes_end_of _ b = None
 
 -- before a model is read
@@ -134,7 +149,7 @@ abbrev pub early_end : Asked → List ℕ → Option Status
 early_end asked b = or_later (script_end b) (or_later (check_end_of asked b) (passes_end_of asked b))
 
 -- a told script is refused exactly where it is too long or isn't accepted, and so; a check is missing exactly where it has fewer,
--- and a pass refuses exactly where it meets what it refuses, or where a live term isn't one over bits
+-- and a pass refuses exactly where it meets what it refuses, or where a live term isn't one over bits, or no clause
 abbrev pub ScriptFits : Asked → List ℕ → Status → Type 0
 ScriptFits asked b (Refused r) = early_end asked b ≡ Some (Refused r)
 ScriptFits asked b (Usage u) = early_end asked b ≡ Some (Usage u)
@@ -171,12 +186,15 @@ Quiet before now Done = Unit {0}
 Quiet before now WriteFailed = Unit {0}
 Quiet before now _ = now ≡ before
 
--- what was sent of a told script at `Done` is a rewriting of it by the passes, or what takes the place of its check behind them
+-- what was sent of a told script at `Done` is a rewriting of it by the passes, or what takes the place of its check behind them, or the
+-- check's clauses
 abbrev pub Promised : Texts → Option (List ℕ) → Option (List ℕ) → Status → Asked → Type 0
 Promised ts before now Done (rewrite passes layout file) =
     elim ts.script [ None ↦ Unit {0} | Some b ↦ (w : List ℕ) × (now ≡ with_bytes before w) × IsRewriting b passes w ]
 Promised ts before now Done (blast passes check file) =
     elim ts.script [ None ↦ Unit {0} | Some b ↦ (w : List ℕ) × (now ≡ with_bytes before w) × IsBlasting b passes check w ]
+Promised ts before now Done (dimacs passes check file) =
+    elim ts.script [ None ↦ Unit {0} | Some b ↦ (w : List ℕ) × (now ≡ with_bytes before w) × IsLinking b passes check w ]
 Promised ts before now status asked = Unit {0}
 
 abbrev pub NoneRose : (Word → ℕ) → (Word → ℕ) → Option Numbered → Type 0

@@ -35,7 +35,7 @@ use term_subst::Fresh;
 use term_table::Table;
 
 /// How a model's text of more than 67,108,864 bytes ends the run.
-const MODEL_TOO_LONG: Status = Status::ModelRefused {
+pub(crate) const MODEL_TOO_LONG: Status = Status::ModelRefused {
     code: 2,
     line: 0,
     byte: 67_108_864,

@@ -14,6 +14,7 @@ use crate::blasting::{blasted, unblasted};
 use crate::carrying::{Carriage, extended, translated};
 use crate::counting::counted;
 use crate::demo::{demo_script, demonstrated};
+use crate::linking::{answered, linked};
 use crate::rewriting::rewritten;
 use rule_book::{Named, RuleBook};
 use smt_io::{Inputs, Pieces, ReadFault, Sink, read_all, send_pieces};
@@ -190,6 +191,20 @@ fn written<I: Inputs>(
                 model: *model,
             };
             unblasted(alloc, &forest, &carriage, inputs, book)
+        }
+        Asked::Dimacs { passes, check, .. } => linked(alloc, &forest, passes, *check, book),
+        Asked::Answer {
+            passes,
+            check,
+            answer,
+            ..
+        } => {
+            let carriage = Carriage {
+                passes,
+                check: *check,
+                model: *answer,
+            };
+            answered(alloc, &forest, &carriage, inputs, book)
         }
         Asked::Stats { .. } => counted(alloc, &forest),
         Asked::Demo { seed, size } => demonstrated(alloc, forest, *seed, *size, book),

@@ -11,6 +11,7 @@ use std::test::Fail;
 
 mod bits;
 mod carried_models;
+mod clauses;
 mod demonstrations;
 mod devices;
 mod endless;

@@ -1,8 +1,9 @@
 use Rattle.smtrw_answers.specs.Endings.{blasting_end}
 use Rattle.smtrw_answers.specs.Faults.{status_of_blasting}
 use Rattle.smtrw.specs.Carrying.{EndsOnTheWay}
-use Rattle.smtrw.proofs.BlastedWays.{blasted_way_is, blasting_refused, passing_on_the_way, script_last}
+use Rattle.smtrw.proofs.BlastedWays.{blasted_way_is, blasting_refused, passing_on_the_way}
 use Rattle.smtrw.proofs.CarriedModels.{if_refused}
+use Rattle.smtrw.proofs.Passages.{script_last}
 use Rattle.smtrw.proofs.blasting.blasted_way.Goals as goal
 
 pub returns-in_err-passage-clause-ends : goal.returns-in_err-passage-clause-ends

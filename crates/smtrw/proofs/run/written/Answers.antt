@@ -3,7 +3,7 @@ use Rattle.std.specs.Prelude.{IfErr, IfOk}
 use Rattle.smt_terms.specs.Sorts.{Name}
 use Rattle.smtrw_answers.specs.declared.status.Status.{Status}
 use Rattle.smtrw_answers.specs.declared.words.Asked.{Asked}
-use Rattle.smtrw_answers.specs.declared.words.Asked.TheVariants.{Rewrite, Translate, Extend, Blast, Unblast, Stats, Demo}
+use Rattle.smtrw_answers.specs.declared.words.Asked.TheVariants.{Rewrite, Translate, Extend, Blast, Unblast, Dimacs, Answer, Stats, Demo}
 use Rattle.smtrw_answers.specs.Asked.{asked_seen, numbered}
 use Rattle.smtrw_answers.specs.Endings.{longest_text}
 use Rattle.smtrw_answers.specs.Faults.{status_of_lexing}
@@ -131,6 +131,41 @@ returns-in-Unblast-clause-text g c =
     prepared_asked _ b text c.unblasted.result c.args.asked.now found c.in-Unblast.is
     (read_prepared b c.in_ok-forest.forest.bytes c.in_ok-forest.ensures.bytes text _ (asked_seen found) c.unblasted.result (c.unblasted.ensures.text (numbered c.in-Unblast.script) _))
 
+pub returns-in-Dimacs-clause-before : goal.returns-in-Dimacs-clause-before
+returns-in-Dimacs-clause-before g c =
+    let b = c.args.bytes.items in
+    let text = g.I.Inputs.text c.args.inputs.now in
+    let faults = g.I.Inputs.faults c.args.inputs.now in
+    let found : Asked = Dimacs c.in-Dimacs.passes c.in-Dimacs.check c.in-Dimacs.script in
+    before_asked b text faults faults c.linked.result c.args.asked.now found c.in-Dimacs.is
+    (read_before b c.in_ok-forest.forest.bytes c.in_ok-forest.ensures.bytes text faults faults (asked_seen found) c.linked.result (c.linked.ensures.before (numbered c.in-Dimacs.script) text faults faults))
+
+pub returns-in-Dimacs-clause-text : goal.returns-in-Dimacs-clause-text
+returns-in-Dimacs-clause-text g c =
+    let b = c.args.bytes.items in
+    let text = g.I.Inputs.text c.args.inputs.now in
+    let found : Asked = Dimacs c.in-Dimacs.passes c.in-Dimacs.check c.in-Dimacs.script in
+    prepared_asked _ b text c.linked.result c.args.asked.now found c.in-Dimacs.is
+    (read_prepared b c.in_ok-forest.forest.bytes c.in_ok-forest.ensures.bytes text _ (asked_seen found) c.linked.result (c.linked.ensures.text (numbered c.in-Dimacs.script) _ text))
+
+pub returns-in-Answer-clause-before : goal.returns-in-Answer-clause-before
+returns-in-Answer-clause-before g c =
+    let b = c.args.bytes.items in
+    let text = g.I.Inputs.text c.args.inputs.now in
+    let faults = g.I.Inputs.faults c.args.inputs.now in
+    let later = g.I.Inputs.faults c.answered.new.inputs in
+    let found : Asked = Answer c.in-Answer.passes c.in-Answer.check c.in-Answer.script c.in-Answer.answer in
+    before_asked b text faults later c.answered.result c.args.asked.now found c.in-Answer.is
+    (read_before b c.in_ok-forest.forest.bytes c.in_ok-forest.ensures.bytes text faults later (asked_seen found) c.answered.result (c.answered.ensures.before (numbered c.in-Answer.script)))
+
+pub returns-in-Answer-clause-text : goal.returns-in-Answer-clause-text
+returns-in-Answer-clause-text g c =
+    let b = c.args.bytes.items in
+    let text = g.I.Inputs.text c.args.inputs.now in
+    let found : Asked = Answer c.in-Answer.passes c.in-Answer.check c.in-Answer.script c.in-Answer.answer in
+    prepared_asked _ b text c.answered.result c.args.asked.now found c.in-Answer.is
+    (read_prepared b c.in_ok-forest.forest.bytes c.in_ok-forest.ensures.bytes text _ (asked_seen found) c.answered.result (c.answered.ensures.text (numbered c.in-Answer.script) _))
+
 pub returns-in-Stats-clause-before : goal.returns-in-Stats-clause-before
 returns-in-Stats-clause-before g c =
     let b = c.args.bytes.items in
@@ -198,5 +233,33 @@ pub unblasted-requires-clause-rules : goal.unblasted-requires-clause-rules
 unblasted-requires-clause-rules g c =
     let found : Asked = Unblast c.in-Unblast.passes c.in-Unblast.check c.in-Unblast.script c.in-Unblast.model in
     let is : c.args.asked.now ≡ found = c.in-Unblast.is in
+    let range : IsInRange (asked_seen found) = subst (λ (a : Asked). IsInRange (asked_seen a)) is c.requires.range in
+    range.1
+
+pub linked-requires-clause-first : goal.linked-requires-clause-first
+linked-requires-clause-first g c =
+    let found : Asked = Dimacs c.in-Dimacs.passes c.in-Dimacs.check c.in-Dimacs.script in
+    let is : c.args.asked.now ≡ found = c.in-Dimacs.is in
+    let range : IsInRange (asked_seen found) = subst (λ (a : Asked). IsInRange (asked_seen a)) is c.requires.range in
+    range.0
+
+pub linked-requires-clause-rules : goal.linked-requires-clause-rules
+linked-requires-clause-rules g c =
+    let found : Asked = Dimacs c.in-Dimacs.passes c.in-Dimacs.check c.in-Dimacs.script in
+    let is : c.args.asked.now ≡ found = c.in-Dimacs.is in
+    let range : IsInRange (asked_seen found) = subst (λ (a : Asked). IsInRange (asked_seen a)) is c.requires.range in
+    range.1
+
+pub answered-requires-clause-first : goal.answered-requires-clause-first
+answered-requires-clause-first g c =
+    let found : Asked = Answer c.in-Answer.passes c.in-Answer.check c.in-Answer.script c.in-Answer.answer in
+    let is : c.args.asked.now ≡ found = c.in-Answer.is in
+    let range : IsInRange (asked_seen found) = subst (λ (a : Asked). IsInRange (asked_seen a)) is c.requires.range in
+    range.0
+
+pub answered-requires-clause-rules : goal.answered-requires-clause-rules
+answered-requires-clause-rules g c =
+    let found : Asked = Answer c.in-Answer.passes c.in-Answer.check c.in-Answer.script c.in-Answer.answer in
+    let is : c.args.asked.now ≡ found = c.in-Answer.is in
     let range : IsInRange (asked_seen found) = subst (λ (a : Asked). IsInRange (asked_seen a)) is c.requires.range in
     range.1
