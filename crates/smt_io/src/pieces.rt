@@ -48,19 +48,26 @@ impl Pieces {
         }
     }
 
+    /// A text of exactly these bytes, which are taken over and not copied. It takes no memory.
+    pub fn of(alloc: Global, bytes: Vec<u8>) -> Pieces
+        ensures { result ≡ bytes.items }
+    {
+        Pieces {
+            alloc,
+            full: Vec::new(alloc),
+            room: bytes.capacity(),
+            len: bytes.len(),
+            last: bytes,
+        }
+    }
+
     /// An empty text that is written over these bytes, whose memory was touched before, and behind them into memory of its
     /// own. It takes no memory.
     pub fn over(alloc: Global, mut bytes: Vec<u8>) -> Pieces
         ensures { result ≡ [] }
     {
         bytes.clear();
-        Pieces {
-            alloc,
-            full: Vec::new(alloc),
-            room: bytes.capacity(),
-            last: bytes,
-            len: 0,
-        }
+        Pieces::of(alloc, bytes)
     }
 
     /// The number of bytes.

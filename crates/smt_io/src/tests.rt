@@ -134,6 +134,19 @@ fn a_text_is_written_over_another(rt: HostRuntime) -> Result<(), Fail> {
 }
 
 #[test]
+fn a_text_is_taken_over_whole(rt: HostRuntime) -> Result<(), Fail> {
+    let alloc = rt.alloc();
+    let mut text = Pieces::of(alloc, vec![in alloc; 120u8; 70_000]?);
+    assert_eq!(rt; text.len(), 70_000);
+    text.push(b" end")?;
+    let mut sink = MemSink::new(alloc, 4_096, 70_004)?;
+    assert_eq!(rt; send_pieces(&mut sink, &text), Ok(()));
+    assert!(rt; sink.bytes().ends_with(b"xxx end"));
+    assert_eq!(rt; sink.bytes().len(), 70_004);
+    Ok(())
+}
+
+#[test]
 fn the_host_is_read_by_name(rt: HostRuntime) {
     let alloc = rt.alloc();
     let mut inputs = HostInputs::new(alloc, rt);
