@@ -1,12 +1,14 @@
 -- Whether a term mentions local constants, by the numbers of symbols.
-use Rattle.std.proofs.Common.{◌≡◌, ◌==◌, Bool, true, false, ◌||◌, List, [], ◌∷◌, ◌++◌, map, reverse, All, refl, ap, sym, ◌∙◌}
+use Rattle.std.proofs.Common.{◌≡◌, ◌==◌, Bool, true, false, ◌||◌, List, [], ◌∷◌, ◌++◌, length, map, reverse, All, refl, ap, sym, ◌∙◌, arith}
+use Rattle.std.proofs.lemmas.Bool.Decides.{Decides-eqb}
 use Rattle.std.specs.List.{list_any}
 use Rattle.std.proofs.lemmas.List.Elements.{All-nil, All-cons, All-head, All-tail}
 use Rattle.std.proofs.lemmas.List.{reverse-append}
 use Rattle.std.proofs.lemmas.List.Folds.{list_any-append}
 use Rattle.smt_terms.specs.declared.ids.SymId.{SymId}
-use Rattle.smt_terms.specs.Free.{is_among}
+use Rattle.smt_terms.specs.Free.{free, is_among}
 use Rattle.smt_terms.specs.Fresh.{Supply}
+use Rattle.smt_terms.specs.Sorts.{Symbol}
 use Rattle.smt_terms.specs.Term.{Term}
 use Rattle.term_table.specs.Formulas.{Formulas, symbol_at, IsSymbol, IsTable}
 use Rattle.term_subst.proofs.MapsAt.{symbols-alike}
@@ -69,6 +71,10 @@ constants_are t supply ((n, Quantified c) ∷ ps) are =
 constants_are t supply ((n, Parameter c) ∷ ps) are =
     All-cons (IsSymbol t) c.symbol (constants_in ps) (All-head (λ p. IsLocal t supply p.1) (n, Parameter c) ps are).symbol (constants_are t supply ps (All-tail (λ p. IsLocal t supply p.1) (n, Parameter c) ps are))
 
+nothing_any : (fs : List Symbol) → list_any (λ f. is_among [] f) fs ≡ false
+nothing_any [] = refl
+nothing_any (f ∷ fs) = nothing_any fs
+
 -- the constants as they are listed, the same as a set, and the free symbols of the term
 module _ (t : Formulas) (table : IsTable t) (supply : Supply) (ps : LocalNames) (ls : List ReadLocal) (shows : ShowsLocals t supply ps ls) where
   pub mentions_found : (listed held : List SymId) (u : Term) (fs : List SymId) → reverse listed ≡ constants_in ps → ((f : SymId) → has_symbol held f ≡ has_symbol listed f) → AreFree t u fs
@@ -77,3 +83,11 @@ module _ (t : Formulas) (table : IsTable t) (supply : Supply) (ps : LocalNames) 
       any_alike (has_symbol held) (has_symbol (constants_in ps)) fs (λ f. same f ∙ sym (has_reversed listed f) ∙ ap (λ gs. has_symbol gs f) order)
       ∙ sym (any_number t table (constants_in ps) fs (constants_are t supply ps shows.numbers) are.symbols)
       ∙ (λ i. list_any (λ f. is_among (sym (constants_found t supply ps ls shows) i) f) (are.names i))
+
+  pub nothing_mentioned : (listed : List SymId) (b : Bool) (u : Term) → reverse listed ≡ constants_in ps → b ≡ (length listed == 0) → b ≡ true → false ≡ mentions_local ls u
+  nothing_mentioned [] b u order e h =
+      sym (nothing_any (free u))
+      ∙ (λ i. list_any (λ f. is_among (map (symbol_at t) (order i)) f) (free u))
+      ∙ (λ i. list_any (λ f. is_among (sym (constants_found t supply ps ls shows) i) f) (free u))
+  nothing_mentioned (g ∷ gs) b u order e h =
+      absurd (let none_there : (length (g ∷ gs) == 0) ≡ true = sym e ∙ h in let zero_there : length (g ∷ gs) ≡ 0 = (Decides-eqb (length (g ∷ gs)) 0).0 none_there in omega arith)

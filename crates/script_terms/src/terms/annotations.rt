@@ -130,9 +130,13 @@ fn mentions_local(
     ensures { (supply : Supply) (bound : List ReadLocal) → ShowsLocals table.now supply locals.now bound → IfOk result (λ mentions. mentions ≡ mentions_local bound (tree table.now node)) }
 {
     know_table(table);
-    let constants = set_of(alloc, locals.constants())?;
+    let constants = locals.constants();
+    if constants.is_empty() {
+        return Ok(false);
+    }
+    let bound = set_of(alloc, constants)?;
     let free = free_symbols(alloc, table, node)?;
-    Ok(has_any(&constants, &free))
+    Ok(has_any(&bound, &free))
 }
 
 // The set of these symbols.
