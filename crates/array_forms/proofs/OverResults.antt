@@ -22,7 +22,8 @@ use Rattle.smt_values.specs.SortIds.{sort_at}
 use Rattle.term_table.specs.Formulas.{Formulas, tree, tree_in, trees_at, symbol_at, operands, sorts_in, Kind, theory, applied as applied_kind, filled, binder, kind, kind_term, kind_rank, rank_over, term_over, IsOpOf, Makes, AreNodes}
 use Rattle.term_table.proofs.Made.{makes_ranked}
 use Rattle.term_table.proofs.Operators.{kind-theory}
-use Rattle.normal_forms.specs.Shape.{is_quantified, is_universally_quantified, quantifier_seen, variables_of, body_in}
+use Rattle.normal_forms.specs.Shape.{is_universally_quantified, quantifier_seen, variables_of, body_in}
+use Rattle.term_walk.specs.Binders.{is_quantified}
 use Rattle.array_forms.specs.Reads.{read, made_by_reading, reads, reads_all}
 use Rattle.array_forms.proofs.OverWrites.{counted, ranks, one-kid, two-kids, kids-count, select-count}
 use Rattle.array_forms.proofs.ReadsKeep.{operands_keep}

@@ -7,7 +7,7 @@ ghost use Rattle.term_table.specs.Formulas.{tree, trees_at, operands, IsNode, Ar
 ghost use Rattle.term_walk.specs.Places.{results};
 ghost use Rattle.term_walk.specs.Subterms.{all_subterms, places};
 ghost use Rattle.term_walk.specs.Walking.{GrowsTo, AreRelated, Fits, HaveResults, AllHaveResults, Stay, GainsBelow};
-ghost use Rattle.normal_forms.specs.Shape.{is_quantified};
+ghost use Rattle.term_walk.specs.Binders.{is_quantified};
 ghost use Rattle.array_forms.specs.ReadNodes.{HasReads};
 ghost use Rattle.array_forms.specs.Reads.{reads};
 
@@ -20,19 +20,7 @@ use std::alloc::{AllocError, Global};
 use std::sync::ledger::Ledger;
 use term_table::{Table, know_table};
 use term_walk::walks::walk;
-use term_walk::{Kept, NodeStep, Steps};
-
-// Whether a node is quantified.
-#[tactic(auto, unfolding(term_table::specs::Formulas::kind))]
-fn is_binder(table: &Table, id: NodeId) -> bool
-    requires { IsNode table.now id }
-    ensures { result ≡ is_quantified (tree table.now id) }
-{
-    match table.op(id) {
-        Op::Forall | Op::Exists => true,
-        _ => false,
-    }
-}
+use term_walk::{Kept, NodeStep, Steps, is_binder};
 
 // The result of a quantified node.
 fn quantified(

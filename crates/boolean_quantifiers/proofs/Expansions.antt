@@ -14,7 +14,8 @@ use Rattle.term_table.specs.Formulas.{Formulas, tree, trees_at, operands, IsNode
 use Rattle.term_walk.specs.Walking.{GrowsTo}
 use Rattle.normal_forms.specs.Nodes.{IsFormula}
 use Rattle.normal_forms.specs.Quantifiers.{over_left, not_bool, expand_bool, expand_each, shannon, shannon_each}
-use Rattle.normal_forms.specs.Shape.{is_quantified, is_universally_quantified, quantifier_seen, variables_of, body_in}
+use Rattle.normal_forms.specs.Shape.{is_universally_quantified, quantifier_seen, variables_of, body_in}
+use Rattle.term_walk.specs.Binders.{is_quantified}
 use Rattle.normal_forms.proofs.Shannon.{kept-distinct, kept-quantifiable}
 use Rattle.quantifier_forms.specs.Memos.{Results, result_in, known_in, Sets}
 use Rattle.quantifier_forms.specs.Rebuilding.{with_operands, is_number, IsLike}

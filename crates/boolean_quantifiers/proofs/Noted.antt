@@ -13,7 +13,7 @@ use Rattle.term_table.specs.Formulas.{Formulas, no_tree, tree, tree_in, trees_at
 use Rattle.term_walk.specs.FreeLists.{has_node}
 use Rattle.term_walk.specs.Walking.{GrowsTo}
 use Rattle.normal_forms.specs.Prenex.{quantifiers, quantifiers_of}
-use Rattle.normal_forms.specs.Shape.{is_quantified}
+use Rattle.term_walk.specs.Binders.{is_quantified}
 use Rattle.quantifier_forms.proofs.Stands.{same-number, number-same}
 use Rattle.boolean_quantifiers.specs.declared.occurrences.Held.{Held}
 use Rattle.boolean_quantifiers.specs.Occurrences.{Notes, note_of, occurs, occurs_each, is_noted, note_lacks, note_is_plain, is_plain, AreTrue, IsHeld}

@@ -13,7 +13,8 @@ use Rattle.smt_terms.proofs.Tests.{either_true, left_true, right_true, or_false}
 use Rattle.term_table.specs.Formulas.{Formulas, no_tree, tree, trees_at, operands, IsNode, AreNodes, IsTable}
 use Rattle.term_walk.specs.Walking.{GrowsTo}
 use Rattle.normal_forms.specs.Nodes.{IsFormula}
-use Rattle.normal_forms.specs.Shape.{is_quantified, is_universally_quantified, quantifier_seen, variables_of, body_in}
+use Rattle.normal_forms.specs.Shape.{is_universally_quantified, quantifier_seen, variables_of, body_in}
+use Rattle.term_walk.specs.Binders.{is_quantified}
 use Rattle.quantifier_forms.specs.Memos.{Results, result_in, known_in, Sets}
 use Rattle.quantifier_forms.specs.Orders.{IsOrdered}
 use Rattle.quantifier_forms.specs.Rebuilding.{with_operands, is_number, IsLike}

@@ -22,7 +22,8 @@ use Rattle.term_subst.specs.Substituting.{IsLater}
 use Rattle.normal_forms.specs.Nodes.{IsFormula}
 use Rattle.normal_forms.specs.Prenex.{quantifiers}
 use Rattle.normal_forms.specs.Quantifiers.{over_left, not_bool, at_truth, witness, substitute_bool, substitute_each, Solved, Solving, solved_for, selfsub_from, selfsub}
-use Rattle.normal_forms.specs.Shape.{is_quantified, quantifier_seen, variables_of, body_in}
+use Rattle.normal_forms.specs.Shape.{quantifier_seen, variables_of, body_in}
+use Rattle.term_walk.specs.Binders.{is_quantified}
 use Rattle.normal_forms.proofs.Inside.{in-left, in-both}
 use Rattle.normal_forms.proofs.ShannonInside.{at_truth-within, fewer-names}
 use Rattle.quantifier_forms.specs.Listing.{listed}

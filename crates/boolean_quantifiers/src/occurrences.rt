@@ -10,10 +10,10 @@ ghost use Rattle.boolean_quantifiers.specs.Occurrences.{AreTrue, occurs};
 
 use indexmap::{IndexMap, IndexSet};
 use quantifier_forms::listing::{Choice, list};
-use quantifier_forms::rebuilding::is_binder;
 use smt_terms::NodeId;
 use std::alloc::{AllocError, Global};
 use term_table::Table;
+use term_walk::is_binder;
 
 // As many candidates are listed of a node.
 const FEW: usize = 64;

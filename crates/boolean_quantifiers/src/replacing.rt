@@ -4,7 +4,8 @@ ghost use Rattle.std.specs.Prelude.{◌≡◌, ◌<◌, Bool, true, false, Some,
 ghost use Rattle.smt_terms.specs.declared.ids.NodeId.{NodeId};
 ghost use Rattle.term_table.specs.Formulas.{tree, IsNode};
 ghost use Rattle.term_walk.specs.Walking.{GrowsTo};
-ghost use Rattle.normal_forms.specs.Shape.{is_quantified, variables_of};
+ghost use Rattle.normal_forms.specs.Shape.{variables_of};
+ghost use Rattle.term_walk.specs.Binders.{is_quantified};
 ghost use Rattle.quantifier_forms.specs.Memos.{result_in};
 ghost use Rattle.quantifier_forms.specs.Orders.{IsOrdered};
 ghost use Rattle.boolean_quantifiers.specs.Replacing.{Pairs, image_of, images_at, binds_image, AreImages, IsPut, ArePut, Spares, AreReady, is_known, Extends};
@@ -12,10 +13,11 @@ ghost use Rattle.boolean_quantifiers.specs.Replacing.{Pairs, image_of, images_at
 use normal_forms::binding::{bind, is_universal};
 use quantifier_forms::listing::{Choice, list};
 use quantifier_forms::memo::Memo;
-use quantifier_forms::rebuilding::{body_below, is_binder, rebuilt};
+use quantifier_forms::rebuilding::{body_below, rebuilt};
 use smt_terms::NodeId;
 use std::alloc::{AllocError, Global};
 use term_table::{Table, know_table};
+use term_walk::is_binder;
 
 // What takes the place of which constants, and which nodes are known to have none of these.
 pub(crate) trait Images {

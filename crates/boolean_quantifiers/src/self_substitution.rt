@@ -14,7 +14,8 @@ ghost use Rattle.term_walk.specs.Walking.{GrowsTo};
 ghost use Rattle.term_subst.specs.Substituting.{IsLater, NeverGivesGained};
 ghost use Rattle.normal_forms.specs.Quantifiers as plain;
 ghost use Rattle.normal_forms.specs.Nodes.{IsFormula};
-ghost use Rattle.normal_forms.specs.Shape.{is_quantified, quantifier_seen};
+ghost use Rattle.normal_forms.specs.Shape.{quantifier_seen};
+ghost use Rattle.term_walk.specs.Binders.{is_quantified};
 ghost use Rattle.quantifier_forms.specs.Memos.{result_in};
 ghost use Rattle.quantifier_forms.specs.Variables.{AreVariables};
 ghost use Rattle.boolean_quantifiers.specs.Solving.{step, solved_over, MayStand, AllMayStand, IsTold, AreTold, IsSolved, AreOperandsKnown};
@@ -27,11 +28,12 @@ use normal_forms::shapes::is_formula;
 use quantifier_forms::listing::list_all;
 use quantifier_forms::memo::Memo;
 use quantifier_forms::quantifying::{quantify, symbol_of, variables_below, without_truths};
-use quantifier_forms::rebuilding::{body_below, is_binder, rebuilt};
+use quantifier_forms::rebuilding::{body_below, rebuilt};
 use smt_terms::NodeId;
 use std::alloc::{AllocError, Global};
 use term_subst::{Fresh, SymMap, substitute};
 use term_table::{Table, know_table};
+use term_walk::is_binder;
 
 // The formula with another one for a Bool variable.
 fn substituted(

@@ -9,7 +9,8 @@ ghost use Rattle.term_table.specs.Formulas.{tree, variable_of, IsNode};
 ghost use Rattle.term_walk.specs.Walking.{GrowsTo};
 ghost use Rattle.normal_forms.specs.Nodes.{IsFormula};
 ghost use Rattle.normal_forms.specs.Quantifiers as plain;
-ghost use Rattle.normal_forms.specs.Shape.{is_quantified, quantifier_seen};
+ghost use Rattle.normal_forms.specs.Shape.{quantifier_seen};
+ghost use Rattle.term_walk.specs.Binders.{is_quantified};
 ghost use Rattle.quantifier_forms.specs.Memos.{result_in};
 ghost use Rattle.quantifier_forms.specs.Variables.{AreVariables};
 ghost use Rattle.boolean_quantifiers.specs.Expanding.{IsExpanded, AreExpanded, AreOperandsExpanded};
@@ -23,10 +24,11 @@ use normal_forms::shapes::is_formula;
 use quantifier_forms::listing::list_all;
 use quantifier_forms::memo::Memo;
 use quantifier_forms::quantifying::{quantify, variables_below, without_truths};
-use quantifier_forms::rebuilding::{body_below, is_binder, rebuilt};
+use quantifier_forms::rebuilding::{body_below, rebuilt};
 use smt_terms::NodeId;
 use std::alloc::{AllocError, Global};
 use term_table::{Table, know_table};
+use term_walk::is_binder;
 
 // What a quantifier over one Bool variable says of the formula with `true` and with `false` for it.
 fn expanded(

@@ -12,10 +12,10 @@ use crate::work::{Case, Work};
 use indexmap::IndexSet;
 use normal_forms::making::truth;
 use normal_forms::shapes::is_formula;
-use quantifier_forms::rebuilding::is_binder;
 use smt_terms::NodeId;
 use std::alloc::{AllocError, Global};
 use term_table::Table;
+use term_walk::is_binder;
 
 // The Bool variables that one of these nodes quantifies.
 pub(crate) fn quantified_truths(

@@ -19,7 +19,7 @@ use Rattle.smt_terms.proofs.Ranked.{rank-takes}
 use Rattle.smt_terms.proofs.Sorted.{applied, sorted}
 use Rattle.smt_terms.proofs.Tests.{both_true}
 use Rattle.term_table.specs.Formulas.{Formulas, theory, kind, kind_term, tree, trees_at, term_over, operands, symbol_at, no_tree, IsNode, IsTable}
-use Rattle.term_walk.specs.FreeLists.{is_quantified}
+use Rattle.term_walk.specs.Binders.{is_quantified}
 use Rattle.evaluation.specs.Operated.{operand_sorts, applied_at}
 
 -- ---- a term with a head

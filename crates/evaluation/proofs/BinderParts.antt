@@ -10,7 +10,7 @@ use Rattle.smt_terms.proofs.Tests.{both_true}
 use Rattle.smt_terms.proofs.Sorted.{IsQuantified, quantified_sort}
 use Rattle.smt_terms.proofs.Keeping.{the_sort}
 use Rattle.term_table.specs.Formulas.{Formulas, no_tree, tree, trees_at, variable_of, operands, IsNode, IsTable}
-use Rattle.term_walk.specs.FreeLists.{is_quantified}
+use Rattle.term_walk.specs.Binders.{is_quantified}
 use Rattle.evaluation.specs.Choices.{variables_at, IsVariable}
 
 -- these nodes are the variables and the body

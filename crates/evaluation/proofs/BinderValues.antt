@@ -9,7 +9,7 @@ use Rattle.smt_terms.specs.Val.{Env, runs, val, fits, bound_bits, bits_bound}
 use Rattle.smt_terms.specs.Values.{truth, is_true}
 use Rattle.normal_forms.specs.Shape.{is_universally_quantified}
 use Rattle.term_table.specs.Formulas.{Formulas, tree, trees_at, operands, IsNode, IsTable}
-use Rattle.term_walk.specs.FreeLists.{is_quantified}
+use Rattle.term_walk.specs.Binders.{is_quantified}
 use Rattle.evaluation.specs.Choices.{quantifier_of, variables_at, bits_below, IsVariable}
 use Rattle.evaluation.specs.Evaluated.{breaks}
 use Rattle.evaluation.specs.declared.quantifiers.Quantified.{Quantified}

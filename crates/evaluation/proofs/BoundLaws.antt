@@ -9,8 +9,7 @@ use Rattle.smt_terms.specs.Sorts.{Variable}
 use Rattle.smt_terms.specs.Term.{Term, apply, quantified, Terms, none, ◌⨾◌, list}
 use Rattle.smt_terms.specs.Val.{sort_bits, bound_bits, bits_bound, greatest_bound}
 use Rattle.term_table.specs.Formulas.{Formulas, no_tree, tree, trees_at, tree_in, variable_of, operands, IsNode, AreNodes}
-use Rattle.term_walk.specs.FreeLists.{is_quantified}
-use Rattle.normal_forms.specs.Shape as shape
+use Rattle.term_walk.specs.Binders.{is_quantified}
 use Rattle.term_walk.proofs.Members.{has-at}
 use Rattle.term_walk.specs.declared.kept.Place.{Place}
 use Rattle.term_walk.specs.Places.{result_at}
@@ -76,7 +75,3 @@ applied-told t ks (apply h ts) is plain_term same keeps all = greatest-told t ks
 
 pub told-of : (t : Formulas) (ks : List (Place ℕ)) (k : NodeId) (r : ℕ) → KeepsBounds t ks → has_bound ks k ≡ true → result_at ks k.0 ≡ Some r → r ≡ told_bits (bits_bound (tree t k))
 told-of t ks k r keeps e f = keeps.related.related k r f
-
-pub alike : (u : Term) → is_quantified u ≡ shape.is_quantified u
-alike (apply h ts) = refl
-alike (quantified q xs b) = refl

@@ -16,7 +16,7 @@ use Rattle.smt_terms.proofs.BitLengths.{length-nat2bv}
 use Rattle.smt_values.specs.SortIds.{sort_at, IsSortId, IsSortList}
 use Rattle.smt_values.specs.declared.scalar.Scalar.TheVariants.{Truth, Bits}
 use Rattle.term_table.specs.Formulas.{Formulas, kind, tree, term_over, operands, symbol_at, variable_of, IsSymbol, IsOpOf}
-use Rattle.term_walk.specs.FreeLists.{is_quantified}
+use Rattle.term_walk.specs.Binders.{is_quantified}
 use Rattle.quantifier_forms.proofs.Stands.{same-number, number-same}
 use Rattle.evaluation.specs.Bindings.{IsBinding}
 use Rattle.evaluation.specs.Choices.{IsVariable}

@@ -9,7 +9,7 @@ use Rattle.smt_terms.specs.Val.{Env, bits_bound, greatest_bound}
 use Rattle.smt_values.specs.declared.value.Value.{Value}
 use Rattle.term_table.specs.Formulas.{Formulas, tree, trees_at, operands}
 use Rattle.term_walk.specs.declared.kept.Place.{Place}
-use Rattle.term_walk.specs.FreeLists.{is_quantified}
+use Rattle.term_walk.specs.Binders.{is_quantified}
 use Rattle.term_walk.specs.Places.{result_at}
 use Rattle.evaluation.specs.KeptValues.{Found, found_at, or_kept, known_at, AreKnown, StayKnown}
 use Rattle.evaluation.specs.Orders.{AreBehind}

@@ -11,7 +11,7 @@ use Rattle.smt_terms.specs.Val.{Env, bits_bound, greatest_bound}
 use Rattle.smt_terms.specs.Equal.{term_eq}
 use Rattle.smt_terms.proofs.Tests.{either_true, left_true, right_true}
 use Rattle.term_table.specs.Formulas.{Formulas, no_tree, tree, tree_in, trees_at}
-use Rattle.term_walk.specs.FreeLists.{is_quantified}
+use Rattle.term_walk.specs.Binders.{is_quantified}
 use Rattle.quantifier_forms.specs.Listing.{listed, listed_each}
 use Rattle.evaluation.specs.Evaluated.{breaks, any_breaks}
 use Rattle.smt_terms.specs.Val.{val, value_in_range}

@@ -25,7 +25,7 @@ use Rattle.smt_values.specs.declared.value.Value.{Value}
 use Rattle.smt_values.specs.declared.value.Value.TheVariants.{Scalar as OfScalar, Element, Array}
 use Rattle.term_table.specs.Formulas.{Formulas, no_tree, tree, tree_in, trees_at, operands, sort_or_bool, IsNode, AreNodes, IsTable}
 use Rattle.term_walk.specs.declared.kept.Place.{Place}
-use Rattle.term_walk.specs.FreeLists.{is_quantified}
+use Rattle.term_walk.specs.Binders.{is_quantified}
 use Rattle.term_walk.proofs.Members.{has-at}
 use Rattle.models.specs.GraphRows.{meanings, AreValues}
 use Rattle.evaluation.specs.Evaluated.{breaks, any_breaks, IsValueOf}

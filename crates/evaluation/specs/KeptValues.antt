@@ -9,7 +9,7 @@ use Rattle.smt_values.specs.Meaning.{IsHeld}
 use Rattle.smt_values.specs.declared.value.Value.{Value}
 use Rattle.term_table.specs.Formulas.{Formulas, tree, operands, IsNode}
 use Rattle.term_walk.specs.declared.kept.Place.{Place}
-use Rattle.term_walk.specs.FreeLists.{is_quantified}
+use Rattle.term_walk.specs.Binders.{is_quantified}
 use Rattle.term_walk.specs.Places.{result_at}
 use Rattle.term_walk.specs.Walking.{Fits}
 use Rattle.evaluation.specs.Evaluated.{told_bits, IsValueOf}

@@ -8,7 +8,8 @@ use Rattle.smt_terms.specs.Val.{Env, bits_bound}
 use Rattle.smt_values.specs.declared.value.Value.{Value}
 use Rattle.term_table.specs.Formulas.{Formulas, tree, trees_at, operands, IsNode, AreNodes}
 use Rattle.term_walk.specs.declared.kept.Place.{Place}
-use Rattle.term_walk.specs.FreeLists.{has_node, is_quantified}
+use Rattle.term_walk.specs.FreeLists.{has_node}
+use Rattle.term_walk.specs.Binders.{is_quantified}
 use Rattle.term_walk.specs.Places.{result_at}
 use Rattle.evaluation.specs.Evaluated.{breaks, any_breaks, most_bits}
 use Rattle.evaluation.specs.declared.faults.ValueFault.{ValueFault}

@@ -7,7 +7,7 @@ ghost use Rattle.smt_terms.specs.Val.{sort_bits, val};
 ghost use Rattle.smt_values.specs.Meaning.{scalar_value, IsScalar};
 ghost use Rattle.smt_values.specs.Numbered.{numbered};
 ghost use Rattle.term_table.specs.Formulas.{tree, symbol_at, variable_of, operands, IsNode, IsSymbol};
-ghost use Rattle.term_walk.specs.FreeLists.{is_quantified};
+ghost use Rattle.term_walk.specs.Binders.{is_quantified};
 ghost use Rattle.evaluation.specs.Bindings.{env_of, IsBinding, AreBindings};
 ghost use Rattle.evaluation.specs.Choices.{IsVariable};
 ghost use Rattle.evaluation.specs.Operated.{applied_at, operand_values};

@@ -3,7 +3,7 @@
 ghost use Rattle.std.specs.Prelude.{◌≡◌, ◌-◌, ◌^◌, min, true, Some, All, IfOk};
 ghost use Rattle.smt_terms.specs.Val.{bits_bound};
 ghost use Rattle.term_table.specs.Formulas.{tree, IsNode};
-ghost use Rattle.term_walk.specs.FreeLists.{is_quantified};
+ghost use Rattle.term_walk.specs.Binders.{is_quantified};
 ghost use Rattle.term_walk.specs.Places.{result_at};
 ghost use Rattle.quantifier_forms.specs.Orders.{IsOrdered};
 ghost use Rattle.evaluation.specs.Evaluated.{told_bits};
@@ -11,11 +11,10 @@ ghost use Rattle.evaluation.specs.KeptValues.{KeepsBounds, has_bound, greatest_a
 
 use crate::bindings::bits_of;
 use quantifier_forms::listing::{Choice, list};
-use quantifier_forms::rebuilding::is_binder;
 use smt_terms::NodeId;
 use std::alloc::{AllocError, Global};
 use term_table::{Table, know_table};
-use term_walk::Kept;
+use term_walk::{Kept, is_binder};
 
 // Without the nodes that have a bound.
 #[derive(Drop)]

@@ -9,7 +9,7 @@ ghost use Rattle.smt_values.specs.Meaning.{meaning, IsHeld};
 ghost use Rattle.smt_values.specs.SizeTable.{sizes_by};
 ghost use Rattle.smt_values.specs.SortIds.{sort_at, IsSortId};
 ghost use Rattle.term_table.specs.Formulas.{tree, symbol_at, IsNode, IsSymbol};
-ghost use Rattle.term_walk.specs.FreeLists.{is_quantified};
+ghost use Rattle.term_walk.specs.Binders.{is_quantified};
 ghost use Rattle.models.specs.GraphRows.{meanings, AreValues};
 ghost use Rattle.models.specs.ModelView.{model_at};
 ghost use Rattle.evaluation.specs.Operated.{operand_sorts, applied_at};

@@ -7,12 +7,11 @@ ghost use Rattle.evaluation.specs.Evaluated.{most_bits};
 ghost use Rattle.evaluation.specs.Orders.{IsOrder};
 
 use quantifier_forms::listing::{Choice, list};
-use quantifier_forms::rebuilding::is_binder;
 use smt_terms::NodeId;
 use smt_values::Value;
 use std::alloc::{AllocError, Global};
 use term_table::{Table, know_table};
-use term_walk::Kept;
+use term_walk::{Kept, is_binder};
 
 // Without the nodes that have a value, and without what is below quantifiers.
 #[derive(Drop)]
@@ -23,7 +22,7 @@ struct Unknown<'a> {
 impl<'a> Choice for Unknown<'a> {
     ghost use Rattle.std.specs.Prelude.{not, is_some};
     ghost use Rattle.term_table.specs.Formulas.{tree};
-    ghost use Rattle.term_walk.specs.FreeLists.{is_quantified};
+    ghost use Rattle.term_walk.specs.Binders.{is_quantified};
     ghost use Rattle.term_walk.specs.Places.{result_at};
 
     ghost skips = { λ s k. is_some (result_at s.kept.now k.0) };

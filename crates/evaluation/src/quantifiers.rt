@@ -8,7 +8,7 @@ ghost use Rattle.smt_terms.specs.Val.{bits_bound, sort_bits, runs, val, fits};
 ghost use Rattle.smt_terms.specs.Values.{truth, joined, is_true};
 ghost use Rattle.smt_values.specs.Meaning.{meaning};
 ghost use Rattle.term_table.specs.Formulas.{tree, trees_at, variable_of, IsNode};
-ghost use Rattle.term_walk.specs.FreeLists.{is_quantified};
+ghost use Rattle.term_walk.specs.Binders.{is_quantified};
 ghost use Rattle.models.specs.ModelView.{model_at};
 ghost use Rattle.evaluation.specs.Bindings.{env_of, AreBindings};
 ghost use Rattle.evaluation.specs.Choices.{quantifier_of, variables_at, bits_below, first_bits, runs_with, IsVariable, IsBody};
@@ -24,12 +24,11 @@ use crate::results::{give_value, value_of_node, values_of_nodes};
 use indexmap::IndexMap;
 use models::Model;
 use normal_forms::binding::is_universal;
-use quantifier_forms::rebuilding::is_binder;
 use smt_terms::NodeId;
 use smt_values::{Scalar, Value};
 use std::alloc::Global;
 use term_table::{Table, know_table};
-use term_walk::Kept;
+use term_walk::{Kept, is_binder};
 
 // A quantifier over a body, with the nodes below this in order.
 #[derive(Drop)]

@@ -10,7 +10,8 @@ use Rattle.smt_terms.proofs.Binders.{binder-rank_quantifier}
 use Rattle.smt_terms.proofs.Sorted.{quantified_sort, sort_of-quantified}
 use Rattle.term_table.specs.Formulas.{Formulas, no_tree, tree, tree_in, trees_at, operands, binders, body, sort_or_bool, sorts_in, kind, Makes, AreNodes}
 use Rattle.term_table.proofs.Binding.{earlier_terms}
-use Rattle.normal_forms.specs.Shape.{is_quantified, variables_of, body_in}
+use Rattle.normal_forms.specs.Shape.{variables_of, body_in}
+use Rattle.term_walk.specs.Binders.{is_quantified}
 use Rattle.normal_forms.proofs.NnfShape.{no-minus}
 
 pub quantified-operands : (u : Term) → is_quantified u ≡ true → operands u ≡ map variable (variables_of u) ++ body_in u ∷ []

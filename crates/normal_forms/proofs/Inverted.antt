@@ -17,7 +17,8 @@ use Rattle.normal_forms.specs.declared.connective.Connective.TheVariants.{Not}
 use Rattle.normal_forms.specs.Aig.{inverted, aig, aig_each}
 use Rattle.normal_forms.specs.InvertedNodes.{IsInverted, HasInverted}
 use Rattle.normal_forms.specs.Nodes.{IsFormula, formula_stays}
-use Rattle.normal_forms.specs.Shape.{IsOfKind, is_quantified, is_universally_quantified, quantifier_seen, variables_of, body_in, term_kind}
+use Rattle.normal_forms.specs.Shape.{IsOfKind, is_universally_quantified, quantifier_seen, variables_of, body_in, term_kind}
+use Rattle.term_walk.specs.Binders.{is_quantified}
 use Rattle.normal_forms.specs.Results.{AreResults}
 use Rattle.normal_forms.proofs.KeptResults.{kids-count, kid-term, each-related, terms-of-results}
 use Rattle.normal_forms.proofs.NodeShapes.{AreOperands, connective-operands}

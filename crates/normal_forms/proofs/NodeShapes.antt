@@ -12,7 +12,8 @@ use Rattle.smt_terms.proofs.Sorted.{applied, sorted}
 use Rattle.term_table.specs.Formulas.{no_tree, operands}
 use Rattle.normal_forms.specs.declared.connective.Connective.{Connective}
 use Rattle.normal_forms.specs.declared.connective.Connective.TheVariants.{Not, And, Or, Xor, Implies, Equal, Distinct, Ite as IteConnective}
-use Rattle.normal_forms.specs.Shape.{is_quantified, term_kind, kind_seen, IsOfKind, Takes}
+use Rattle.normal_forms.specs.Shape.{term_kind, kind_seen, IsOfKind, Takes}
+use Rattle.term_walk.specs.Binders.{is_quantified}
 
 pub terms-list : (ts : Terms) → terms (list ts) ≡ ts
 terms-list none = refl

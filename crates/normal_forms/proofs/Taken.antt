@@ -19,7 +19,8 @@ use Rattle.normal_forms.specs.declared.node_forms.Forms.{Forms}
 use Rattle.normal_forms.specs.FormNodes.{AreForms, HasForms, AreTaken, positive_of, negative_of}
 use Rattle.normal_forms.specs.Nodes.{IsFormula, formula_stays}
 use Rattle.normal_forms.specs.Nnf.{positive, negative, nnf, nnf_not, nnf_each, nnf_not_each}
-use Rattle.normal_forms.specs.Shape.{IsOfKind, is_quantified, is_universally_quantified, quantifier_seen, variables_of, body_in}
+use Rattle.normal_forms.specs.Shape.{IsOfKind, is_universally_quantified, quantifier_seen, variables_of, body_in}
+use Rattle.term_walk.specs.Binders.{is_quantified}
 
 -- one part more
 pub taken-push : (part : Forms → NodeId) (ks : List (Place Forms)) (kids ids new : List NodeId) (n : ℕ) (e : NodeId) (f : Forms) → length ids ≡ n → n < length kids → ((i : ℕ) (d : NodeId) → i < n → option_map part (result_at ks (get_or kids i d).0) ≡ Some (get_or ids i d)) → result_at ks (get_or kids n e).0 ≡ Some f → new ≡ ids ++ part f ∷ [] → (i : ℕ) (d : NodeId) → i < n + 1 → option_map part (result_at ks (get_or kids i d).0) ≡ Some (get_or new i d)

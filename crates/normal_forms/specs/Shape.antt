@@ -7,6 +7,7 @@ use Rattle.normal_forms.specs.declared.connective.Connective.{Connective}
 use Rattle.normal_forms.specs.declared.connective.Connective.TheVariants.{Not, And, Or, Xor, Implies, Equal, Distinct, Ite}
 use Rattle.normal_forms.specs.declared.connective.Shape.{Shape}
 use Rattle.normal_forms.specs.declared.connective.Shape.TheVariants.{Truth, Connected, Quantified, Atom}
+use Rattle.term_walk.specs.Binders.{is_quantified}
 
 abbrev pub kind_seen : Connective → Kind
 kind_seen Not = negation
@@ -17,10 +18,6 @@ kind_seen Implies = implication
 kind_seen Equal = equivalence
 kind_seen Distinct = difference
 kind_seen Ite = conditional
-
-abbrev pub is_quantified : Term → Bool
-is_quantified (apply _ _) = false
-is_quantified (quantified _ _ _) = true
 
 -- the kind of a term that isn't quantified
 abbrev pub term_kind : Term → Kind

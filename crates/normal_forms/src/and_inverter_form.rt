@@ -22,7 +22,8 @@ ghost use Rattle.term_walk.specs.Subterms.{all_subterms, places};
 ghost use Rattle.term_walk.specs.Walking.{GrowsTo, AreRelated, Fits, HaveResults};
 ghost use Rattle.normal_forms.specs.Aig as plain;
 ghost use Rattle.normal_forms.specs.Nodes.{IsFormula};
-ghost use Rattle.normal_forms.specs.Shape.{Takes, IsOfKind, kind_seen, is_quantified};
+ghost use Rattle.normal_forms.specs.Shape.{Takes, IsOfKind, kind_seen};
+ghost use Rattle.term_walk.specs.Binders.{is_quantified};
 ghost use Rattle.normal_forms.specs.InvertedNodes.{IsInverted, HasInverted};
 
 use crate::binding::{bind, body_of, is_universal};

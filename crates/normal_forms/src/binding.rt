@@ -6,7 +6,8 @@ ghost use Rattle.smt_terms.specs.Term.{quantified, variable};
 ghost use Rattle.term_table.specs.Formulas.{tree, trees_at, operands, IsNode, AreNodes};
 ghost use Rattle.term_walk.specs.Walking.{GrowsTo};
 ghost use Rattle.normal_forms.specs.Nodes.{IsFormula};
-ghost use Rattle.normal_forms.specs.Shape.{is_quantified, is_universally_quantified, variables_of, body_in, quantifier_seen};
+ghost use Rattle.normal_forms.specs.Shape.{is_universally_quantified, variables_of, body_in, quantifier_seen};
+ghost use Rattle.term_walk.specs.Binders.{is_quantified};
 
 use smt_terms::NodeId;
 use smt_values::Op;

@@ -24,7 +24,8 @@ ghost use Rattle.term_walk.specs.Subterms.{all_subterms, places};
 ghost use Rattle.term_walk.specs.Walking.{GrowsTo, AreRelated, Fits, HaveResults};
 ghost use Rattle.normal_forms.specs.Nnf as plain;
 ghost use Rattle.normal_forms.specs.Nodes.{IsFormula};
-ghost use Rattle.normal_forms.specs.Shape.{Takes, IsOfKind, kind_seen, is_quantified};
+ghost use Rattle.normal_forms.specs.Shape.{Takes, IsOfKind, kind_seen};
+ghost use Rattle.term_walk.specs.Binders.{is_quantified};
 ghost use Rattle.normal_forms.specs.FormNodes.{AreForms, HasForms, AreTaken, positive_of, negative_of};
 
 use crate::binding::{bind, body_of, is_universal};

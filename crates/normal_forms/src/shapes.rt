@@ -7,7 +7,8 @@ ghost use Rattle.smt_terms.specs.Term.{terms};
 ghost use Rattle.smt_terms.specs.Rank.{sort_of, sorts_of};
 ghost use Rattle.term_table.specs.Formulas.{no_tree, tree, operands, IsNode};
 ghost use Rattle.normal_forms.specs.Nodes.{IsFormula};
-ghost use Rattle.normal_forms.specs.Shape.{HasShape, is_quantified};
+ghost use Rattle.normal_forms.specs.Shape.{HasShape};
+ghost use Rattle.term_walk.specs.Binders.{is_quantified};
 
 use crate::connective::{Connective, Shape};
 use smt_terms::NodeId;

@@ -11,7 +11,8 @@ use Rattle.term_table.specs.Formulas.{Formulas, tree, trees_at, operands, IsNode
 use Rattle.term_table.proofs.Binding.{earlier_terms}
 use Rattle.term_walk.proofs.Members.{has-append, has-one}
 use Rattle.normal_forms.specs.Nodes.{IsFormula}
-use Rattle.normal_forms.specs.Shape.{is_quantified, variables_of, body_in}
+use Rattle.normal_forms.specs.Shape.{variables_of, body_in}
+use Rattle.term_walk.specs.Binders.{is_quantified}
 use Rattle.normal_forms.proofs.Bound.{quantified-operands, kids_number}
 use Rattle.quantifier_forms.proofs.Rebuilt.{some-sort}
 use Rattle.quantifier_forms.proofs.Sweeps.{taken-at}

@@ -19,7 +19,7 @@ use Rattle.term_walk.specs.Walking.{GrowsTo}
 use Rattle.term_walk.proofs.Members.{has-at}
 use Rattle.normal_forms.specs.Nodes.{IsFormula, formula_stays}
 use Rattle.normal_forms.specs.Prenex.{through, leftmost, leftmost_of, through_or, by_if, replaced, replaced_each}
-use Rattle.normal_forms.specs.Shape.{is_quantified}
+use Rattle.term_walk.specs.Binders.{is_quantified}
 use Rattle.normal_forms.proofs.Replaced.{replaced-sort}
 use Rattle.quantifier_forms.specs.declared.exchanging.Exchange.{Exchange}
 use Rattle.quantifier_forms.specs.Exchanging.{IsExchange, IsExchanged, AreExchanged, AreOperandsExchanged}

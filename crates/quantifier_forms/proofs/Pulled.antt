@@ -25,7 +25,8 @@ use Rattle.term_subst.proofs.Alike.{subst-by-images}
 use Rattle.term_subst.proofs.Gaining.{never-later}
 use Rattle.term_subst.proofs.Renamed.{bound_all}
 use Rattle.normal_forms.specs.Prenex.{whole}
-use Rattle.normal_forms.specs.Shape.{is_quantified, is_universally_quantified, quantifier_seen, variables_of, body_in}
+use Rattle.normal_forms.specs.Shape.{is_universally_quantified, quantifier_seen, variables_of, body_in}
+use Rattle.term_walk.specs.Binders.{is_quantified}
 use Rattle.normal_forms.proofs.Drawn.{draws}
 use Rattle.normal_forms.proofs.Inside.{in-right}
 use Rattle.quantifier_forms.specs.declared.pulling.Bound.{Bound}

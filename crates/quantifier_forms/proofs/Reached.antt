@@ -20,7 +20,7 @@ use Rattle.term_walk.specs.Walking.{GrowsTo}
 use Rattle.term_walk.proofs.Members.{has-append}
 use Rattle.term_subst.proofs.Growing.{trees-grow}
 use Rattle.normal_forms.specs.Prenex.{Quantified, through, or_next, leftmost, leftmost_of}
-use Rattle.normal_forms.specs.Shape.{is_quantified}
+use Rattle.term_walk.specs.Binders.{is_quantified}
 use Rattle.quantifier_forms.specs.Listing.{behind, listed_variables, listed, listed_each}
 use Rattle.quantifier_forms.specs.Reaching.{is_joint, is_junction, parts_of, quantified_itself, first_quantified, IsBare, AreBare, AreReached}
 use Rattle.quantifier_forms.proofs.Rebuilt.{terms-list}

@@ -16,7 +16,7 @@ use Rattle.smt_terms.proofs.Tests.{both_true, not_true}
 use Rattle.term_table.specs.Formulas.{Formulas, no_symbol, trees_at, operands, term_over, sort_or_bool, sorts_in, Kind, theory, applied as applied_kind, filled, binder, kind, kind_term, kind_rank, is_minus_over, IsOpOf, Makes, AreNodes}
 use Rattle.term_table.proofs.Operators.{kind-theory}
 use Rattle.smt_values.specs.SortIds.{sort_at}
-use Rattle.normal_forms.specs.Shape.{is_quantified}
+use Rattle.term_walk.specs.Binders.{is_quantified}
 use Rattle.normal_forms.proofs.NnfShape.{no-minus}
 use Rattle.quantifier_forms.specs.Rebuilding.{with_operands, is_number, IsLike, AreLike}
 

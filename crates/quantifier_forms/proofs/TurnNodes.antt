@@ -10,7 +10,7 @@ use Rattle.term_table.specs.Formulas.{Formulas, tree, trees_at}
 use Rattle.term_walk.specs.Walking.{GrowsTo}
 use Rattle.normal_forms.specs.Nodes.{IsFormula, formula_stays}
 use Rattle.normal_forms.specs.Prenex.{whole, leftmost, replaced, quantifiers}
-use Rattle.normal_forms.specs.Shape.{is_quantified}
+use Rattle.term_walk.specs.Binders.{is_quantified}
 use Rattle.quantifier_forms.specs.declared.pulling.Bound.{Bound}
 use Rattle.quantifier_forms.specs.Exchanging.{IsExchange, IsExchanged}
 use Rattle.quantifier_forms.specs.Pulling.{all_fresh, fresh_body, Front, fronts_at, AreFronts}

@@ -8,7 +8,7 @@ use Rattle.term_table.specs.Formulas.{Formulas, tree, trees_at, operands, IsNode
 use Rattle.term_walk.specs.FreeLists.{has_node}
 use Rattle.normal_forms.specs.Nodes.{IsFormula}
 use Rattle.normal_forms.specs.Prenex.{Quantified, or_next, leftmost}
-use Rattle.normal_forms.specs.Shape.{is_quantified}
+use Rattle.term_walk.specs.Binders.{is_quantified}
 
 abbrev pub is_joint : Kind → Bool
 is_joint conjunction = true

@@ -11,11 +11,12 @@ ghost use Rattle.quantifier_forms.specs.Reaching.{AreBare, AreReached};
 
 use crate::memo::Memo;
 use crate::reaching::is_bare;
-use crate::rebuilding::{is_binder, rebuilt};
+use crate::rebuilding::rebuilt;
 use indexmap::IndexSet;
 use smt_terms::NodeId;
 use std::alloc::{AllocError, Global};
 use term_table::{Table, know_table};
+use term_walk::is_binder;
 
 // A quantified formula, and what takes its place.
 #[derive(Clone, Copy)]

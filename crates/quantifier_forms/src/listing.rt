@@ -17,6 +17,7 @@ use smt_terms::NodeId;
 use std::alloc::{AllocError, Global};
 use term_table::{Table, know_table};
 use term_walk::Stack;
+use term_walk::meeting::meet;
 
 /// Which nodes a listing skips, with all that stands below them alone, and at which it looks at the operands.
 pub trait Choice {
@@ -32,15 +33,6 @@ pub trait Choice {
     fn opens(&self, table: &Table, id: NodeId) -> bool
         requires { IsNode table.now id }
         ensures { result ≡ opens self.now table.now id };
-}
-
-// Whether a node is met for the first time.
-fn meet(met: &mut IndexSet<NodeId>, id: NodeId) -> Result<bool, AllocError>
-    ensures first { IfOk result (λ first. first ≡ not (has_node met.old.keys id)) }
-    ensures keys { OnOk result (met.new.keys ≡ with_node met.old.keys id) }
-{
-    let first = met.insert(id)?;
-    Ok(first)
 }
 
 // Opens a node that is met for the first time: it is left when what it opens is listed.

@@ -7,7 +7,8 @@ ghost use Rattle.smt_terms.specs.Term.{constant_of, quantified, variable};
 ghost use Rattle.term_table.specs.Formulas.{tree, symbol_at, variable_of, IsNode, IsSymbol, AreNodes};
 ghost use Rattle.term_walk.specs.Walking.{GrowsTo};
 ghost use Rattle.normal_forms.specs.Nodes.{IsFormula};
-ghost use Rattle.normal_forms.specs.Shape.{quantifier_seen, is_quantified, variables_of};
+ghost use Rattle.normal_forms.specs.Shape.{quantifier_seen, variables_of};
+ghost use Rattle.term_walk.specs.Binders.{is_quantified};
 ghost use Rattle.normal_forms.specs.Quantifiers.{not_bool};
 ghost use Rattle.quantifier_forms.specs.Variables.{AreVariables};
 
@@ -75,6 +76,7 @@ pub fn quantify(
     ensures term { (xs : List Variable) → AreVariables table.old variables.now xs → IfOk result (λ k. tree table.new k ≡ quantified (quantifier_seen universal) xs (tree table.old body)) }
     ensures grows { GrowsTo table.old table.new }
     ensures symbols { table.new.symbols ≡ table.old.symbols }
+    ensures sorts { table.new.sorts ≡ table.old.sorts }
 {
     let mut kids = Vec::from_slice(alloc, variables)?;
     kids.push(body)?;

@@ -3,16 +3,16 @@
 ghost use Rattle.std.specs.Prelude.{◌≡◌, true, false, None, Some, IfOk, MatchOption, IfSome};
 ghost use Rattle.term_table.specs.Formulas.{tree, trees_at, IsNode, AreNodes};
 ghost use Rattle.normal_forms.specs.Prenex.{leftmost};
-ghost use Rattle.normal_forms.specs.Shape.{is_quantified};
+ghost use Rattle.term_walk.specs.Binders.{is_quantified};
 ghost use Rattle.quantifier_forms.specs.Reaching.{is_junction, parts_of, first_quantified, IsBinder, AreBare, AreReached};
 
 use crate::listing::{Choice, list};
-use crate::rebuilding::is_binder;
 use indexmap::IndexSet;
 use smt_terms::NodeId;
 use smt_values::Op;
 use std::alloc::{AllocError, Global};
 use term_table::{Table, know_table};
+use term_walk::is_binder;
 
 // Whether a node is an `and` or an `or`.
 #[tactic(auto, unfolding(term_table::specs::Formulas::kind, smt_terms::specs::Connectives::operator_kind))]

@@ -2,7 +2,8 @@
 
 ghost use Rattle.std.specs.Prelude.{◌≡◌, ◌<◌, true, false, IfOk};
 ghost use Rattle.term_table.specs.Formulas.{tree, trees_at, operands, IsNode, AreNodes};
-ghost use Rattle.normal_forms.specs.Shape.{is_quantified, body_in};
+ghost use Rattle.normal_forms.specs.Shape.{body_in};
+ghost use Rattle.term_walk.specs.Binders.{is_quantified};
 ghost use Rattle.term_walk.specs.Walking.{GrowsTo};
 ghost use Rattle.quantifier_forms.specs.Rebuilding.{with_operands, IsLike, AreLike};
 
@@ -26,18 +27,6 @@ pub fn rebuilt(table: &mut Table, id: NodeId, kids: &[NodeId]) -> Result<NodeId,
     let op = table.op(id);
     let id = table.intern(op, kids)?;
     Ok(id)
-}
-
-/// Whether a node is quantified.
-#[tactic(auto, unfolding(term_table::specs::Formulas::kind))]
-pub fn is_binder(table: &Table, id: NodeId) -> bool
-    requires { IsNode table.now id }
-    ensures { result ≡ is_quantified (tree table.now id) }
-{
-    match table.op(id) {
-        Op::Forall | Op::Exists => true,
-        _ => false,
-    }
 }
 
 /// The body of a quantified node, which is its last operand.

@@ -15,7 +15,8 @@ use Rattle.term_table.specs.Formulas.{Formulas, tree, trees_at, symbol_at, opera
 use Rattle.term_walk.specs.declared.kept.Place.{Place}
 use Rattle.term_walk.specs.Walking.{AreRelated}
 use Rattle.normal_forms.specs.Results.{AreResults}
-use Rattle.normal_forms.specs.Shape.{is_quantified, is_universally_quantified, quantifier_seen, variables_of, body_in}
+use Rattle.normal_forms.specs.Shape.{is_universally_quantified, quantifier_seen, variables_of, body_in}
+use Rattle.term_walk.specs.Binders.{is_quantified}
 use Rattle.normal_forms.proofs.KeptResults.{each-related, nodes-of-results}
 use Rattle.rule_book.specs.Filling.{remade, with_operands}
 use Rattle.rule_book.specs.Rewriting.{Replaces, Rewrites, RewritesEach, RewritingKeepsValues}

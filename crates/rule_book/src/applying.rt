@@ -10,7 +10,7 @@ ghost use Rattle.term_table.specs.Formulas.{tree, trees_at, sorts_in, operands, 
 ghost use Rattle.term_walk.specs.Places.{results};
 ghost use Rattle.term_walk.specs.Subterms.{all_subterms, places};
 ghost use Rattle.term_walk.specs.Walking.{GrowsTo, AreRelated, HaveResults, Fits, Stay, GainsBelow, AllHaveResults};
-ghost use Rattle.normal_forms.specs.Shape.{is_quantified};
+ghost use Rattle.term_walk.specs.Binders.{is_quantified};
 ghost use Rattle.rule_book.specs.EightRules.{all_eight};
 ghost use Rattle.rule_book.specs.Filling.{with_operands};
 ghost use Rattle.rule_book.specs.Rewriting.{Replaces, RewritesEach, Rewrites};
@@ -29,19 +29,7 @@ use std::alloc::{AllocError, Global};
 use std::sync::ledger::Ledger;
 use term_table::{Table, know_table};
 use term_walk::walks::walk;
-use term_walk::{Kept, NodeStep, Steps};
-
-// Whether a node is quantified.
-#[tactic(auto, unfolding(term_table::specs::Formulas::kind))]
-fn is_binder(table: &Table, id: NodeId) -> bool
-    requires { IsNode table.now id }
-    ensures { result ≡ is_quantified (tree table.now id) }
-{
-    match table.op(id) {
-        Op::Forall | Op::Exists => true,
-        _ => false,
-    }
-}
+use term_walk::{Kept, NodeStep, Steps, is_binder};
 
 // The operator of a node that isn't quantified over these nodes, which have its operands' sorts.
 fn over_operands(table: &mut Table, id: NodeId, kids: &[NodeId]) -> Result<NodeId, AllocError>

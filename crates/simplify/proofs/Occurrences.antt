@@ -19,7 +19,8 @@ use Rattle.smt_terms.proofs.StoredTerms.{fine_term}
 use Rattle.smt_terms.proofs.Tests.{alike_from, contrary, either_true, left_true, right_true, true_or_false}
 use Rattle.term_table.specs.Formulas.{Formulas, tree, tree_in, trees_at, variable_of, operands, IsNode, AreNodes, IsTable}
 use Rattle.term_walk.specs.FreeLists.{has_node}
-use Rattle.normal_forms.specs.Shape.{is_quantified, variables_of, body_in}
+use Rattle.normal_forms.specs.Shape.{variables_of, body_in}
+use Rattle.term_walk.specs.Binders.{is_quantified}
 use Rattle.normal_forms.proofs.Bound.{quantified-operands}
 use Rattle.quantifier_forms.specs.Tasks.{work_left}
 use Rattle.quantifier_forms.proofs.Stands.{same-number, number-same, has_node-append, in-last, last-in, earlier-in, term-among, left_more}

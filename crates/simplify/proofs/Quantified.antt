@@ -12,7 +12,8 @@ use Rattle.smt_terms.specs.Term.{Quantifier, Term, apply, quantified, constant_o
 use Rattle.smt_terms.proofs.Sorted.{quantified_sort}
 use Rattle.smt_terms.proofs.Tests.{both_true, both_false, and_true, not_true}
 use Rattle.term_table.specs.Formulas.{Formulas, tree, tree_in, trees_at, variable_of, IsNode, AreNodes}
-use Rattle.normal_forms.specs.Shape.{is_quantified, variables_of}
+use Rattle.normal_forms.specs.Shape.{variables_of}
+use Rattle.term_walk.specs.Binders.{is_quantified}
 use Rattle.quantifier_forms.specs.Variables.{AreVariables}
 use Rattle.quantifier_forms.proofs.Variables.{variables-number, variable-at}
 use Rattle.simplify.specs.Logic.{over_variables, quantification}

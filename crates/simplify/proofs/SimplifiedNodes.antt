@@ -26,7 +26,8 @@ use Rattle.term_walk.specs.Places.{result_at}
 use Rattle.term_walk.specs.Walking.{AreRelated}
 use Rattle.normal_forms.specs.Nodes.{IsFormula}
 use Rattle.normal_forms.specs.Results.{AreResults}
-use Rattle.normal_forms.specs.Shape.{is_quantified, is_universally_quantified, quantifier_seen, variables_of, body_in}
+use Rattle.normal_forms.specs.Shape.{is_universally_quantified, quantifier_seen, variables_of, body_in}
+use Rattle.term_walk.specs.Binders.{is_quantified}
 use Rattle.normal_forms.proofs.KeptResults.{each-related, nodes-of-results, terms-of-results}
 use Rattle.simplify.specs.Logic.{quantification}
 use Rattle.simplify.specs.Reduced.{IsOver, IsSimplified}

@@ -6,30 +6,24 @@ ghost use Rattle.smt_terms.specs.Free.{free, is_among};
 ghost use Rattle.smt_terms.specs.Term.{constant_of, variable as variable_term};
 ghost use Rattle.term_table.specs.Formulas.{tree, variable_of, IsNode};
 ghost use Rattle.term_walk.specs.FreeLists.{has_node, with_node};
-ghost use Rattle.normal_forms.specs.Shape.{is_quantified, variables_of};
+ghost use Rattle.normal_forms.specs.Shape.{variables_of};
+ghost use Rattle.term_walk.specs.Binders.{is_quantified};
 ghost use Rattle.quantifier_forms.specs.Tasks.{work_left};
 ghost use Rattle.simplify.specs.Occurring.{Opens, Searches};
 
 use indexmap::IndexSet;
-use quantifier_forms::rebuilding::{body_below, is_binder};
+use quantifier_forms::rebuilding::body_below;
 use smt_terms::NodeId;
 use std::alloc::{AllocError, Global};
 use term_table::{Table, know_table};
+use term_walk::is_binder;
+use term_walk::meeting::meet;
 
 // Whether a node is listed.
 fn is_listed(ids: &[NodeId], id: NodeId) -> bool
     ensures { result ≡ has_node ids.now id }
 {
     ids.contains(&id)
-}
-
-// Whether a node is met for the first time.
-fn meet(met: &mut IndexSet<NodeId>, id: NodeId) -> Result<bool, AllocError>
-    ensures first { IfOk result (λ first. first ≡ not (has_node met.old.keys id)) }
-    ensures keys { OnOk result (met.new.keys ≡ with_node met.old.keys id) }
-{
-    let first = met.insert(id)?;
-    Ok(first)
 }
 
 // Whether a quantified node binds a variable.

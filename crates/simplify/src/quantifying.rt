@@ -8,16 +8,16 @@ ghost use Rattle.smt_terms.specs.Term.{constant_of, quantified, variable as vari
 ghost use Rattle.term_table.specs.Formulas.{tree, variable_of, IsNode};
 ghost use Rattle.term_walk.specs.Walking.{GrowsTo};
 ghost use Rattle.normal_forms.specs.Nodes.{IsFormula};
-ghost use Rattle.normal_forms.specs.Shape.{is_quantified, is_universally_quantified, quantifier_seen, variables_of};
+ghost use Rattle.normal_forms.specs.Shape.{is_universally_quantified, quantifier_seen, variables_of};
+ghost use Rattle.term_walk.specs.Binders.{is_quantified};
 ghost use Rattle.quantifier_forms.specs.Variables.{AreVariables};
 ghost use Rattle.simplify.specs.Logic.{quantification};
 ghost use Rattle.simplify.specs.Occurring.{occurring};
 
 use crate::occurrence::occurs;
 use normal_forms::binding::is_universal;
-use quantifier_forms::quantifying::variables_below;
+use quantifier_forms::quantifying::{quantify, variables_below};
 use smt_terms::NodeId;
-use smt_values::Op;
 use std::alloc::{AllocError, Global};
 use term_table::Table;
 
@@ -57,33 +57,6 @@ fn occurring(
         keep_occurring(alloc, table, &mut kept, *variable, body)?;
     }
     Ok(kept)
-}
-
-// A quantifier over these variables, of which there is one, and over this body.
-#[tactic(auto, unfolding(term_table::specs::Formulas::kind))]
-fn quantify(
-    alloc: Global,
-    table: &mut Table,
-    universal: bool,
-    variables: &[NodeId],
-    body: NodeId,
-) -> Result<NodeId, AllocError>
-    requires variables { (xs : List Variable) × AreVariables table.old variables.now xs × (are_bindable xs ≡ true) }
-    requires body { IsFormula table.old body }
-    ensures node { IfOk result (IsNode table.new) }
-    ensures term { (xs : List Variable) → AreVariables table.old variables.now xs → IfOk result (λ k. tree table.new k ≡ quantified (quantifier_seen universal) xs (tree table.old body)) }
-    ensures grows { GrowsTo table.old table.new }
-    ensures symbols { table.new.symbols ≡ table.old.symbols }
-    ensures sorts { table.new.sorts ≡ table.old.sorts }
-{
-    let mut kids = Vec::from_slice(alloc, variables)?;
-    kids.push(body)?;
-    if universal {
-        let id = table.intern(Op::Forall, &kids)?;
-        return Ok(id);
-    }
-    let id = table.intern(Op::Exists, &kids)?;
-    Ok(id)
 }
 
 /// A quantifier over those of its variables that occur free in the simplified body; the body where there is none.

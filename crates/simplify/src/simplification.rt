@@ -5,7 +5,7 @@ ghost use Rattle.term_table.specs.Formulas.{tree, trees_at, operands, IsNode, Ar
 ghost use Rattle.term_walk.specs.Places.{results};
 ghost use Rattle.term_walk.specs.Subterms.{all_subterms, places};
 ghost use Rattle.term_walk.specs.Walking.{GrowsTo, AreRelated, Fits, Stay, GainsBelow, HaveResults, AllHaveResults};
-ghost use Rattle.normal_forms.specs.Shape.{is_quantified};
+ghost use Rattle.term_walk.specs.Binders.{is_quantified};
 ghost use Rattle.simplify.specs.Reduced.{IsOver, IsSimplified};
 ghost use Rattle.simplify.specs.Simplified.{reduced_over, IsNoBinder};
 ghost use Rattle.simplify.specs.Simplify.{simp};
@@ -14,14 +14,13 @@ use crate::quantifying::quantified_form;
 use crate::reduction::reduce;
 use normal_forms::binding::body_of;
 use normal_forms::results::results_of;
-use quantifier_forms::rebuilding::is_binder;
 use smt_terms::NodeId;
 use smt_values::Op;
 use std::alloc::{AllocError, Global};
 use std::sync::ledger::Ledger;
 use term_table::{Table, know_table};
 use term_walk::walks::walk;
-use term_walk::{Kept, NodeStep, Steps};
+use term_walk::{Kept, NodeStep, Steps, is_binder};
 
 // The simplified operands of a node.
 fn simplified_operands(

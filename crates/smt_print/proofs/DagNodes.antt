@@ -15,7 +15,8 @@ use Rattle.smt_terms.proofs.Tests.{alike_from}
 use Rattle.term_table.specs.Formulas.{Formulas, tree, trees_at, operands, IsNode, AreNodes, IsTable}
 use Rattle.smt_print.specs.DagSteps.{definition_of, definitions_at, IsKnown, AreKnown, let_opening, let_text, spaced_references}
 use Rattle.smt_print.specs.Defined.{has_node, number_of}
-use Rattle.smt_print.specs.NodeForms.{first_form, is_quantified, opening}
+use Rattle.smt_print.specs.NodeForms.{first_form, opening}
+use Rattle.term_walk.specs.Binders.{is_quantified}
 use Rattle.smt_print.specs.TermForms.{Definition, definition_name, is_defined, defined_name, reference, references, head_form}
 
 pub length-definitions : (t : Formulas) (ks : List NodeId) → length (definitions_at t ks) ≡ length ks

@@ -11,7 +11,8 @@ use Rattle.smt_terms.proofs.Equal.{Decides-term_eq}
 use Rattle.smt_terms.proofs.Tests.{true_or_false, left_true, right_true, either_true}
 use Rattle.term_table.specs.Formulas.{operands}
 use Rattle.term_table.specs.WrittenForms.{list_form, variable_form}
-use Rattle.smt_print.specs.NodeForms.{opening, is_quantified}
+use Rattle.smt_print.specs.NodeForms.{opening}
+use Rattle.term_walk.specs.Binders.{is_quantified}
 use Rattle.smt_print.proofs.TreeTexts.{terms-list}
 use Rattle.smt_print.specs.DagSteps.{definition_of, IsKnown, AreKnown, let_opening, let_text, own_let, lets, lets_in, end_text}
 use Rattle.smt_print.specs.Sizes.{size, sizes}

@@ -14,7 +14,8 @@ use Rattle.smt_print.specs.declared.dag.Step.{Step}
 use Rattle.smt_print.specs.declared.dag.Step.TheVariants.{Visit, Define, Close}
 use Rattle.smt_print.specs.DagSteps.{definition_of, definitions_at, IsKnown, AreKnown, IsScope, AreScopes, let_opening, let_text, lets, lets_in, end_text, visits, quantified_body, IsDefinable, IsClosable, Leads, LeadsFrom, weights}
 use Rattle.smt_print.specs.Defined.{Nodes, has_node}
-use Rattle.smt_print.specs.NodeForms.{is_quantified, Binds, opening}
+use Rattle.smt_print.specs.NodeForms.{Binds, opening}
+use Rattle.term_walk.specs.Binders.{is_quantified}
 use Rattle.smt_print.specs.Sizes.{sizes}
 use Rattle.smt_print.specs.TermForms.{Definition, is_defined, definitions, definitions_in, dag_form}
 use Rattle.smt_print.proofs.TreeTexts.{sizes-operands}

@@ -13,7 +13,8 @@ use Rattle.term_table.specs.Formulas.{Formulas, tree, trees_at, operands, IsNode
 use Rattle.term_table.specs.WrittenForms.{variable_form, list_form}
 use Rattle.smt_print.specs.declared.tree.Step.{Step}
 use Rattle.smt_print.specs.declared.tree.Step.TheVariants.{Operand, Close}
-use Rattle.smt_print.specs.NodeForms.{first_form, parts, opening, is_quantified, Binds}
+use Rattle.smt_print.specs.NodeForms.{first_form, parts, opening, Binds}
+use Rattle.term_walk.specs.Binders.{is_quantified}
 use Rattle.smt_print.specs.Sizes.{size, sizes}
 use Rattle.smt_print.specs.TermForms.{tree_form, tree_forms, head_form, quantifier_word}
 use Rattle.smt_print.specs.TreeSteps.{operand_steps, Leads, weights}

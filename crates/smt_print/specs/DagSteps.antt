@@ -9,7 +9,7 @@ use Rattle.term_table.specs.Formulas.{Formulas, no_tree, tree, operands, IsNode,
 use Rattle.smt_print.specs.declared.dag.Step.{Step}
 use Rattle.smt_print.specs.declared.dag.Step.TheVariants.{Visit, Define, Close}
 use Rattle.smt_print.specs.Defined.{Nodes}
-use Rattle.smt_print.specs.NodeForms.{is_quantified}
+use Rattle.term_walk.specs.Binders.{is_quantified}
 use Rattle.smt_print.specs.Sizes.{size}
 use Rattle.smt_print.specs.TermForms.{head_form, application_form, quantified_form, Definition, definition_name, is_defined, reference, references, definitions, definitions_in, dag_form}
 

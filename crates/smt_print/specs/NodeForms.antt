@@ -54,7 +54,3 @@ pub record Binds (t : Formulas) (u : Term) (vs : List NodeId) (b : NodeId) : Typ
   pub names : trees_at t vs ≡ map variable variables
   pub nodes : AreNodes t vs
   pub body : IsNode t b
-
-abbrev pub is_quantified : Term → Bool
-is_quantified (apply h ts) = false
-is_quantified (quantified q xs t) = true

@@ -5,7 +5,8 @@ ghost use Rattle.smt_lex.specs.FormText.{form_text};
 ghost use Rattle.smt_lex.specs.Lexicon.{space};
 ghost use Rattle.term_table.specs.Formulas.{tree, operands, IsNode};
 ghost use Rattle.smt_print.specs.DagSteps.{definition_of, definitions_at, IsKnown, IsScope, AreScopes, IsDefinable, let_opening, let_text, end_text, visits, LeadsFrom, weights};
-ghost use Rattle.smt_print.specs.NodeForms.{is_quantified, opening};
+ghost use Rattle.smt_print.specs.NodeForms.{opening};
+ghost use Rattle.term_walk.specs.Binders.{is_quantified};
 ghost use Rattle.smt_print.specs.Prefix.{AppendsPrefix, Drafts};
 ghost use Rattle.smt_print.specs.TermForms.{definition_name, reference, dag_form};
 

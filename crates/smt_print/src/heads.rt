@@ -9,7 +9,8 @@ ghost use Rattle.smt_values.specs.Meaning.{IsScalar};
 ghost use Rattle.smt_values.specs.SortIds.{sort_at, IsSortId};
 ghost use Rattle.term_table.specs.Formulas.{tree, trees_at, IsNode, AreNodes, IsOpOf, IsTable};
 ghost use Rattle.term_table.specs.WrittenForms.{list_form, constant_array_form, variable_form};
-ghost use Rattle.smt_print.specs.NodeForms.{written, constant_op, first_form, opening, is_quantified, Binds};
+ghost use Rattle.smt_print.specs.NodeForms.{written, constant_op, first_form, opening, Binds};
+ghost use Rattle.term_walk.specs.Binders.{is_quantified};
 
 use crate::names::Printed;
 use crate::numbers::{push_indexed, push_separator};

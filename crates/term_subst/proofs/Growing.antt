@@ -9,7 +9,8 @@ use Rattle.smt_terms.specs.Fresh.{Supply}
 use Rattle.smt_terms.specs.Rank.{sort_of, are_bindable}
 use Rattle.smt_terms.specs.Subst.{cut_to, Chosen}
 use Rattle.term_table.specs.Formulas.{Formulas, no_tree, no_symbol, tree, trees_at, symbol_at, variable_of, IsNode, AreNodes, IsSymbol}
-use Rattle.term_walk.specs.FreeLists.{named, is_quantified, AreFree}
+use Rattle.term_walk.specs.FreeLists.{named, AreFree}
+use Rattle.term_walk.specs.Binders.{is_quantified}
 use Rattle.term_walk.specs.Walking.{GrowsTo}
 use Rattle.term_subst.specs.declared.chosen.Key.{Key}
 use Rattle.term_subst.specs.declared.findings.Findings.{Findings}

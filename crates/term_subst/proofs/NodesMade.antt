@@ -20,7 +20,7 @@ use Rattle.smt_values.specs.SortIds.{sort_at}
 use Rattle.term_table.specs.Formulas.{Formulas, no_tree, tree, tree_in, trees_at, symbol_at, operands, binders, body, variable_of, sort_or_bool, sorts_in, Kind, kind, theory, applied, filled, binder, kind_term, kind_rank, rank_over, term_over, IsKindOf, IsOpOf, Makes, IsTable, IsNode, AreNodes}
 use Rattle.term_table.proofs.Made.{makes_ranked}
 use Rattle.term_table.proofs.Operators.{kind-theory}
-use Rattle.term_walk.specs.FreeLists.{is_quantified}
+use Rattle.term_walk.specs.Binders.{is_quantified}
 use Rattle.term_subst.specs.Steps.{operands_of, bound_in, body_of, built, requantified}
 use Rattle.term_subst.specs.State.{AreVariables, variables_at}
 

@@ -11,7 +11,8 @@ use Rattle.smt_terms.specs.Term.{Term, apply, quantified, Terms, none, ◌⨾◌
 use Rattle.smt_terms.proofs.Among.{is_among-append, is_among-with_more}
 use Rattle.smt_terms.proofs.Tests.{either_true}
 use Rattle.term_table.specs.Formulas.{Formulas, tree, trees_at, operands, variable_of, IsNode, AreNodes, IsSymbol}
-use Rattle.term_walk.specs.FreeLists.{named, has_node, own_symbols, is_quantified, AreAmong, AreFree, EachOnce}
+use Rattle.term_walk.specs.FreeLists.{named, has_node, own_symbols, AreAmong, AreFree, EachOnce}
+use Rattle.term_walk.specs.Binders.{is_quantified}
 use Rattle.term_subst.specs.declared.survey.Inner.{Inner}
 use Rattle.term_subst.specs.declared.survey.Scope.{Scope}
 use Rattle.term_subst.specs.declared.survey.Task.{Task}

@@ -22,7 +22,7 @@ use Rattle.smt_terms.proofs.Sorted.{quantified_sort}
 use Rattle.smt_terms.proofs.Substitution.{variables-spared}
 use Rattle.smt_terms.proofs.Tests.{both_true, left_true, right_true}
 use Rattle.term_table.specs.Formulas.{Formulas, IsTable, tree, tree_in, trees_at, operands, IsNode, AreNodes}
-use Rattle.term_walk.specs.FreeLists.{is_quantified}
+use Rattle.term_walk.specs.Binders.{is_quantified}
 use Rattle.term_walk.specs.Walking.{GrowsTo}
 use Rattle.term_subst.specs.declared.chosen.Key.{Key}
 use Rattle.term_subst.specs.declared.findings.Findings.{Findings}

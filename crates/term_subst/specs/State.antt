@@ -11,7 +11,8 @@ use Rattle.smt_terms.specs.Rank.{are_bindable}
 use Rattle.smt_terms.specs.Subst.{Map, image, cut_to, Chosen}
 use Rattle.smt_terms.specs.SubstLaws.{GivesNone, names_within}
 use Rattle.term_table.specs.Formulas.{Formulas, tree, trees_at, variable_of, IsNode, AreNodes}
-use Rattle.term_walk.specs.FreeLists.{is_quantified, AreFree}
+use Rattle.term_walk.specs.FreeLists.{AreFree}
+use Rattle.term_walk.specs.Binders.{is_quantified}
 use Rattle.term_walk.specs.Walking.{GrowsTo}
 use Rattle.term_subst.specs.declared.chosen.Key.{Key}
 use Rattle.term_subst.specs.declared.findings.Findings.{Findings}

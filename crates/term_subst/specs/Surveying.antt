@@ -4,7 +4,8 @@ use Rattle.smt_terms.specs.declared.ids.NodeId.{NodeId}
 use Rattle.smt_terms.specs.Free.{free, without, with_more}
 use Rattle.smt_terms.specs.Sorts.{Symbol}
 use Rattle.term_table.specs.Formulas.{Formulas, tree, IsNode, IsSymbol}
-use Rattle.term_walk.specs.FreeLists.{named, has_node, is_quantified, AreAmong}
+use Rattle.term_walk.specs.FreeLists.{named, has_node, AreAmong}
+use Rattle.term_walk.specs.Binders.{is_quantified}
 use Rattle.term_subst.specs.declared.survey.Inner.{Inner}
 use Rattle.term_subst.specs.declared.survey.Scope.{Scope}
 use Rattle.term_subst.specs.declared.survey.Task.{Task}

@@ -7,7 +7,7 @@ ghost use Rattle.smt_terms.specs.Fresh.{Supply};
 ghost use Rattle.smt_terms.specs.Rank.{sort_of};
 ghost use Rattle.smt_terms.specs.Subst.{cut_to, subst};
 ghost use Rattle.term_table.specs.Formulas.{Formulas, tree, IsNode, GrowsByOne};
-ghost use Rattle.term_walk.specs.FreeLists.{is_quantified};
+ghost use Rattle.term_walk.specs.Binders.{is_quantified};
 ghost use Rattle.term_subst.specs.declared.todo.Frame.TheVariants.{Visit, Build, Close};
 ghost use Rattle.term_subst.specs.Keys.{chosen_in};
 ghost use Rattle.term_subst.specs.Maps.{map_at};
@@ -20,7 +20,7 @@ use crate::by_node::ByNode;
 use crate::chosen::{Chosen, Key};
 use crate::cut::{as_map, cut_down};
 use crate::findings::Findings;
-use crate::nodes::{is_binder, rebuild, requantify, split};
+use crate::nodes::{rebuild, requantify, split};
 use crate::renaming::rename;
 use crate::todo::{Frame, Level, Opened, push_visits};
 use crate::{Fresh, SymMap};
@@ -28,7 +28,7 @@ use smt_terms::NodeId;
 use std::alloc::{AllocError, Global};
 use std::mem;
 use term_table::{Table, know_table};
-use term_walk::Stack;
+use term_walk::{Stack, is_binder};
 
 // The state of one substitution: the level of the node that is next, what is to do, the results of what was done, and those
 // that are kept of quantified terms.

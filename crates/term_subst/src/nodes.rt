@@ -5,7 +5,7 @@ ghost use Rattle.smt_terms.specs.Sorts.{bool};
 ghost use Rattle.smt_terms.specs.Rank.{sort_of, sorts_of, are_bindable};
 ghost use Rattle.smt_terms.specs.Term.{symbol, terms, over, constant_of, variable};
 ghost use Rattle.term_table.specs.Formulas.{tree, trees_at, symbol_at, operands, variable_of, IsTable, IsNode, IsSymbol, AreNodes, GrowsByOne};
-ghost use Rattle.term_walk.specs.FreeLists.{is_quantified};
+ghost use Rattle.term_walk.specs.Binders.{is_quantified};
 ghost use Rattle.term_subst.specs.Maps.{map_at};
 ghost use Rattle.term_subst.specs.State.{AreVariables, variables_at};
 ghost use Rattle.term_subst.specs.Steps.{operands_of, bound_in, body_of, built, requantified};
@@ -16,17 +16,6 @@ use smt_terms::{NodeId, SymId};
 use smt_values::Op;
 use std::alloc::{AllocError, Global};
 use term_table::Table;
-
-#[tactic(auto, unfolding(term_table::specs::Formulas::kind))]
-pub(crate) fn is_binder(table: &Table, node: NodeId) -> bool
-    requires { IsNode table.now node }
-    ensures { result ≡ is_quantified (tree table.now node) }
-{
-    match table.op(node) {
-        Op::Forall | Op::Exists => true,
-        _ => false,
-    }
-}
 
 // The symbol of a variable's node.
 #[tactic(auto, unfolding(term_table::specs::Formulas::kind))]

@@ -13,14 +13,14 @@ ghost use Rattle.term_subst.specs.Steps.{load};
 ghost use Rattle.term_subst.specs.Surveying.{Surveys, tasks_at};
 
 use crate::by_node::ByNode;
-use crate::nodes::{is_binder, split, symbol_of};
+use crate::nodes::{split, symbol_of};
 use indexmap::IndexSet;
 use smt_terms::{NodeId, SymId};
 use smt_values::Op;
 use std::alloc::{AllocError, Global};
 use std::mem;
 use term_table::{Table, know_table};
-use term_walk::Stack;
+use term_walk::{Stack, is_binder};
 
 // What is listed in one scope: the free symbols that were met, in order, and the nodes all of whose symbols are among them.
 #[derive(Drop)]

@@ -15,7 +15,8 @@ use Rattle.smt_terms.specs.Term.{Term, apply, quantified, terms, variable, const
 use Rattle.smt_terms.proofs.Among.{is_among-with_more}
 use Rattle.smt_terms.proofs.Tests.{either_true, left_true, right_true, true_or_false}
 use Rattle.term_table.specs.Formulas.{Formulas, no_tree, no_symbol, symbol_at, IsTable, tree_in, tree, trees_at, operands, IsNode, AreNodes, IsSymbol}
-use Rattle.term_walk.specs.FreeLists.{own_symbols, has_own, is_quantified, AreFree, EachOnce, Opens, HaveLists, IsReached, named, frees, has_node, with_node, operands_left, first_below, AreAmong, Lists}
+use Rattle.term_walk.specs.FreeLists.{own_symbols, has_own, AreFree, EachOnce, Opens, HaveLists, IsReached, named, frees, has_node, with_node, operands_left, first_below, AreAmong, Lists}
+use Rattle.term_walk.specs.Binders.{is_quantified}
 use Rattle.term_walk.specs.declared.kept.Place.{Place}
 use Rattle.term_walk.specs.Places.{result_at, Puts}
 use Rattle.term_walk.specs.Marks.{is_marked, AreMarkedFrom}

@@ -11,6 +11,7 @@ use Rattle.term_table.specs.Formulas.{Formulas, no_tree, symbol_at, tree, trees_
 use Rattle.term_walk.specs.declared.kept.Place.{Place}
 use Rattle.term_walk.specs.Marks.{is_marked, HasMark}
 use Rattle.term_walk.specs.Places.{result_at}
+use Rattle.term_walk.specs.Binders.{is_quantified}
 
 -- the symbols that these numbers name
 abbrev pub named : Formulas → List SymId → List Symbol
@@ -29,10 +30,6 @@ own_symbols (quantified _ _ _) = []
 abbrev pub has_own : List Term → Symbol → Bool
 has_own [] f = false
 has_own (t ∷ ts) f = is_among (own_symbols t) f || has_own ts f
-
-abbrev pub is_quantified : Term → Bool
-is_quantified (apply _ _) = false
-is_quantified (quantified _ _ _) = true
 
 -- these are the free symbols of a term
 pub record AreFree (t : Formulas) (u : Term) (fs : List SymId) : Type 0 where

@@ -1,3 +1,4 @@
+pub mod Binders
 pub mod FreeLists
 pub mod Marks
 pub mod Packed

@@ -8,10 +8,13 @@ ghost use Rattle.smt_terms.specs.Sorts.{Symbol};
 ghost use Rattle.term_table.specs.Formulas.{symbol_at, tree, trees_at, operands, IsNode, AreNodes, IsSymbol};
 ghost use Rattle.term_walk.specs.Marks.{is_marked};
 ghost use Rattle.term_walk.specs.Places.{result_at};
-ghost use Rattle.term_walk.specs.FreeLists.{named, has_own, Opens, EachOnce, own_symbols, is_quantified, AreFree, has_node, with_node, operands_left, Lists, HaveLists, IsReached};
+ghost use Rattle.term_walk.specs.FreeLists.{named, has_own, Opens, EachOnce, own_symbols, AreFree, has_node, with_node, operands_left, Lists, HaveLists, IsReached};
+ghost use Rattle.term_walk.specs.Binders.{is_quantified};
 
+use crate::binders::is_binder;
 use crate::count::mark_subterms;
 use crate::kept::Kept;
+use crate::meeting::meet;
 use indexmap::IndexSet;
 use smt_terms::NodeId;
 use smt_values::{Op, SymId};
@@ -31,17 +34,6 @@ fn own_symbol(table: &Table, id: NodeId) -> Option<SymId>
     }
 }
 
-#[tactic(auto, unfolding(term_table::specs::Formulas::kind))]
-fn is_binder(table: &Table, id: NodeId) -> bool
-    requires { IsNode table.now id }
-    ensures { result ≡ is_quantified (tree table.now id) }
-{
-    match table.op(id) {
-        Op::Forall | Op::Exists => true,
-        _ => false,
-    }
-}
-
 // Lists a symbol last, where it isn't listed.
 fn list(table: &Table, listed: &mut IndexSet<SymId>, symbol: SymId) -> Result<(), AllocError>
     requires symbol { IsSymbol table.now symbol }
@@ -52,15 +44,6 @@ fn list(table: &Table, listed: &mut IndexSet<SymId>, symbol: SymId) -> Result<()
     know_table(table);
     listed.insert(symbol)?;
     Ok(())
-}
-
-// Whether a node is met for the first time.
-fn meet(met: &mut IndexSet<NodeId>, id: NodeId) -> Result<bool, AllocError>
-    ensures first { IfOk result (λ first. first ≡ not (has_node met.old.keys id)) }
-    ensures keys { OnOk result (met.new.keys ≡ with_node met.old.keys id) }
-{
-    let first = met.insert(id)?;
-    Ok(first)
 }
 
 // Lets these nodes wait before the others, in their order.

@@ -3,15 +3,18 @@
 
 #![tactic(auto)]
 
+pub mod binders;
 pub mod count;
 mod frames;
 pub mod free;
 pub mod kept;
+pub mod meeting;
 pub mod node_step;
 pub mod stacks;
 pub mod steps;
 pub mod walks;
 
+pub use binders::is_binder;
 pub use count::count_nodes;
 pub use free::free_symbols;
 pub use kept::Kept;

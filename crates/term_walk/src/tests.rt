@@ -61,6 +61,16 @@ fn quantified(rt: &impl Abort, table: &mut Table, kids: &[NodeId]) -> Result<Nod
     made(rt, table, Op::Exists, kids)
 }
 
+#[tactic(auto, unfolding(term_table::specs::Formulas::kind, smt_terms::specs::Rank::is_minus))]
+fn universal(rt: &impl Abort, table: &mut Table, kids: &[NodeId]) -> Result<NodeId, AllocError> {
+    made(rt, table, Op::Forall, kids)
+}
+
+#[tactic(auto, unfolding(term_table::specs::Formulas::kind, smt_terms::specs::Rank::is_minus))]
+fn exclusive(rt: &impl Abort, table: &mut Table, kids: &[NodeId]) -> Result<NodeId, AllocError> {
+    made(rt, table, Op::Xor, kids)
+}
+
 // The constant of sort Bool with this letter for its name.
 #[tactic(auto, unfolding(term_table::specs::Formulas::kind, smt_terms::specs::Rank::is_minus))]
 fn constant(rt: &impl Abort, table: &mut Table, letter: u8) -> Result<NodeId, AllocError> {
@@ -198,6 +208,26 @@ fn come_in_order(rt: &impl Abort, alloc: Global, table: &mut Table) -> Result<()
     assert!(rt; is_free_in(rt, alloc, table, bound, b"a")?);
     let closed = quantified(rt, table, &[a, bound])?;
     assert!(rt; is_free_in(rt, alloc, table, closed, b"")?);
+    Ok(())
+}
+
+#[test]
+fn quantifiers_bind_their_own_bodies_alone(rt: HostRuntime) -> Result<(), Fail> {
+    let mut table = Table::new(rt.alloc());
+    bind_their_own(&rt, rt.alloc(), &mut table)?;
+    Ok(())
+}
+
+fn bind_their_own(rt: &impl Abort, alloc: Global, table: &mut Table) -> Result<(), AllocError> {
+    let x = constant(rt, table, b'x')?;
+    let y = constant(rt, table, b'y')?;
+    let differ = exclusive(rt, table, &[y, x])?;
+    let inner = quantified(rt, table, &[y, differ])?;
+    let outer = universal(rt, table, &[x, inner])?;
+    assert!(rt; is_free_in(rt, alloc, table, outer, b"")?);
+    let bound = universal(rt, table, &[y, y])?;
+    let beside = exclusive(rt, table, &[y, bound])?;
+    assert!(rt; is_free_in(rt, alloc, table, beside, b"y")?);
     Ok(())
 }
 

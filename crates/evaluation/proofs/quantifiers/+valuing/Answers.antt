@@ -12,7 +12,7 @@ use Rattle.smt_values.specs.declared.value.Value.{Value}
 use Rattle.smt_values.specs.declared.value.Value.TheVariants.{Scalar as OfScalar}
 use Rattle.term_table.specs.Formulas.{tree, trees_at, AreNodes}
 use Rattle.term_walk.specs.declared.kept.Place.{Place}
-use Rattle.term_walk.specs.FreeLists.{is_quantified}
+use Rattle.term_walk.specs.Binders.{is_quantified}
 use Rattle.models.specs.GraphRows.{meanings}
 use Rattle.models.specs.ModelView.{model_at}
 use Rattle.evaluation.specs.Bindings.{env_of, IsBinding, AreBindings}
@@ -23,7 +23,6 @@ use Rattle.evaluation.specs.Operated.{applied_at, operand_values}
 use Rattle.evaluation.specs.Orders.{AreBehind, IsOrder}
 use Rattle.evaluation.specs.declared.quantifiers.Quantified.{Quantified}
 use Rattle.evaluation.proofs.BinderValues.{some-operand, body-is, body-narrow, body-node, body-is-formula, all-variables, bits-are, binder-value, binder-fits, binder-breaks}
-use Rattle.evaluation.proofs.BoundLaws.{alike}
 use Rattle.evaluation.proofs.Choosing.{some-bit, first-bits, bits-first, rest-is, rest-all, rank-some, rank-most, runs-counted, runs-chosen, not-empty, shifted, none-chosen, next-chosen, some-chosen}
 use Rattle.evaluation.proofs.EnvLaws.{is-env}
 use Rattle.evaluation.proofs.FaultsTold.{memory-told, fault-told}
@@ -112,7 +111,7 @@ value_of_one-returns-in-Some-clause-value t c =
     let m = model_at table c.args.model.now in
     let u = tree table c.args.id in
     let e = env_of table c.args.bindings.now.items in
-    let plain : is_quantified u ≡ false = alike u ∙ sym c.is_binder.ensures ∙ c.if-is_binder.false in
+    let plain : is_quantified u ≡ false = sym c.is_binder.ensures ∙ c.if-is_binder.false in
     let same = c.deref.ensures.value in
     applied-value table c.know_table.ensures c.args.id c.requires.node m e c.requires.valid (is-env table m.sizes c.args.bindings.now.items c.requires.bindings) (OfScalar c.in-Some.scalar) plain
     (leaf-fits m e u plain c.in-Some.ensures.leaf)
@@ -123,7 +122,7 @@ pub value_of_one-values_of_nodes-requires-clause-known : goal.value_of_one-value
 value_of_one-values_of_nodes-requires-clause-known t c =
     let table = c.args.table.now in
     let u = tree table c.args.id in
-    let plain : is_quantified u ≡ false = alike u ∙ sym c.is_binder.ensures ∙ c.if-is_binder.false in
+    let plain : is_quantified u ≡ false = sym c.is_binder.ensures ∙ c.if-is_binder.false in
     let nodes : AreNodes table c.kids.result.now = λ i d lt. let b = c.kids.ensures.below i d lt in let here = c.requires.node in omega arith in
     kids-known table c.args.kept.now c.args.found.now.entries c.args.id c.kids.result.now plain c.requires.operands c.kids.ensures.terms nodes
 
@@ -141,7 +140,7 @@ value_of_one-applied_value-requires-clause-args t c =
     let m = model_at table c.args.model.now in
     let u = tree table c.args.id in
     let e = env_of table c.args.bindings.now.items in
-    let plain : is_quantified u ≡ false = alike u ∙ sym c.is_binder.ensures ∙ c.if-is_binder.false in
+    let plain : is_quantified u ≡ false = sym c.is_binder.ensures ∙ c.if-is_binder.false in
     args-are table c.know_table.ensures c.args.id c.requires.node m e c.requires.valid (is-env table m.sizes c.args.bindings.now.items c.requires.bindings) c.kids.result.now c.in_ok-args.args.items c.kids.ensures.terms
     (c.in_ok-args.ensures table m e c.requires.found) plain
 
@@ -160,7 +159,7 @@ value_of_one-returns-in-Some-2-clause-value t c =
     let v = c.in-Some-2.value in
     let ks = c.kids.result.now in
     let args = c.in_ok-args.args.items in
-    let plain : is_quantified u ≡ false = alike u ∙ sym c.is_binder.ensures ∙ c.if-is_binder.false in
+    let plain : is_quantified u ≡ false = sym c.is_binder.ensures ∙ c.if-is_binder.false in
     let env : IsEnv m.sizes e = is-env table m.sizes bs c.requires.bindings in
     let are = c.in_ok-args.ensures table m e c.requires.found in
     let told : meaning v ≡ applied_at m u (meanings args) = subst (λ (o : Option Value). IfSome o (λ w. meaning w ≡ applied_at m u (meanings args))) c.in-Some-2.is c.in_ok-value.ensures.value in
@@ -184,7 +183,7 @@ value_of_one-returns-in-None-clause-beyond t c =
     let e = env_of table bs in
     let ks = c.kids.result.now in
     let args = c.in_ok-args.args.items in
-    let plain : is_quantified u ≡ false = alike u ∙ sym c.is_binder.ensures ∙ c.if-is_binder.false in
+    let plain : is_quantified u ≡ false = sym c.is_binder.ensures ∙ c.if-is_binder.false in
     let env : IsEnv m.sizes e = is-env table m.sizes bs c.requires.bindings in
     let are = c.in_ok-args.ensures table m e c.requires.found in
     let told : IsFalse (value_in_range (applied_at m u (meanings args))) = subst (λ (o : Option Value). IfNone o (IsFalse (value_in_range (applied_at m u (meanings args))))) c.in-None.is c.in_ok-value.ensures.beyond in

@@ -1,7 +1,7 @@
 use Rattle.std.proofs.Common.{◌≡◌, ℕ, ◌<◌, false, get_or}
 use Rattle.smt_terms.specs.declared.ids.NodeId.{NodeId}
 use Rattle.term_table.specs.Formulas.{tree}
-use Rattle.normal_forms.specs.Shape.{is_quantified}
+use Rattle.term_walk.specs.Binders.{is_quantified}
 use Rattle.quantifier_forms.proofs.reaching.first_binder.Given as goal
 
 abbrev pub invariant-loop-id : goal.invariant-loop-id

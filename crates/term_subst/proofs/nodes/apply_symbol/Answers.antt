@@ -2,7 +2,7 @@ use Rattle.std.proofs.Common.{sym, ap, ◌∙◌}
 use Rattle.std.specs.Prelude.{option_map}
 use Rattle.smt_terms.specs.declared.op.Op.TheVariants.{Sym}
 use Rattle.term_table.specs.Formulas.{tree, trees_at, symbol_at, kind}
-use Rattle.term_walk.specs.FreeLists.{is_quantified}
+use Rattle.term_walk.specs.Binders.{is_quantified}
 use Rattle.term_subst.specs.Maps.{map_at}
 use Rattle.term_subst.proofs.MapsAt.{image-at, pair-found}
 use Rattle.term_subst.proofs.NodesMade.{makes-head, built-head, built-image, built-itself, symbol-other, node-sort, no-terms, some-terms}
