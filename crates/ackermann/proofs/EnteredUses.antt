@@ -3,7 +3,7 @@ use Rattle.std.proofs.Common.{◌≡◌, ℕ, zero, suc, ◌+◌, ◌<◌, ◌==
 use Rattle.std.specs.Prelude.{is_none}
 use Rattle.std.specs.List.{flat_map}
 use Rattle.std.proofs.lemmas.Bool.Decides.{Decides-eqb}
-use Rattle.std.proofs.lemmas.List.{get_or-map, length-map, length-take, map-append, take-append-le, take_more}
+use Rattle.std.proofs.lemmas.List.{length-map, length-take, map-append, take-append-le, take_more}
 use Rattle.std.proofs.lemmas.List.Elements.{All-head, All-tail, All-push, All-map}
 use Rattle.std.proofs.lemmas.Option.{get_or_from_slice_get, slice_get_within}
 use Rattle.smt_terms.specs.declared.ids.NodeId.{NodeId}
@@ -15,7 +15,7 @@ use Rattle.smt_terms.specs.Sorts.{Symbol}
 use Rattle.smt_terms.specs.Term.{Term, terms, constant}
 use Rattle.smt_terms.proofs.Equal.{Decides-term_eq, Decides-symbol_eq}
 use Rattle.smt_terms.proofs.Tests.{both_true, contrary}
-use Rattle.term_table.specs.Formulas.{Formulas, no_tree, no_symbol, tree, tree_in, symbol_at, operands, IsNode, IsSymbol, IsTable}
+use Rattle.term_table.specs.Formulas.{Formulas, tree, symbol_at, operands, IsNode, IsSymbol, IsTable}
 use Rattle.term_walk.specs.Walking.{GrowsTo}
 use Rattle.term_walk.proofs.Members.{has-at}
 use Rattle.term_subst.proofs.Growing.{tree-grows, node-grows, trees-grow, symbol-grows}
@@ -23,17 +23,18 @@ use Rattle.quantifier_forms.specs.Memos.{Results}
 use Rattle.quantifier_forms.specs.Rebuilding.{IsLike}
 use Rattle.term_groups.specs.declared.constants.Constants.{Constants}
 use Rattle.term_groups.specs.Grouping.{terms_of}
+use Rattle.term_groups.specs.Replacing.{AreApart, AreOperandsReplaced, IsDone, AreOperandsFit}
 use Rattle.term_groups.specs.Seen.{named_at}
+use Rattle.term_groups.proofs.NamedTerms.{All-of_terms}
+use Rattle.term_groups.proofs.ReplacedNodes.{of-pair, at-pair, constant-at, done-stays, operands-fit}
 use Rattle.ackermann.specs.Ackermann.{equations, all_equal, pair, pairs}
 use Rattle.ackermann.specs.declared.uses.LiveUse.{LiveUse}
 use Rattle.ackermann.specs.LiveUses.{constant_in, named_uses, is_use_of, uses_of, equal_each, said, IsUseIn, IsSettled, AreUsesIn}
 use Rattle.ackermann.specs.Removals.{is_use}
-use Rattle.ackermann.specs.Replacing.{is_new_use, AreApart, AreNewConstants, all_named, AreOperandsReplaced, IsDone, AreOperandsFit}
+use Rattle.ackermann.specs.Replacing.{is_new_use, AreNewConstants, all_named}
 use Rattle.ackermann.proofs.FoundUses.{missing-first, is-none, absent-use, use-over}
 use Rattle.ackermann.proofs.GrownUses.{use-grows, named-stay}
-use Rattle.ackermann.proofs.ReplacedNodes.{of-pair, at-pair, done-stays, operands-fit}
 use Rattle.ackermann.proofs.SettledUses.{fewer-constants, closed-each}
-use Rattle.ackermann.proofs.UseLists.{All-of_terms}
 use Rattle.ackermann.proofs.UsePairs.{pairs-append}
 
 -- ---- what is said of a new application
@@ -128,20 +129,13 @@ module _ (t0 t : Formulas) (grows : GrowsTo t0 t) (us0 : List LiveUse) (c : Cons
   own_node = subst (IsNode t0) here (are.nodes i r within)
 
   new_use : (is_use (tree t0 p.1) ≡ true) × (is_none (constant_for known (tree t0 p.1)) ≡ true)
-  new_use = both_true (is_use (tree t0 p.1)) (is_none (constant_for known (tree t0 p.1))) (of-pair t0 c.symbols i p lt at (λ n. is_new_use known n.1 ≡ true) are.new)
+  new_use = both_true (is_use (tree t0 p.1)) (is_none (constant_for known (tree t0 p.1))) (of-pair t0 c.symbols i p lt at (λ n. is_new_use known n.1 ≡ true) are.each)
 
   stays : tree t p.1 ≡ tree t0 p.1
   stays = tree-grows t0 t grows p.1 own.1
 
   constant_is : tree t0 r ≡ constant (symbol_at t0 p.0)
-  constant_is =
-      let d : Symbol × Term = (no_symbol, no_tree) in
-      let n = as-many in
-      ap (tree t0) (sym here)
-      ∙ sym (get_or-map (tree_in t0.trees) c.nodes i r no_tree within)
-      ∙ ap (λ vs. get_or vs i no_tree) are.terms
-      ∙ get_or-map (λ (q : Symbol × Term). constant q.0) drawn i d no_tree (omega (arith, n))
-      ∙ ap (λ (q : Symbol × Term). constant q.0) (at-pair t0 c.symbols i p lt at d)
+  constant_is = constant-at t0 c are.terms i p r lt within at here
 
   next-node : IsNode t p.1
   next-node = node-grows t0 t grows p.1 own.1
@@ -237,4 +231,4 @@ settled-all t us ps are applied i d lt =
 pub new-applied : (t : Formulas) (us : List LiveUse) (c : Constants) → AreNewConstants t us c → All (λ n. is_use n.1 ≡ true) (named_at t c.symbols)
 new-applied t us c are i d lt =
     let n = get_or (named_at t c.symbols) i d in
-    (both_true (is_use n.1) (is_none (constant_for (named_uses t us) n.1)) (are.new i d lt)).0
+    (both_true (is_use n.1) (is_none (constant_for (named_uses t us) n.1)) (are.each i d lt)).0

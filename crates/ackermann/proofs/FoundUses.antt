@@ -1,24 +1,20 @@
 -- Constants of terms, and of nodes that are live.
-use Rattle.std.proofs.Common.{◌≡◌, ◌<◌, ◌==◌, Bool, true, false, not, cond, if◌then◌else◌, List, [], ◌∷◌, ◌++◌, length, get_or, All, Option, Some, None, refl, ap, sym, ◌∙◌, subst, arith}
+use Rattle.std.proofs.Common.{◌≡◌, ◌<◌, ◌==◌, Bool, true, false, not, cond, if◌then◌else◌, List, [], ◌∷◌, ◌++◌, length, All, Option, Some, None, refl, ap, sym, ◌∙◌, subst, arith}
 use Rattle.std.specs.Prelude.{is_none, is_some}
-use Rattle.std.proofs.lemmas.List.Elements.{All-nil, All-cons, All-head, All-tail}
+use Rattle.std.proofs.lemmas.List.Elements.{All-head, All-tail}
 use Rattle.smt_terms.specs.declared.ids.NodeId.{NodeId}
 use Rattle.smt_terms.specs.Equal.{term_eq}
-use Rattle.smt_terms.specs.Groups.{Named, has_term, constant_for}
+use Rattle.smt_terms.specs.Groups.{Named, constant_for}
 use Rattle.smt_terms.specs.Sorts.{Symbol}
 use Rattle.smt_terms.specs.Term.{symbol, Term, over, constant}
 use Rattle.smt_terms.proofs.Equal.{Decides-term_eq}
 use Rattle.smt_terms.proofs.Tests.{contrary}
 use Rattle.term_table.specs.Formulas.{Formulas, symbol_at, tree, operands, IsNode, IsTable}
-use Rattle.term_walk.proofs.Members.{has-at}
 use Rattle.quantifier_forms.specs.Rebuilding.{IsLike}
 use Rattle.quantifier_forms.proofs.Stands.{same-number, number-same}
-use Rattle.term_groups.specs.Grouping.{terms_of}
 use Rattle.ackermann.specs.declared.uses.LiveUse.{LiveUse}
 use Rattle.ackermann.specs.LiveUses.{constant_in, named_uses, IsUseIn}
 use Rattle.ackermann.specs.Removals.{is_use}
-use Rattle.ackermann.specs.Replacing.{AreApart}
-use Rattle.ackermann.proofs.UseLists.{All-of_terms}
 
 -- ---- constants of terms
 
@@ -47,24 +43,6 @@ found-first (n ∷ ns) ms u f found = by (term_eq n.1 u) found (found-first ns m
     by : (b : Bool) → cond b (Some n.0) (constant_for ns u) ≡ Some f → (constant_for ns u ≡ Some f → constant_for (ns ++ ms) u ≡ Some f) → cond b (Some n.0) (constant_for (ns ++ ms) u) ≡ Some f
     by true e rest = e
     by false e rest = rest e
-
--- where terms are apart, each constant is that of its term
-pub own-constants : (ns : Named) → AreApart (terms_of ns) → All (λ n. constant_for ns n.1 ≡ Some n.0) ns
-own-constants [] apart = All-nil (λ n. constant_for [] n.1 ≡ Some n.0)
-own-constants (n ∷ ns) apart =
-    All-cons (λ o. constant_for (n ∷ ns) o.1 ≡ Some o.0) n ns
-    (ap (λ b. cond b (Some n.0) (constant_for ns n.1)) ((Decides-term_eq n.1 n.1).1 refl))
-    (λ k d lt. behind (get_or ns k d) (there k d lt) (own-constants ns apart.1 k d lt))
-  where
-    there : All (λ o. has_term (terms_of ns) o.1 ≡ true) ns
-    there = All-of_terms (λ u. has_term (terms_of ns) u ≡ true) ns (λ k d lt. has-at (terms_of ns) k d lt)
-
-    behind : (o : Symbol × Term) → has_term (terms_of ns) o.1 ≡ true → constant_for ns o.1 ≡ Some o.0 → constant_for (n ∷ ns) o.1 ≡ Some o.0
-    behind o among e = by (term_eq n.1 o.1) refl
-      where
-        by : (b : Bool) → term_eq n.1 o.1 ≡ b → cond b (Some n.0) (constant_for ns o.1) ≡ Some o.0
-        by true same = contrary (has_term (terms_of ns) o.1) among (ap (has_term (terms_of ns)) (sym ((Decides-term_eq n.1 o.1).0 same)) ∙ apart.0)
-        by false other = e
 
 -- ---- constants of nodes
 

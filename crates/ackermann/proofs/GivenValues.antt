@@ -32,7 +32,8 @@ use Rattle.ackermann.proofs.PairValues.{none_assigned, pair_holds}
 use Rattle.ackermann.proofs.PlainTerms.{constant-args, plain-args}
 use Rattle.ackermann.proofs.RemovalChains.{AreUses, IsCovered, IsChain, chain}
 use Rattle.ackermann.proofs.ReplacedUses.{not-used, closed-operands, closed-first, closed-others, built-parts}
-use Rattle.ackermann.proofs.UseLists.{HasAll, All-where_so, All-passes, passes-All, found-holds, not_false}
+use Rattle.ackermann.proofs.UseLists.{HasAll, All-passes, passes-All, found-holds, not_false}
+use Rattle.term_groups.proofs.NamedTerms.{All-where_so}
 use Rattle.ackermann.proofs.UsePairs.{pairs-all}
 use Rattle.ackermann.proofs.UseSorts.{IsPairOf, all-pairs_of, IsUseOf, use_of}
 

@@ -26,15 +26,14 @@ pub mod CutLevels
 pub mod EnteredUses
 pub mod FoundUses
 pub mod GrownUses
+pub mod KeptConstants
 pub mod KeptUses
 pub mod LiveApplications
 pub mod MarkedNodes
 pub mod NewUses
-pub mod OrderedNodes
 pub mod PairedUses
 pub mod PlacedUses
 pub mod ReachedUses
 pub mod RemovedUses
-pub mod ReplacedNodes
 pub mod SettledUses
 pub mod UsedFunctions

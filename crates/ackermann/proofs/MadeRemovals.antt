@@ -22,7 +22,8 @@ use Rattle.ackermann.proofs.PlainTerms.{plain-args}
 use Rattle.ackermann.proofs.RemovalChains.{AreUses, IsCovered, IsChain, chain}
 use Rattle.ackermann.proofs.ReplacedUses.{built-part, closed-first, closed-others}
 use Rattle.ackermann.proofs.UseBuilt.{IsBuilt, AreBuilt, built-none, built-more, built-operator, built-implies, built-equal}
-use Rattle.ackermann.proofs.UseLists.{HasAll, All-where_so, All-has, terms-append}
+use Rattle.ackermann.proofs.UseLists.{HasAll, All-has, terms-append}
+use Rattle.term_groups.proofs.NamedTerms.{All-where_so}
 use Rattle.ackermann.proofs.UseOrder.{Ordered, ordered-behind}
 use Rattle.ackermann.proofs.UsePairs.{equated, equations-equated, pairs-all}
 use Rattle.ackermann.proofs.UseSorts.{IsPairOf, all-pairs_of, use_of}

@@ -12,7 +12,7 @@ use Rattle.smt_terms.proofs.Equal.{Decides-term_eq}
 use Rattle.smt_terms.proofs.Tests.{left_true, right_true, alike_from}
 use Rattle.term_table.specs.Formulas.{Formulas, tree, trees_at, operands, IsNode}
 use Rattle.term_walk.specs.FreeLists.{has_node}
-use Rattle.normal_forms.specs.Shape.{is_quantified}
+use Rattle.term_walk.specs.Binders.{is_quantified}
 use Rattle.quantifier_forms.specs.Orders.{IsOrdered}
 use Rattle.quantifier_forms.proofs.Stands.{same-number, number-same, in-last}
 use Rattle.ackermann.specs.Ackermann.{has_quantified_use, have_quantified_use}

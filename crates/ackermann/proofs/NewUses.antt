@@ -1,41 +1,39 @@
 -- The constants that are drawn for the applications of a formula that have none.
-use Rattle.std.proofs.Common.{◌≡◌, Bool, true, false, not, cond, ◌&&◌, List, [], ◌∷◌, ◌++◌, get_or, map, All, refl, ap, sym, ◌∙◌, subst}
+use Rattle.std.proofs.Common.{◌≡◌, Bool, true, false, cond, ◌&&◌, List, [], ◌∷◌, ◌++◌, get_or, map, All, refl, ap, sym, ◌∙◌, subst}
 use Rattle.std.specs.Prelude.{filter, is_none}
 use Rattle.std.proofs.lemmas.List.Elements.{All-filter, All-weaker, filter_passes}
 use Rattle.smt_terms.specs.declared.ids.NodeId.{NodeId}
-use Rattle.smt_terms.specs.Equal.{term_eq}
 use Rattle.smt_terms.specs.Fresh.{Supply}
 use Rattle.smt_terms.specs.Groups.{Named, has_term, with_new, constant_for, draw_each, where_so}
 use Rattle.smt_terms.specs.Rank.{IsWellSorted}
 use Rattle.smt_terms.specs.Shapes.{is_application}
 use Rattle.smt_terms.specs.Sorts.{Symbol}
 use Rattle.smt_terms.specs.Term.{op, symbol, const_array, Term, apply, quantified, Terms, none, ◌⨾◌, constant}
-use Rattle.smt_terms.proofs.Equal.{Decides-term_eq}
 use Rattle.smt_terms.proofs.Ranked.{takes-rank}
 use Rattle.smt_terms.proofs.Sorted.{sort_of-apply}
 use Rattle.smt_terms.proofs.StoredTerms.{fine_term}
-use Rattle.smt_terms.proofs.Tests.{both_true, both_false, or_false, contrary}
+use Rattle.smt_terms.proofs.Tests.{both_true}
 use Rattle.term_table.specs.Formulas.{Formulas, trees_at, AreNodes}
 use Rattle.term_walk.specs.Walking.{GrowsTo}
-use Rattle.term_walk.proofs.Members.{has-append, has-filter}
-use Rattle.term_subst.proofs.Growing.{nodes-grow, trees-grow}
 use Rattle.term_subst.proofs.MapsAt.{sort-narrow}
 use Rattle.quantifier_forms.specs.Rebuilding.{is_number, IsLike}
 use Rattle.term_groups.specs.declared.constants.Constants.{Constants}
 use Rattle.term_groups.specs.Grouping.{terms_of}
 use Rattle.term_groups.specs.Parts.{collected, collected_of}
+use Rattle.term_groups.specs.Replacing.{is_open, AreApart, AreConstantsFor}
 use Rattle.term_groups.specs.Seen.{named_at, ArePairs}
 use Rattle.term_groups.proofs.Draws.{constants-are_new}
-use Rattle.term_groups.proofs.NodesDrawn.{pairs-grow, named-grow}
+use Rattle.term_groups.proofs.NamedTerms.{All-of_terms, apart-filter, apart-new, apart-where}
+use Rattle.term_groups.proofs.PartNodes.{constants-stay}
 use Rattle.ackermann.specs.Ackermann.{applications, applications_of, without_constant}
 use Rattle.ackermann.specs.declared.uses.LiveUse.{LiveUse}
 use Rattle.ackermann.specs.LiveUses.{named_uses, IsUseIn, AreBehind}
 use Rattle.ackermann.specs.Removals.{is_use, inner_uses}
-use Rattle.ackermann.specs.Replacing.{is_new_use, is_open, AreApart, AreNewConstants}
+use Rattle.ackermann.specs.Replacing.{is_new_use, AreNewConstants}
 use Rattle.ackermann.proofs.GrownUses.{named-stay}
 use Rattle.ackermann.proofs.ReplacedUses.{IsConstantOf}
 use Rattle.ackermann.proofs.SettledUses.{as-ordered}
-use Rattle.ackermann.proofs.UseLists.{All-has, All-of_terms, terms-append, none-for, not_false}
+use Rattle.ackermann.proofs.UseLists.{All-has, terms-append, none-for, not_false}
 use Rattle.ackermann.proofs.UseOrder.{Ordered, ordered-append, ordered-filter, applications-ordered}
 use Rattle.ackermann.proofs.UseParts.{IsPiece, applications-pieces}
 
@@ -64,38 +62,6 @@ pub new-parts : (ns : Named) (ts : List Term) (t : Term) → filter is_use ts �
 new-parts ns ts t are = filter-both ns ts ∙ ap (without_constant ns) (are ∙ collected-uses t)
 
 -- ---- no two of them are one term
-
-apart-append : (ts us : List Term) → AreApart ts → AreApart us → ((u : Term) → has_term us u ≡ true → has_term ts u ≡ false) → AreApart (ts ++ us)
-apart-append [] us first second other = second
-apart-append (t ∷ ts) us first second other = (
-  has-append ts us t ∙ or_false (has_term ts t) (has_term us t) first.0 (none_there (has_term us t) refl),
-  apart-append ts us first.1 second (λ u e. (both_false (term_eq t u) (has_term ts u) (other u e)).1),
-)
-  where
-    none_there : (b : Bool) → has_term us t ≡ b → b ≡ false
-    none_there false e = refl
-    none_there true e = contrary (term_eq t t) ((Decides-term_eq t t).1 refl) (both_false (term_eq t t) (has_term ts t) (other t e)).0
-
-apart-filter : (p : Term → Bool) (ts : List Term) → AreApart ts → AreApart (filter p ts)
-apart-filter p [] apart = tt
-apart-filter p (t ∷ ts) apart = by (p t) (apart-filter p ts apart.1)
-  where
-    by : (b : Bool) → AreApart (filter p ts) → AreApart (cond b (t ∷ filter p ts) (filter p ts))
-    by true rest = (has-filter p ts t ∙ ap (λ b. b && p t) apart.0, rest)
-    by false rest = rest
-
-apart-new : (ts us : List Term) → AreApart ts → AreApart us → AreApart (with_new ts us)
-apart-new ts us first second =
-    apart-append ts (filter (λ u. not (has_term ts u)) us) first (apart-filter (λ u. not (has_term ts u)) us second)
-    (λ u e. not_there (has_term ts u) (both_true (has_term us u) (not (has_term ts u)) (sym (has-filter (λ v. not (has_term ts v)) us u) ∙ e)).1)
-  where
-    not_there : (b : Bool) → not b ≡ true → b ≡ false
-    not_there false e = refl
-    not_there true e = absurd cc
-
-apart-where : (b : Bool) (t : Term) → AreApart (where_so b (t ∷ []))
-apart-where true t = (refl, tt)
-apart-where false t = tt
 
 mutual
   uses-apart : (t : Term) → AreApart (applications t)
@@ -141,7 +107,7 @@ are-new_constants old new us ids ts c t s grows uses fine new_are uses_are pairs
       pairs = pairs;
       nodes = nodes;
       terms = terms ∙ ap (map (λ n. constant n.0)) (sym symbols);
-      new = subst (λ ms. All (λ n. is_new_use ms n.1 ≡ true) drawn) (sym stays) new_uses;
+      each = subst (λ ms. All (λ n. is_new_use ms n.1 ≡ true) drawn) (sym stays) new_uses;
       like = λ k d lt. constant-like (get_or drawn k d) (constants k d lt) (pieces k d lt).part.sorted (both_true (is_use (get_or drawn k d).1) (is_none (constant_for ns (get_or drawn k d).1)) (new_uses k d lt)).0;
       apart = subst AreApart (sym (terms_are ∙ uses_are)) (apart-filter (λ u. is_none (constant_for ns u)) (applications t) (uses-apart t));
     }
@@ -149,16 +115,7 @@ are-new_constants old new us ids ts c t s grows uses fine new_are uses_are pairs
 -- the same under another table
 pub new_constants-stay : (old new : Formulas) (us : List LiveUse) (c : Constants) → GrowsTo old new → All (IsUseIn old) us → AreNewConstants old us c → AreNewConstants new us c
 new_constants-stay old new us c grows uses are =
-    let named : named_at new c.symbols ≡ named_at old c.symbols = named-grow old new grows c.symbols are.pairs in
-    let before : named_uses new us ≡ named_uses old us = named-stay old new grows us uses in
-    record {
-      pairs = pairs-grow old new grows c.symbols are.pairs;
-      nodes = nodes-grow old new grows c.nodes are.nodes;
-      terms = trees-grow old new grows c.nodes are.nodes ∙ are.terms ∙ ap (map (λ n. constant n.0)) (sym named);
-      new = subst (λ ms. All (λ n. is_new_use ms n.1 ≡ true) (named_at new c.symbols)) (sym before) (subst (λ ns. All (λ n. is_new_use (named_uses old us) n.1 ≡ true) ns) (sym named) are.new);
-      like = subst (λ ns. All (λ n. IsLike n.1 (constant n.0)) ns) (sym named) are.like;
-      apart = subst (λ ns. AreApart (terms_of ns)) (sym named) are.apart;
-    }
+    subst (λ ns. AreConstantsFor new (is_new_use ns) c) (sym (named-stay old new grows us uses)) (constants-stay old new (is_new_use (named_uses old us)) c grows are)
 
 -- ---- the order
 

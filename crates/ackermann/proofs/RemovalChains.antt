@@ -18,7 +18,8 @@ use Rattle.ackermann.specs.Removals.{Removal, IsRemoval, AreRemovals, all_inputs
 use Rattle.ackermann.proofs.FromInputs.{IsFrom, from-piece, IsUsed}
 use Rattle.ackermann.proofs.MoreConstants.{more-constants, more-constants_each}
 use Rattle.ackermann.proofs.ReplacedUses.{IsConstantOf}
-use Rattle.ackermann.proofs.UseLists.{HasAll, has-before, has-behind, terms-append, All-of_terms, All-first, All-second, none-for, not_false}
+use Rattle.ackermann.proofs.UseLists.{HasAll, has-before, has-behind, terms-append, All-first, All-second, none-for, not_false}
+use Rattle.term_groups.proofs.NamedTerms.{All-of_terms}
 use Rattle.ackermann.proofs.UseOrder.{Ordered, ordered-append, ordered-filter, applications-ordered, ordered-closed}
 use Rattle.ackermann.proofs.UsePairs.{OperandsKept, Kept, pairs-kept}
 use Rattle.ackermann.proofs.UseParts.{IsUse, piece-itself, applications-pieces, applications-uses}

@@ -20,7 +20,8 @@ use Rattle.ackermann.specs.Ackermann.{applications, applications_of}
 use Rattle.ackermann.specs.Removals.{is_free_in}
 use Rattle.ackermann.proofs.FromInputs.{IsFrom, AreFrom, from-operands, from-first, from-others}
 use Rattle.ackermann.proofs.UseBuilt.{IsBuilt, AreBuilt, built-none, built-more, built-over, built-constant}
-use Rattle.ackermann.proofs.UseLists.{HasAll, has-first, has-second, has-through, All-among, found-holds, none-for, not_false}
+use Rattle.ackermann.proofs.UseLists.{HasAll, has-first, has-second, has-through, found-holds, none-for, not_false}
+use Rattle.term_groups.proofs.NamedTerms.{All-among}
 
 -- ---- the constant of a term
 

@@ -1,27 +1,19 @@
 -- Lists of terms, and of constants with their terms: what holds of all of them, and what they have in common.
-use Rattle.std.proofs.Common.{◌≡◌, Bool, true, false, not, ◌||◌, inl, inr, List, [], ◌∷◌, ◌++◌, map, All, Some, cond, refl, ap, sym, ◌∙◌, subst}
-use Rattle.std.specs.Prelude.{filter, is_none}
+use Rattle.std.proofs.Common.{◌≡◌, Bool, true, false, not, ◌||◌, inl, inr, List, [], ◌∷◌, ◌++◌, All, Some, cond, refl, ap, sym, ◌∙◌, subst}
+use Rattle.std.specs.Prelude.{is_none}
 use Rattle.std.specs.List.{list_all, list_any, flat_map}
-use Rattle.std.proofs.lemmas.List.Elements.{All-nil, All-cons, All-head, All-tail, All-append, All-weaker, All-filter}
+use Rattle.std.proofs.lemmas.List.Elements.{All-nil, All-cons, All-head, All-tail, All-append, All-weaker}
 use Rattle.smt_terms.specs.Equal.{symbol_eq, term_eq}
 use Rattle.smt_terms.specs.Free.{is_among}
-use Rattle.smt_terms.specs.Groups.{Named, has_term, with_new, constant_for, where_so}
+use Rattle.smt_terms.specs.Groups.{Named, has_term, with_new, constant_for}
 use Rattle.smt_terms.specs.Sorts.{Symbol}
 use Rattle.smt_terms.specs.Term.{Term}
-use Rattle.smt_terms.proofs.Equal.{Decides-term_eq, Decides-symbol_eq, symbol_itself}
+use Rattle.smt_terms.proofs.Equal.{Decides-term_eq, Decides-symbol_eq}
 use Rattle.smt_terms.proofs.Tests.{both_true, and_true, either_true, left_true, right_true}
-use Rattle.term_groups.specs.Grouping.{symbols_of, terms_of}
+use Rattle.term_groups.specs.Grouping.{terms_of}
 use Rattle.term_walk.proofs.Members.{has-append, has-with_new}
 
 -- ---- what holds of all elements
-
-pub All-with_new : (P : Term → Type 0) (ts us : List Term) → All P ts → All P us → All P (with_new ts us)
-All-with_new P ts us first second =
-    All-append P ts (filter (λ u. not (has_term ts u)) us) first (All-filter (λ u. not (has_term ts u)) P us second)
-
-pub All-where_so : (P : Term → Type 0) (b : Bool) (t : Term) → (b ≡ true → P t) → All P (where_so b (t ∷ []))
-All-where_so P true t holds = All-cons P t [] (holds refl) (All-nil P)
-All-where_so P false t holds = All-nil P
 
 module _ {X : Type 0} (P : X → Type 0) where
   pub All-first : (xs ys : List X) → All P (xs ++ ys) → All P xs
@@ -41,10 +33,6 @@ module _ {X : Type 0} (P : X → Type 0) where
   All-from_flat_map f [] all = All-nil (λ z. All P (f z))
   All-from_flat_map f (y ∷ ys) all =
       All-cons (λ z. All P (f z)) y ys (All-first (f y) (flat_map f ys) all) (All-from_flat_map f ys (All-second (f y) (flat_map f ys) all))
-
-  pub All-from_map : {Y : Type 0} (f : Y → X) (ys : List Y) → All P (map f ys) → All (λ y. P (f y)) ys
-  All-from_map f [] all = All-nil (λ z. P (f z))
-  All-from_map f (y ∷ ys) all = All-cons (λ z. P (f z)) y ys (All-head P (f y) (map f ys) all) (All-from_map f ys (All-tail P (f y) (map f ys) all))
 
 module _ {X : Type 0} (p : X → Bool) where
   pub All-passes : (xs : List X) → All (λ x. p x ≡ true) xs → list_all p xs ≡ true
@@ -113,19 +101,6 @@ has-through ts us vs first second t among = first t (second t among)
 pub terms-append : (ns ms : Named) → terms_of (ns ++ ms) ≡ terms_of ns ++ terms_of ms
 terms-append [] ms = refl
 terms-append (n ∷ ns) ms = ap (λ ts. n.1 ∷ ts) (terms-append ns ms)
-
--- what holds of the terms of a list
-pub All-of_terms : (P : Term → Type 0) (ns : Named) → All P (terms_of ns) → All (λ n. P n.1) ns
-All-of_terms P ns all = All-from_map P (λ n. n.1) ns all
-
--- each constant is among the constants
-pub All-among : (ns : Named) → All (λ n. is_among (symbols_of ns) n.0 ≡ true) ns
-All-among [] = All-nil (λ n. is_among [] n.0 ≡ true)
-All-among (n ∷ ns) =
-    All-cons (λ m. is_among (symbols_of (n ∷ ns)) m.0 ≡ true) n ns
-    (left_true (symbol_eq n.0 n.0) (is_among (symbols_of ns) n.0) (symbol_itself n.0))
-    (All-weaker (λ m. is_among (symbols_of ns) m.0 ≡ true) (λ m. is_among (symbols_of (n ∷ ns)) m.0 ≡ true)
-    (λ m among. right_true (symbol_eq n.0 m.0) (is_among (symbols_of ns) m.0) among) ns (All-among ns))
 
 -- what holds of all constants and their terms
 pub found-holds : (P : Symbol × Term → Type 0) (ns : Named) (t : Term) (f : Symbol) → All P ns → constant_for ns t ≡ Some f → P (f, t)

@@ -18,7 +18,7 @@ use Rattle.term_groups.specs.Every.{every, every_of}
 use Rattle.term_groups.specs.Grouping.{IsPart}
 use Rattle.ackermann.specs.Ackermann.{applications, applications_of, has_quantified_use, have_quantified_use}
 use Rattle.ackermann.specs.Removals.{is_use}
-use Rattle.ackermann.proofs.UseLists.{All-with_new, All-where_so}
+use Rattle.term_groups.proofs.NamedTerms.{All-with_new, All-where_so}
 
 -- ---- well-sorted operands
 

@@ -15,7 +15,8 @@ use Rattle.ackermann.proofs.FromInputs.{IsFrom, AreFrom, from-operands, from-use
 use Rattle.ackermann.proofs.RemovalChains.{AreUses, uses-closed}
 use Rattle.ackermann.proofs.ReplacedUses.{IsConstantOf, built-parts}
 use Rattle.ackermann.proofs.UseBuilt.{IsBuilt, AreBuilt, built-constant}
-use Rattle.ackermann.proofs.UseLists.{HasAll, All-among}
+use Rattle.ackermann.proofs.UseLists.{HasAll}
+use Rattle.term_groups.proofs.NamedTerms.{All-among}
 
 pub record IsPairOf (inputs : List Term) (ns : Named) (p : Symbol × Term) : Type 0 where
   pub constant_of : IsConstantOf p

@@ -1,4 +1,4 @@
-//! Nodes that are applications of symbols with arguments.
+//! Nodes that are applications: `(f t1 .. tn)` of a symbol f and at least one operand.
 
 ghost use Rattle.std.specs.Prelude.{◌≡◌, All, filter, IfOk, IfSome, is_some};
 ghost use Rattle.smt_terms.specs.Term.{symbol, over};

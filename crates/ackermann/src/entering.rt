@@ -1,17 +1,20 @@
-//! New applications that become live.
+//! New applications that become live, in the order in which their constants were drawn: each `(f t1 .. tn)` with R(t1) .. R(tn),
+//! what all constants make of its operands. It has to do (`pairs`) with each application of f that became live before it, those
+//! of this assertion too.
 
 ghost use Rattle.std.specs.Prelude.{◌≡◌, ◌∷◌, ◌++◌, [], true, length, map, take, None, All, IfOk, OnOk, OnErr};
 ghost use Rattle.smt_terms.specs.Groups.{Named};
 ghost use Rattle.smt_terms.specs.Term.{constant};
 ghost use Rattle.quantifier_forms.specs.Rebuilding.{IsLike};
 ghost use Rattle.term_groups.specs.Grouping.{terms_of};
+ghost use Rattle.term_groups.specs.Replacing.{AreOperandsReplaced, IsDone, AreOperandsFit};
 ghost use Rattle.term_groups.specs.Seen.{named_at};
 ghost use Rattle.term_table.specs.Formulas.{tree, trees_at, symbol_at, IsNode, IsSymbol, AreNodes};
 ghost use Rattle.term_walk.specs.Walking.{GrowsTo};
 ghost use Rattle.ackermann.specs.Ackermann as plain;
 ghost use Rattle.ackermann.specs.LiveUses.{constant_in, named_uses, uses_of, said, IsUseIn, IsSettled, AreBehind, AreUsesIn};
 ghost use Rattle.ackermann.specs.Removals.{is_use};
-ghost use Rattle.ackermann.specs.Replacing.{AreNewConstants, all_named, AreOperandsReplaced, IsDone, AreOperandsFit};
+ghost use Rattle.ackermann.specs.Replacing.{AreNewConstants, all_named};
 
 use crate::applications::function_of;
 use crate::pairs::push_pairs;

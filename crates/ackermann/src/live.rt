@@ -1,4 +1,5 @@
-//! The removal of applications over the levels of a script.
+//! The removal of applications over the levels of a script. An application that has no constant on an open level gets one on the
+//! innermost, and keeps it until this level is closed; an assertion is replaced behind all that are live then.
 
 ghost use Rattle.std.specs.Prelude.{◌≡◌, ◌+◌, ◌<◌, ◌≤◌, true, false, length, slice_get, Some, MatchResult, OnOk, OnErr, IfOk};
 ghost use Rattle.normal_forms.specs.Nodes.{IsFormula};

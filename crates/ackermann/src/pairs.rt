@@ -1,4 +1,7 @@
-//! What equal operands say of the constants of two applications of one function.
+//! What equal operands say of the constants of two applications of one function. Where u is the constant of an earlier one, whose
+//! operands became r1 .. rn, and v that of a new one, whose operands became q1 .. qn, it is
+//!
+//! - `(=> (and (= r1 q1) .. (= rn qn)) (= u v))`, of one operand `(=> (= r1 q1) (= u v))`.
 
 ghost use Rattle.std.specs.Prelude.{◌≡◌, ◌<◌, ◌∷◌, ◌++◌, [], length, map, slice_get, Some, All, IfOk, OnOk};
 ghost use Rattle.smt_terms.specs.Rank.{sort_of};

@@ -1,4 +1,5 @@
-//! Applications below quantifiers.
+//! Applications below quantifiers: one stands so in a quantified formula where any stands in its body, and in another
+//! `(f t ..)` where one stands so in some t.
 
 ghost use Rattle.std.specs.Prelude.{◌≡◌, ℕ, ◌<◌, ◌||◌, ◌∷◌, ◌++◌, [], Bool, List, length, take, get_or, IfOk, OnOk};
 ghost use Rattle.std.specs.List.{list_any};
@@ -12,10 +13,10 @@ ghost use Rattle.ackermann.specs.Marking.{has_application, AreMarked, AreOperand
 use crate::applications::function_of;
 use indexmap::IndexSet;
 use quantifier_forms::listing::list_all;
-use quantifier_forms::rebuilding::is_binder;
 use smt_terms::NodeId;
 use std::alloc::{AllocError, Global};
 use term_table::Table;
+use term_walk::is_binder;
 
 // Whether one of these nodes is marked.
 fn has_any(marked: &IndexSet<NodeId>, ids: &[NodeId]) -> bool

@@ -1,8 +1,14 @@
-//! Applications removed from a formula, over the nodes of a table, behind those that are live.
+//! Applications removed from a formula, over the nodes of a table, behind those that are live. Every application outside
+//! quantifiers that has no constant gets a new one. With R for what all constants make of a term, the group is, for each new
+//! application `(f t1 .. tn)` with its constant v, in order, and each `(f s1 .. sn)` with its constant u before it,
+//!
+//! - `(=> (and (= R(s1) R(t1)) .. (= R(sn) R(tn))) (= u v))`, of one operand `(=> (= R(s1) R(t1)) (= u v))`,
+//!
+//! and last R of the formula. R of an application is its constant, R of another `(f t ..)` is `(f R(t) ..)`, and R of a quantified
+//! formula is the formula itself.
 
-ghost use Rattle.std.specs.Prelude.{◌≡◌, ◌∷◌, ◌++◌, [], false, not, length, take, IfOk, OnOk};
+ghost use Rattle.std.specs.Prelude.{◌≡◌, ◌∷◌, ◌++◌, [], length, take, IfOk, OnOk};
 ghost use Rattle.normal_forms.specs.Nodes.{IsFormula};
-ghost use Rattle.normal_forms.specs.Shape.{is_quantified};
 ghost use Rattle.term_groups.specs.Seen.{IsGroup};
 ghost use Rattle.term_subst.specs.Substituting.{IsLater, NeverGivesGained};
 ghost use Rattle.term_table.specs.Formulas.{tree};
@@ -12,34 +18,14 @@ ghost use Rattle.ackermann.specs.LiveUses.{named_uses, AreUsesIn};
 
 use crate::applications::new_uses;
 use crate::entering::enter_all;
-use crate::replacing::replace_all;
+use crate::replacing::replace_uses;
 use crate::uses::LiveUses;
-use quantifier_forms::listing::Choice;
-use quantifier_forms::rebuilding::is_binder;
 use smt_terms::NodeId;
 use std::alloc::{AllocError, Global};
 use term_groups::constants::draw_constants;
-use term_groups::parts::parts;
+use term_groups::parts::{Outside, parts};
 use term_subst::{Fresh, Group};
 use term_table::{Table, know_table};
-
-// All that stands outside quantifiers.
-#[derive(Clone, Copy)]
-struct Outside;
-
-impl Choice for Outside {
-    ghost skips = { λ _ _. false };
-
-    ghost opens = { λ _ t k. not (is_quantified (tree t k)) };
-
-    fn skips(&self, _id: NodeId) -> bool {
-        false
-    }
-
-    fn opens(&self, table: &Table, id: NodeId) -> bool {
-        !is_binder(table, id)
-    }
-}
 
 /// The group in the place of a formula without applications: the new constants, each with the application that it stands for, and
 /// the assertions. The new applications become live; where memory is wanting, some of them may.
@@ -65,7 +51,7 @@ pub(crate) fn remove_applications(
     let new = new_uses(alloc, table, uses, &order)?;
     let constants = draw_constants(alloc, table, &new, fresh)?;
     know_table(table);
-    let memo = replace_all(alloc, table, &order, uses, &constants)?;
+    let memo = replace_uses(alloc, table, &order, uses, &constants)?;
     let mut asserts = enter_all(alloc, table, uses, &memo, &constants)?;
     asserts.push(memo.known(0, id))?;
     Ok(Group {

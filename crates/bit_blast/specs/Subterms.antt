@@ -5,7 +5,7 @@ use Rattle.smt_terms.specs.Sorts.{Symbol}
 use Rattle.smt_terms.specs.Term.{op, symbol, const_array, Term, apply, quantified, constant}
 use Rattle.smt_terms.specs.Groups.{Named, has_term}
 use Rattle.normal_forms.specs.Nodes.{IsFormula}
-use Rattle.normal_forms.specs.Shape.{is_quantified}
+use Rattle.term_walk.specs.Binders.{is_quantified}
 use Rattle.term_groups.specs.Parts.{operands_of}
 use Rattle.term_groups.specs.Seen.{named_at}
 use Rattle.term_groups.specs.declared.constants.Constants.{Constants}

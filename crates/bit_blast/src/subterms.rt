@@ -1,37 +1,16 @@
 //! The subterms of formulas.
 
-ghost use Rattle.std.specs.Prelude.{◌≡◌, ◌≤◌, ◌∷◌, [], false, not, length, All, IfOk};
+ghost use Rattle.std.specs.Prelude.{◌≡◌, ◌≤◌, ◌∷◌, [], length, All, IfOk};
 ghost use Rattle.bit_blast.specs.Subterms.{AreSubterms};
 ghost use Rattle.normal_forms.specs.Nodes.{IsFormula};
-ghost use Rattle.normal_forms.specs.Shape.{is_quantified};
-ghost use Rattle.term_table.specs.Formulas.{tree, trees_at};
+ghost use Rattle.term_table.specs.Formulas.{trees_at};
 ghost use Rattle.term_walk.specs.Walking.{GrowsTo};
 
 use normal_forms::making::conjunction;
-use quantifier_forms::listing::Choice;
-use quantifier_forms::rebuilding::is_binder;
 use smt_terms::NodeId;
 use std::alloc::{AllocError, Global};
-use term_groups::parts::parts;
+use term_groups::parts::{Outside, parts};
 use term_table::Table;
-
-// All that stands outside quantifiers.
-#[derive(Clone, Copy)]
-struct Outside;
-
-impl Choice for Outside {
-    ghost skips = { λ _ _. false };
-
-    ghost opens = { λ _ t k. not (is_quantified (tree t k)) };
-
-    fn skips(&self, _id: NodeId) -> bool {
-        false
-    }
-
-    fn opens(&self, table: &Table, id: NodeId) -> bool {
-        !is_binder(table, id)
-    }
-}
 
 // Those of one formula.
 fn below_one(alloc: Global, table: &Table, root: NodeId) -> Result<Vec<NodeId>, AllocError>

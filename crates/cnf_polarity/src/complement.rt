@@ -1,4 +1,5 @@
-//! The other literal of a literal.
+//! The other literal of a literal: of `true` it is `false` and of `false` it is `true`, of `(not a)` it is a, and of another a it
+//! is `(not a)`.
 
 ghost use Rattle.std.specs.Prelude.{◌≡◌, IfOk};
 ghost use Rattle.term_table.specs.Formulas.{tree};

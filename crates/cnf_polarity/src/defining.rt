@@ -1,4 +1,4 @@
-//! The clauses of one name.
+//! The clauses of one name, of the literals of its connective's operands: those that `clauses` lists.
 
 ghost use Rattle.std.specs.Prelude.{◌≡◌, ◌<◌, ◌∷◌, [], length, map, All, IfOk, OnOk};
 ghost use Rattle.smt_terms.specs.Connectives.{any_of, either};

@@ -1,4 +1,5 @@
-//! The connectives that get names, and the literals of a formula's connective part.
+//! The connectives that get names, all but `not`, and the literals of a formula's connective part: of a named connective its
+//! name, of `(not a)` the other literal of a's, and of anything else the formula itself.
 
 ghost use Rattle.std.specs.Prelude.{◌≡◌, length, filter, All, IfOk, OnOk};
 ghost use Rattle.smt_terms.specs.declared.ids.NodeId.{NodeId};

@@ -1,4 +1,6 @@
-//! The polarities in which formulas occur.
+//! The polarities in which formulas occur. The root occurs positively. Where a connective occurs, so do its operands: in the
+//! other polarity that of `not` and the first of `=>`, in both those of `xor`, `=` and `distinct` and the first of `ite`, and all
+//! others in the same.
 
 ghost use Rattle.std.specs.Prelude.{◌≡◌, ◌||◌, Bool, true, IfOk, OnOk};
 ghost use Rattle.smt_terms.specs.declared.ids.NodeId.{NodeId};

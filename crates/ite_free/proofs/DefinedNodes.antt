@@ -7,7 +7,7 @@ use Rattle.std.proofs.lemmas.List.{map-append, get_or-map, length-map, take_more
 use Rattle.smt_terms.specs.declared.ids.NodeId.{NodeId}
 use Rattle.smt_terms.specs.declared.ids.SymId.{SymId}
 use Rattle.smt_terms.specs.Connectives.{kind_of, negated, implies, equal}
-use Rattle.smt_terms.specs.Groups.{Named, constant_for, with_constants}
+use Rattle.smt_terms.specs.Groups.{Named, with_constants}
 use Rattle.smt_terms.specs.Rank.{sort_of, is_regular, IsWellSorted}
 use Rattle.smt_terms.specs.Shapes.{is_ite, is_atom_kind}
 use Rattle.smt_terms.specs.Sorts.{Sort, bool, Symbol}
@@ -18,15 +18,17 @@ use Rattle.term_table.specs.Formulas.{Formulas, no_tree, tree, tree_in, trees_at
 use Rattle.term_walk.specs.Walking.{GrowsTo}
 use Rattle.term_subst.proofs.Growing.{tree-grows, node-grows, trees-grow}
 use Rattle.normal_forms.specs.Nodes.{IsFormula}
-use Rattle.normal_forms.specs.Shape.{is_quantified}
+use Rattle.term_walk.specs.Binders.{is_quantified}
 use Rattle.quantifier_forms.specs.Memos.{Results, known_in}
 use Rattle.quantifier_forms.proofs.Sweeps.{kids-for}
 use Rattle.term_groups.specs.declared.constants.Constants.{Constants}
+use Rattle.term_groups.specs.Replacing.{IsReplaced, AreOperandsReplaced, IsDone, IsFit, AreOperandsFit}
 use Rattle.term_groups.specs.Seen.{named_at}
+use Rattle.term_groups.proofs.ReplacedNodes.{replaced-fits, operands-fit, at-pair, of-pair, kids-fit, done-stays}
 use Rattle.ite_free.specs.Ite.{defining}
-use Rattle.ite_free.specs.Removing.{is_choice, AreConstants, IsReplaced, AreOperandsReplaced, IsDone, IsFit, AreOperandsFit}
+use Rattle.ite_free.specs.Removing.{is_choice, AreConstants}
 use Rattle.ite_free.proofs.IteBuilt.{AreBranches, branches}
-use Rattle.ite_free.proofs.ReplacedNodes.{replaced-fits, operands-fit, choice-constant, at-pair, of-pair, kids-fit, done-stays}
+use Rattle.ite_free.proofs.DrawnConstants.{ites-become}
 
 -- ---- one assertion more
 
@@ -162,7 +164,7 @@ module _ (t0 t1 : Formulas) (grows : GrowsTo t0 t1) (m : Results) (c : Constants
   stays = tree-grows t0 t1 grows p.1 here.itself.node
 
   choice : is_choice (tree t0 p.1) ≡ true
-  choice = of-pair t0 c.symbols i p lt at (λ n. is_choice n.1 ≡ true) are.choices
+  choice = of-pair t0 c.symbols i p lt at (λ n. is_choice n.1 ≡ true) are.each
 
   pub choice-now : is_choice (tree t1 p.1) ≡ true
   choice-now = ap is_choice stays ∙ choice
@@ -180,7 +182,7 @@ module _ (t0 t1 : Formulas) (grows : GrowsTo t0 t1) (m : Results) (c : Constants
   constant-now =
       now.itself.term
       ∙ ap (with_constants (named_at t0 c.symbols)) stays
-      ∙ choice-constant (named_at t0 c.symbols) (tree t0 p.1) (symbol_at t0 p.0) choice (of-pair t0 c.symbols i p lt at (λ n. constant_for (named_at t0 c.symbols) n.1 ≡ Some n.0) are.own)
+      ∙ of-pair t0 c.symbols i p lt at (λ n. with_constants (named_at t0 c.symbols) n.1 ≡ constant n.0) (ites-become t0 c are)
 
   -- t1 to t2: the assertions of this one are put behind
   pub definitions-more : (t2 : Formulas) (as1 as2 : List NodeId) → trees_at t1 as1 ≡ flat_map (λ n. defining (named_at t0 c.symbols) n.0 n.1) (take i (named_at t0 c.symbols))

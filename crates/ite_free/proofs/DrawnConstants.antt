@@ -1,34 +1,36 @@
 -- The constants that are drawn for the `ite` terms of a formula.
-use Rattle.std.proofs.Common.{◌≡◌, Bool, true, false, not, cond, ◌&&◌, List, [], ◌∷◌, ◌++◌, filter, get_or, map, All, Some, refl, ap, sym, ◌∙◌, subst}
+use Rattle.std.proofs.Common.{◌≡◌, Bool, true, false, List, [], ◌∷◌, get_or, map, All, refl, ap, sym, ◌∙◌, subst}
 use Rattle.std.specs.Prelude.{is_some}
-use Rattle.std.proofs.lemmas.List.Elements.{All-nil, All-cons}
 use Rattle.smt_terms.specs.declared.ids.NodeId.{NodeId}
+use Rattle.smt_terms.specs.declared.ids.SymId.{SymId}
 use Rattle.smt_terms.specs.declared.op.Op.{Op}
 use Rattle.smt_terms.specs.declared.op.Op.TheVariants.{Ite}
 use Rattle.smt_terms.specs.Connectives.{kind_of}
-use Rattle.smt_terms.specs.Equal.{term_eq}
 use Rattle.smt_terms.specs.Fresh.{Supply}
-use Rattle.smt_terms.specs.Groups.{Named, has_term, with_new, constant_for, draw_each, where_so}
+use Rattle.smt_terms.specs.Groups.{Named, with_new, draw_each, where_so, with_constants}
 use Rattle.smt_terms.specs.Rank.{sort_of, is_regular, is_whole, IsWellSorted}
 use Rattle.smt_terms.specs.Shapes.{is_ite_operator, is_atom_kind, is_term_ite}
 use Rattle.smt_terms.specs.Sorts.{Symbol}
 use Rattle.smt_terms.specs.Term.{op, symbol, const_array, Term, apply, quantified, Terms, none, ◌⨾◌, constant}
-use Rattle.smt_terms.proofs.Equal.{Decides-term_eq}
 use Rattle.smt_terms.proofs.Keeping.{the_sort}
-use Rattle.smt_terms.proofs.Tests.{both_true, both_false, or_false, contrary}
-use Rattle.term_table.specs.Formulas.{Formulas, trees_at, AreNodes}
-use Rattle.term_walk.proofs.Members.{has-append, has-filter, has-at}
+use Rattle.smt_terms.proofs.Tests.{both_true}
+use Rattle.term_table.specs.Formulas.{Formulas, trees_at, AreNodes, IsTable}
 use Rattle.term_subst.proofs.MapsAt.{sort-narrow}
+use Rattle.term_walk.specs.Binders.{is_quantified}
+use Rattle.quantifier_forms.specs.Memos.{Results, result_in}
 use Rattle.quantifier_forms.specs.Rebuilding.{is_number, IsLike}
 use Rattle.term_groups.specs.declared.constants.Constants.{Constants}
 use Rattle.term_groups.specs.Grouping.{terms_of}
 use Rattle.term_groups.specs.Parts.{collected, collected_of}
 use Rattle.term_groups.specs.Seen.{named_at, ArePairs}
+use Rattle.term_groups.specs.Replacing.{is_open, AreApart, AreConstantsFor, AreReplaced, AreStarted}
 use Rattle.term_groups.proofs.Draws.{constants-are_new}
+use Rattle.term_groups.proofs.NamedTerms.{All-of_terms, apart-new, apart-where, own-constants}
+use Rattle.term_groups.proofs.OrderedNodes.{missing-constant}
+use Rattle.term_groups.proofs.ReplacedNodes.{own-become}
 use Rattle.ite_free.specs.Ite.{term_ites, term_ites_of}
-use Rattle.ite_free.specs.Removing.{is_choice, is_open, AreConstants}
+use Rattle.ite_free.specs.Removing.{is_choice, AreConstants}
 use Rattle.ite_free.proofs.IteConstants.{IsConstantOf, constant-sort}
-use Rattle.ite_free.proofs.IteLists.{All-of_terms}
 use Rattle.ite_free.proofs.IteParts.{IsClearPart, ites-parts, ites-choices}
 
 -- ---- the `ite`s are those parts of a formula that are one
@@ -44,42 +46,6 @@ mutual
 
 -- ---- no two of them are one term
 
-abbrev AreApart : List Term → Type 0
-AreApart [] = Unit {0}
-AreApart (t ∷ ts) = (has_term ts t ≡ false) × AreApart ts
-
-apart-append : (ts us : List Term) → AreApart ts → AreApart us → ((u : Term) → has_term us u ≡ true → has_term ts u ≡ false) → AreApart (ts ++ us)
-apart-append [] us first second other = second
-apart-append (t ∷ ts) us first second other = (
-  has-append ts us t ∙ or_false (has_term ts t) (has_term us t) first.0 (none_there (has_term us t) refl),
-  apart-append ts us first.1 second (λ u e. (both_false (term_eq t u) (has_term ts u) (other u e)).1),
-)
-  where
-    none_there : (b : Bool) → has_term us t ≡ b → b ≡ false
-    none_there false e = refl
-    none_there true e = contrary (term_eq t t) ((Decides-term_eq t t).1 refl) (both_false (term_eq t t) (has_term ts t) (other t e)).0
-
-apart-filter : (p : Term → Bool) (ts : List Term) → AreApart ts → AreApart (filter p ts)
-apart-filter p [] apart = tt
-apart-filter p (t ∷ ts) apart = by (p t) (apart-filter p ts apart.1)
-  where
-    by : (b : Bool) → AreApart (filter p ts) → AreApart (cond b (t ∷ filter p ts) (filter p ts))
-    by true rest = (has-filter p ts t ∙ ap (λ b. b && p t) apart.0, rest)
-    by false rest = rest
-
-apart-new : (ts us : List Term) → AreApart ts → AreApart us → AreApart (with_new ts us)
-apart-new ts us first second =
-    apart-append ts (filter (λ u. not (has_term ts u)) us) first (apart-filter (λ u. not (has_term ts u)) us second)
-    (λ u e. not_there (has_term ts u) (both_true (has_term us u) (not (has_term ts u)) (sym (has-filter (λ v. not (has_term ts v)) us u) ∙ e)).1)
-  where
-    not_there : (b : Bool) → not b ≡ true → b ≡ false
-    not_there false e = refl
-    not_there true e = absurd cc
-
-apart-where : (b : Bool) (t : Term) → AreApart (where_so b (t ∷ []))
-apart-where true t = (refl, tt)
-apart-where false t = tt
-
 mutual
   ites-apart : (t : Term) → AreApart (term_ites t)
   ites-apart (apply h ts) = apart-new (term_ites_of ts) (where_so (is_term_ite h ts) (apply h ts ∷ [])) (ites-apart_each ts) (apart-where (is_term_ite h ts) (apply h ts))
@@ -88,24 +54,6 @@ mutual
   ites-apart_each : (ts : Terms) → AreApart (term_ites_of ts)
   ites-apart_each none = tt
   ites-apart_each (t ⨾ ts) = apart-new (term_ites t) (term_ites_of ts) (ites-apart t) (ites-apart_each ts)
-
--- where terms are apart, each constant is that of its term
-own-constants : (ns : Named) → AreApart (terms_of ns) → All (λ n. constant_for ns n.1 ≡ Some n.0) ns
-own-constants [] apart = All-nil (λ n. constant_for [] n.1 ≡ Some n.0)
-own-constants (n ∷ ns) apart =
-    All-cons (λ o. constant_for (n ∷ ns) o.1 ≡ Some o.0) n ns
-    (ap (λ b. cond b (Some n.0) (constant_for ns n.1)) ((Decides-term_eq n.1 n.1).1 refl))
-    (λ k d lt. behind (get_or ns k d) (there k d lt) (own-constants ns apart.1 k d lt))
-  where
-    there : All (λ o. has_term (terms_of ns) o.1 ≡ true) ns
-    there = All-of_terms (λ u. has_term (terms_of ns) u ≡ true) ns (λ k d lt. has-at (terms_of ns) k d lt)
-
-    behind : (o : Symbol × Term) → has_term (terms_of ns) o.1 ≡ true → constant_for ns o.1 ≡ Some o.0 → constant_for (n ∷ ns) o.1 ≡ Some o.0
-    behind o among e = by (term_eq n.1 o.1) refl
-      where
-        by : (b : Bool) → term_eq n.1 o.1 ≡ b → cond b (Some n.0) (constant_for ns o.1) ≡ Some o.0
-        by true same = contrary (has_term (terms_of ns) o.1) among (ap (has_term (terms_of ns)) (sym ((Decides-term_eq n.1 o.1).0 same)) ∙ apart.0)
-        by false other = e
 
 -- ---- a constant may take the place of its `ite`
 
@@ -143,7 +91,27 @@ are-constants old new ites c t s fine ites_are pairs nodes symbols terms =
       pairs = pairs;
       nodes = nodes;
       terms = terms ∙ ap (map (λ n. constant n.0)) (sym symbols);
-      choices = choices;
+      each = choices;
       like = λ k d lt. constant-like (get_or (named_at new c.symbols) k d) (constants k d lt) (parts k d lt).part.sorted (choices k d lt);
-      own = own-constants (named_at new c.symbols) (subst AreApart (sym terms_are) (ites-apart t));
+      apart = subst AreApart (sym terms_are) (ites-apart t);
     }
+
+-- an `ite` isn't quantified
+pub plain-choice : (u : Term) → is_choice u ≡ true → is_quantified u ≡ false
+plain-choice (apply h ts) choice = refl
+plain-choice (quantified q xs body) choice = absurd cc
+
+-- each `ite` becomes its constant
+pub ites-become : (t : Formulas) (c : Constants) → AreConstants t c → All (λ n. with_constants (named_at t c.symbols) n.1 ≡ constant n.0) (named_at t c.symbols)
+ites-become t c are =
+    let ns = named_at t c.symbols in
+    own-become ns ns (λ k d lt. plain-choice (get_or ns k d).1 (are.each k d lt)) (own-constants ns are.apart)
+
+-- m: the constants, as results of their `ite`s
+pub ites-started : (t : Formulas) → IsTable t → (c : Constants) → AreConstants t c → (m : Results) (ks : List NodeId) → AreNodes t ks
+    → ((wanted : Term → Bool) (ns : Named) → AreConstantsFor t wanted c → All (λ n. with_constants ns n.1 ≡ constant n.0) (named_at t c.symbols) → AreReplaced t ns m)
+    → All (λ (p : SymId × NodeId). is_some (result_in m 0 p.1) ≡ true) c.symbols → AreStarted t (named_at t c.symbols) m ks
+ites-started t table c are m ks nodes replaced kept = record {
+  replaced = replaced is_choice (named_at t c.symbols) are (ites-become t c are);
+  missing = λ i d lt none_there. missing-constant t table m c.symbols are.pairs kept (get_or ks i d) (nodes i d lt) none_there;
+}

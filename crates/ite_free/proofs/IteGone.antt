@@ -18,7 +18,8 @@ use Rattle.term_groups.specs.Grouping.{terms_of}
 use Rattle.ite_free.specs.Ite.{term_ites, term_ites_of, defining}
 use Rattle.ite_free.proofs.IteBuilt.{AreBranches}
 use Rattle.ite_free.proofs.IteConstants.{IsConstantOf, constants-applied, constants-sorts}
-use Rattle.ite_free.proofs.IteLists.{All-with_new, All-where_so, All-two}
+use Rattle.ite_free.proofs.IteLists.{All-two}
+use Rattle.term_groups.proofs.NamedTerms.{All-with_new, All-where_so}
 
 -- ---- lists of terms that have all of another list
 

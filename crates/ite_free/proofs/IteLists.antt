@@ -1,23 +1,9 @@
--- Lists of terms, and of constants with their terms: what holds of all of them.
-use Rattle.std.proofs.Common.{◌≡◌, Bool, true, false, not, List, [], ◌∷◌, All, refl}
-use Rattle.std.specs.Prelude.{filter}
+-- Lists of terms: what holds of all of them.
+use Rattle.std.proofs.Common.{◌≡◌, Bool, true, List, [], ◌∷◌, All, refl}
 use Rattle.std.specs.List.{list_all, flat_map}
-use Rattle.std.proofs.lemmas.List.Elements.{All-nil, All-cons, All-head, All-tail, All-append, All-weaker, All-filter}
-use Rattle.smt_terms.specs.Equal.{symbol_eq}
-use Rattle.smt_terms.specs.Free.{is_among}
-use Rattle.smt_terms.specs.Groups.{Named, has_term, with_new, where_so}
+use Rattle.std.proofs.lemmas.List.Elements.{All-nil, All-cons, All-head, All-tail, All-append}
 use Rattle.smt_terms.specs.Term.{Term}
-use Rattle.smt_terms.proofs.Equal.{symbol_itself}
-use Rattle.smt_terms.proofs.Tests.{and_true, left_true, right_true}
-use Rattle.term_groups.specs.Grouping.{symbols_of, terms_of}
-
-pub All-with_new : (P : Term → Type 0) (ts us : List Term) → All P ts → All P us → All P (with_new ts us)
-All-with_new P ts us first second =
-    All-append P ts (filter (λ u. not (has_term ts u)) us) first (All-filter (λ u. not (has_term ts u)) P us second)
-
-pub All-where_so : (P : Term → Type 0) (b : Bool) (t : Term) → (b ≡ true → P t) → All P (where_so b (t ∷ []))
-All-where_so P true t holds = All-cons P t [] (holds refl) (All-nil P)
-All-where_so P false t holds = All-nil P
+use Rattle.smt_terms.proofs.Tests.{and_true}
 
 pub All-two : (P : Term → Type 0) (t u : Term) → P t → P u → All P (t ∷ u ∷ [])
 All-two P t u first second = All-cons P t (u ∷ []) first (All-cons P u [] second (All-nil P))
@@ -30,19 +16,3 @@ All-flat_map P f (x ∷ xs) all =
 pub All-passes : (p : Term → Bool) (ts : List Term) → All (λ t. p t ≡ true) ts → list_all p ts ≡ true
 All-passes p [] all = refl
 All-passes p (t ∷ ts) all = and_true (p t) (list_all p ts) (All-head (λ u. p u ≡ true) t ts all) (All-passes p ts (All-tail (λ u. p u ≡ true) t ts all))
-
--- ---- constants with their terms
-
--- what holds of the terms of a list
-pub All-of_terms : (P : Term → Type 0) (ns : Named) → All P (terms_of ns) → All (λ n. P n.1) ns
-All-of_terms P [] all = All-nil (λ n. P n.1)
-All-of_terms P (n ∷ ns) all = All-cons (λ m. P m.1) n ns (All-head P n.1 (terms_of ns) all) (All-of_terms P ns (All-tail P n.1 (terms_of ns) all))
-
--- each constant is among the constants
-pub All-among : (ns : Named) → All (λ n. is_among (symbols_of ns) n.0 ≡ true) ns
-All-among [] = All-nil (λ n. is_among [] n.0 ≡ true)
-All-among (n ∷ ns) =
-    All-cons (λ m. is_among (symbols_of (n ∷ ns)) m.0 ≡ true) n ns
-    (left_true (symbol_eq n.0 n.0) (is_among (symbols_of ns) n.0) (symbol_itself n.0))
-    (All-weaker (λ m. is_among (symbols_of ns) m.0 ≡ true) (λ m. is_among (symbols_of (n ∷ ns)) m.0 ≡ true)
-    (λ m among. right_true (symbol_eq n.0 m.0) (is_among (symbols_of ns) m.0) among) ns (All-among ns))

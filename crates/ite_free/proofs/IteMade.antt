@@ -22,7 +22,8 @@ use Rattle.ite_free.specs.Laws.{IteLeavesNone}
 use Rattle.ite_free.proofs.IteBuilt.{IsBuilt, built-made, built-part, built-constant, built-negated, built-implies, built-equal, AreBranches, branches}
 use Rattle.ite_free.proofs.IteConstants.{IsConstantOf}
 use Rattle.ite_free.proofs.IteGone.{HasAll, ites-closed, ites-gone, defining-gone}
-use Rattle.ite_free.proofs.IteLists.{All-two, All-flat_map, All-passes, All-of_terms, All-among}
+use Rattle.ite_free.proofs.IteLists.{All-two, All-flat_map, All-passes}
+use Rattle.term_groups.proofs.NamedTerms.{All-of_terms, All-among}
 use Rattle.ite_free.proofs.IteParts.{IsClearPart, part-itself, part-through, part-in_first, part-in_others, part-in_operands, operands-well_sorted, AreWellSorted, first-well_sorted, others-well_sorted, IsChoice, ites-parts, ites-choices}
 
 abbrev constants_of : Term → Supply → Named

@@ -17,7 +17,7 @@ use Rattle.smt_terms.proofs.Tests.{both_true, left_true, right_true}
 use Rattle.term_groups.specs.Drawing.{ConstantsAreNew}
 use Rattle.term_groups.specs.Grouping.{terms_of}
 use Rattle.ite_free.specs.Ite.{term_ites}
-use Rattle.ite_free.proofs.IteLists.{All-of_terms}
+use Rattle.term_groups.proofs.NamedTerms.{All-of_terms}
 use Rattle.ite_free.proofs.IteParts.{IsClearPart, ites-parts, IsChoice, ites-choices}
 
 -- ---- terms with a sort, whose free symbols are among these

@@ -18,7 +18,7 @@ use Rattle.term_groups.specs.Every.{every, every_of}
 use Rattle.term_groups.specs.Grouping.{IsPart}
 use Rattle.ite_free.specs.Ite.{term_ites, term_ites_of}
 use Rattle.ite_free.specs.Removing.{is_choice}
-use Rattle.ite_free.proofs.IteLists.{All-with_new, All-where_so}
+use Rattle.term_groups.proofs.NamedTerms.{All-with_new, All-where_so}
 
 -- ---- well-sorted operands
 

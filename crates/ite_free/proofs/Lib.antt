@@ -16,6 +16,4 @@ pub mod DefinedNodes
 pub mod DrawnConstants
 pub mod IteGroups
 pub mod IteMade
-pub mod OrderedNodes
 pub mod RemovedNodes
-pub mod ReplacedNodes

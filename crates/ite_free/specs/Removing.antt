@@ -1,67 +1,16 @@
--- The removal of `ite` over terms, over the nodes of a table.
-use Rattle.std.specs.Prelude.{◌≡◌, ◌<◌, Bool, true, false, not, List, ◌∷◌, ◌++◌, map, Some, All}
-use Rattle.normal_forms.specs.Shape.{is_quantified}
-use Rattle.quantifier_forms.specs.Memos.{Results, result_in, known_in}
-use Rattle.quantifier_forms.specs.Rebuilding.{IsLike}
-use Rattle.smt_terms.specs.declared.ids.NodeId.{NodeId}
-use Rattle.smt_terms.specs.Groups.{Named, has_term, constant_for, with_constants}
+-- The `ite`s over terms that constants stand for, over the nodes of a table.
+use Rattle.std.specs.Prelude.{Bool, false}
 use Rattle.smt_terms.specs.Shapes.{is_term_ite}
-use Rattle.smt_terms.specs.Term.{Term, apply, quantified, constant}
+use Rattle.smt_terms.specs.Term.{Term, apply, quantified}
 use Rattle.term_groups.specs.declared.constants.Constants.{Constants}
-use Rattle.term_groups.specs.Parts.{operands_of}
-use Rattle.term_groups.specs.Seen.{named_at, ArePairs}
-use Rattle.term_table.specs.Formulas.{Formulas, tree, trees_at, operands, IsNode, AreNodes}
+use Rattle.term_groups.specs.Replacing.{AreConstantsFor}
+use Rattle.term_table.specs.Formulas.{Formulas}
 
 -- whether a term is an `ite` that is no connective
 abbrev pub is_choice : Term → Bool
 is_choice (apply h ts) = is_term_ite h ts
 is_choice (quantified q xs body) = false
 
--- whether the operands of a term are looked at
-abbrev pub is_open : Term → Bool
-is_open t = not (is_quantified t)
-
--- each term whose operands are looked at stands behind these
-abbrev pub AreInOrder : List Term → Type 0
-AreInOrder ts = (us : List Term) (t : Term) (vs : List Term) → ts ≡ us ++ t ∷ vs → is_open t ≡ true → All (λ u. has_term us u ≡ true) (operands_of t)
-
 -- constants of the table, each for its `ite` alone, with its own node
-pub record AreConstants (t : Formulas) (c : Constants) : Type 0 where
-  pub pairs : ArePairs t c.symbols
-  pub nodes : AreNodes t c.nodes
-  pub terms : trees_at t c.nodes ≡ map (λ n. constant n.0) (named_at t c.symbols)
-  pub choices : All (λ n. is_choice n.1 ≡ true) (named_at t c.symbols)
-  pub like : All (λ n. IsLike n.1 (constant n.0)) (named_at t c.symbols)
-  pub own : All (λ n. constant_for (named_at t c.symbols) n.1 ≡ Some n.0) (named_at t c.symbols)
-
--- ---- what becomes of nodes
-
--- the node r is what the constants make of the node k, and may take its place
-pub record IsReplaced (t : Formulas) (ns : Named) (k r : NodeId) : Type 0 where
-  pub node : IsNode t k
-  pub result : IsNode t r
-  pub term : tree t r ≡ with_constants ns (tree t k)
-  pub like : IsLike (tree t k) (tree t r)
-
--- of all nodes that have results
-abbrev pub AreReplaced : Formulas → Named → Results → Type 0
-AreReplaced t ns m = (k r : NodeId) → result_in m 0 k ≡ Some r → IsReplaced t ns k r
-
--- of the operands of a node that isn't quantified
-abbrev pub AreOperandsReplaced : Formulas → Named → Results → NodeId → Type 0
-AreOperandsReplaced t ns m id = is_quantified (tree t id) ≡ false → (k : NodeId) → k.0 < id.0 → has_term (operands (tree t id)) (tree t k) ≡ true → IsReplaced t ns k (known_in m 0 k)
-
--- a node, and its operands
-pub record IsDone (t : Formulas) (ns : Named) (m : Results) (id : NodeId) : Type 0 where
-  pub itself : IsReplaced t ns id (known_in m 0 id)
-  pub operands : AreOperandsReplaced t ns m id
-
--- ---- results that may take the places of their nodes
-
-pub record IsFit (t : Formulas) (m : Results) (k : NodeId) : Type 0 where
-  pub result : IsNode t (known_in m 0 k)
-  pub like : IsLike (tree t k) (tree t (known_in m 0 k))
-
--- of the operands of a node that isn't quantified
-abbrev pub AreOperandsFit : Formulas → Results → NodeId → Type 0
-AreOperandsFit t m id = is_quantified (tree t id) ≡ false → (k : NodeId) → k.0 < id.0 → has_term (operands (tree t id)) (tree t k) ≡ true → IsFit t m k
+abbrev pub AreConstants : Formulas → Constants → Type 0
+AreConstants t c = AreConstantsFor t is_choice c

@@ -1,58 +1,39 @@
 //! `ite` over terms removed from a formula, over the nodes of a table. With a constant v for each distinct `ite` of another sort
-//! than Bool outside quantifiers, and R for what the constants make of a term, the group is, for each (ite c a b) in order,
+//! than Bool outside quantifiers, and R for what the constants make of a term, the group is, for each `(ite c a b)` in order,
 //!
 //! - `(=> R(c) (= v R(a)))` and `(=> (not R(c)) (= v R(b)))`,
 //!
-//! and last R of the formula. R(v's ite) is v, R(f t ..) is (f R(t) ..), and R of a quantified formula is the formula itself.
+//! and last R of the formula. R of v's `ite` is v, R of another `(f t ..)` is `(f R(t) ..)`, and R of a quantified formula is the
+//! formula itself.
 
-ghost use Rattle.std.specs.Prelude.{◌≡◌, ◌++◌, ◌∷◌, [], true, false, not, length, filter, flat_map, is_some, None, All, IfOk, OnOk};
+ghost use Rattle.std.specs.Prelude.{◌≡◌, ◌++◌, ◌∷◌, [], true, filter, flat_map, All, IfOk, OnOk};
 ghost use Rattle.ite_free.specs.Ite as plain;
-ghost use Rattle.ite_free.specs.Removing.{is_choice, AreInOrder, AreConstants, IsReplaced, AreReplaced, AreOperandsReplaced, IsDone, IsFit, AreOperandsFit};
+ghost use Rattle.ite_free.specs.Removing.{is_choice, AreConstants};
 ghost use Rattle.normal_forms.specs.Nodes.{IsFormula};
-ghost use Rattle.normal_forms.specs.Shape.{is_quantified};
-ghost use Rattle.quantifier_forms.specs.Memos.{result_in, known_in};
-ghost use Rattle.smt_terms.specs.declared.ids.NodeId.{NodeId};
+ghost use Rattle.quantifier_forms.specs.Memos.{known_in};
 ghost use Rattle.smt_terms.specs.Connectives.{implies, equal};
-ghost use Rattle.smt_terms.specs.Groups.{Named, constant_for};
+ghost use Rattle.smt_terms.specs.Groups.{Named};
 ghost use Rattle.smt_terms.specs.Rank.{sort_of};
 ghost use Rattle.smt_terms.specs.Sorts.{Symbol};
 ghost use Rattle.smt_terms.specs.Term.{constant};
+ghost use Rattle.term_groups.specs.Replacing.{AreInOrder, AreOperandsReplaced, IsDone, IsFit, AreOperandsFit};
 ghost use Rattle.term_groups.specs.Seen.{named_at, IsGroup};
 ghost use Rattle.term_subst.specs.Substituting.{IsLater, NeverGivesGained};
-ghost use Rattle.term_table.specs.Formulas.{Formulas, tree, trees_at, IsNode, AreNodes};
+ghost use Rattle.term_table.specs.Formulas.{tree, trees_at, IsNode, AreNodes};
 ghost use Rattle.term_walk.specs.Walking.{GrowsTo};
 
 use normal_forms::making::negation;
 use normal_forms::shapes::is_formula;
-use quantifier_forms::listing::Choice;
 use quantifier_forms::memo::Memo;
-use quantifier_forms::rebuilding::{is_binder, rebuilt};
 use smt_terms::NodeId;
 use smt_values::Op;
 use std::alloc::{AllocError, Global};
 use term_groups::constants::{Constants, draw_constants};
 use term_groups::making::{equation, implication};
-use term_groups::parts::parts;
+use term_groups::parts::{Outside, parts};
+use term_groups::replacing::{keep_constants, replace_all};
 use term_subst::{Fresh, Group};
 use term_table::{Nodes, Table, know_table};
-
-// All that stands outside quantifiers.
-#[derive(Clone, Copy)]
-struct Outside;
-
-impl Choice for Outside {
-    ghost skips = { λ _ _. false };
-
-    ghost opens = { λ _ t k. not (is_quantified (tree t k)) };
-
-    fn skips(&self, _id: NodeId) -> bool {
-        false
-    }
-
-    fn opens(&self, table: &Table, id: NodeId) -> bool {
-        !is_binder(table, id)
-    }
-}
 
 // Whether a node is an `ite` of another sort than Bool.
 fn is_term_ite(table: &Table, id: NodeId) -> bool
@@ -80,56 +61,8 @@ fn term_ites(alloc: Global, table: &Table, order: &[NodeId]) -> Result<Vec<NodeI
     Ok(ites)
 }
 
-// The constants, as the results of their `ite`s.
-fn keep_constants(alloc: Global, constants: &Constants) -> Result<Memo, AllocError>
-    requires { length constants.now.nodes ≡ length constants.now.symbols }
-    ensures replaced { (t : Formulas) → AreConstants t constants.now → IfOk result (AreReplaced t (named_at t constants.now.symbols)) }
-    ensures kept { IfOk result (λ m. All (λ p. is_some (result_in m 0 p.1) ≡ true) constants.now.symbols) }
-{
-    let mut memo = Memo::new(alloc);
-    for i in 0..constants.symbols.len() {
-        memo.set(0, constants.symbols.get(i).1, constants.nodes.get(i))?;
-    }
-    Ok(memo)
-}
-
-// What becomes of a node that has no constant and whose operands are done.
-fn replaced(alloc: Global, table: &mut Table, memo: &Memo, id: NodeId) -> Result<NodeId, AllocError>
-    requires node { IsNode table.old id }
-    requires fit { AreOperandsFit table.old memo.now id }
-    ensures replaced { (ns : Named) → AreOperandsReplaced table.old ns memo.now id → constant_for ns (tree table.old id) ≡ None → IfOk result (IsReplaced table.new ns id) }
-    ensures grows { GrowsTo table.old table.new }
-    ensures symbols { table.new.symbols ≡ table.old.symbols }
-{
-    if is_binder(table, id) {
-        return Ok(id);
-    }
-    let kids = memo.known_all(alloc, 0, table.kids(id))?;
-    let result = rebuilt(table, id, &kids)?;
-    Ok(result)
-}
-
-// Keeps what becomes of a node whose operands are done, where it has no result yet.
-fn settle(alloc: Global, table: &mut Table, memo: &mut Memo, id: NodeId) -> Result<(), AllocError>
-    requires node { IsNode table.old id }
-    requires fit { AreOperandsFit table.old memo.old id }
-    ensures replaced { (ns : Named) → AreReplaced table.old ns memo.old → AreOperandsReplaced table.old ns memo.old id → (result_in memo.old 0 id ≡ None → constant_for ns (tree table.old id) ≡ None)
-        → OnOk result (AreReplaced table.new ns memo.new) }
-    ensures done { OnOk result (is_some (result_in memo.new 0 id) ≡ true) }
-    ensures stay { OnOk result ((k : NodeId) → is_some (result_in memo.old 0 k) ≡ true → is_some (result_in memo.new 0 k) ≡ true) }
-    ensures grows { GrowsTo table.old table.new }
-    ensures symbols { table.new.symbols ≡ table.old.symbols }
-{
-    if memo.get(0, id).is_some() {
-        return Ok(());
-    }
-    let result = replaced(alloc, table, memo, id)?;
-    memo.set(0, id, result)?;
-    Ok(())
-}
-
 // What becomes of these nodes with the constants in place.
-fn replace_all(
+fn replace_ites(
     alloc: Global,
     table: &mut Table,
     order: &[NodeId],
@@ -144,9 +77,7 @@ fn replace_all(
 {
     know_table(table);
     let mut memo = keep_constants(alloc, constants)?;
-    for id in order {
-        settle(alloc, table, &mut memo, *id)?;
-    }
+    replace_all(alloc, table, order, &mut memo)?;
     Ok(memo)
 }
 
@@ -243,7 +174,7 @@ pub fn remove_ite(
     let ites = term_ites(alloc, table, &order)?;
     let constants = draw_constants(alloc, table, &ites, fresh)?;
     know_table(table);
-    let memo = replace_all(alloc, table, &order, &constants)?;
+    let memo = replace_ites(alloc, table, &order, &constants)?;
     let mut asserts = definitions(alloc, table, &memo, &constants)?;
     asserts.push(memo.known(0, id))?;
     Ok(Group {

@@ -3,4 +3,5 @@ pub mod Drawing
 pub mod Every
 pub mod Grouping
 pub mod Parts
+pub mod Replacing
 pub mod Seen

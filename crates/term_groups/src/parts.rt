@@ -1,6 +1,7 @@
 //! The parts of a term that a pass looks into.
 
-ghost use Rattle.std.specs.Prelude.{◌≡◌, Bool, List, false, filter, IfOk};
+ghost use Rattle.std.specs.Prelude.{◌≡◌, Bool, List, false, not, filter, IfOk};
+ghost use Rattle.term_walk.specs.Binders.{is_quantified};
 ghost use Rattle.quantifier_forms.specs.Tasks.{TellAlike};
 ghost use Rattle.smt_terms.specs.declared.ids.NodeId.{NodeId};
 ghost use Rattle.smt_terms.specs.Sorts.{Variable};
@@ -12,6 +13,25 @@ use quantifier_forms::listing::{Choice, list};
 use smt_terms::NodeId;
 use std::alloc::{AllocError, Global};
 use term_table::Table;
+use term_walk::is_binder;
+
+/// All that stands outside quantifiers.
+#[derive(Clone, Copy)]
+pub struct Outside;
+
+impl Choice for Outside {
+    ghost skips = { λ _ _. false };
+
+    ghost opens = { λ _ t k. not (is_quantified (tree t k)) };
+
+    fn skips(&self, _id: NodeId) -> bool {
+        false
+    }
+
+    fn opens(&self, table: &Table, id: NodeId) -> bool {
+        !is_binder(table, id)
+    }
+}
 
 /// The distinct subterms of a node that are reached through those that the choice opens, each behind its operands, these from left
 /// to right. The choice skips none, and opens nothing that is quantified.

@@ -6,8 +6,9 @@ use Rattle.smt_terms.specs.Term.{symbol, Term, over}
 use Rattle.term_table.specs.Formulas.{tree, trees_at, operands, symbol_at, IsSymbol, AreNodes}
 use Rattle.quantifier_forms.specs.Rebuilding.{AreLike}
 use Rattle.quantifier_forms.proofs.Sweeps.{kids-for, known-nodes, known-like, known-map}
-use Rattle.ackermann.specs.Replacing.{IsReplaced}
-use Rattle.ackermann.proofs.ReplacedNodes.{kids-fit, plain-use, some-use}
+use Rattle.term_groups.specs.Replacing.{IsReplaced}
+use Rattle.term_groups.proofs.ReplacedNodes.{kids-fit}
+use Rattle.ackermann.proofs.KeptConstants.{plain-use, some-use}
 use Rattle.ackermann.proofs.entering.live_use.Goals as goal
 
 pub returns-clause-live : goal.returns-clause-live

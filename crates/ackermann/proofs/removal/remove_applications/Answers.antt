@@ -3,31 +3,33 @@ use Rattle.smt_terms.specs.declared.ids.NodeId.{NodeId}
 use Rattle.smt_terms.specs.Groups.{draw_each, with_constants}
 use Rattle.smt_terms.specs.Rank.{IsWellSorted}
 use Rattle.term_groups.specs.Grouping.{terms_of}
+use Rattle.term_groups.specs.Replacing.{is_open, IsReplaced, IsDone}
 use Rattle.term_groups.specs.Seen.{named_at}
 use Rattle.term_groups.proofs.Draws.{draws-for_each}
 use Rattle.term_groups.proofs.NodesDrawn.{named-grow}
+use Rattle.term_groups.proofs.PartNodes.{All-node, trees-same, parts-nodes, parts-in_order, root-among, drawn-done}
 use Rattle.term_subst.specs.Substituting.{NeverGivesGained}
 use Rattle.term_subst.proofs.Growing.{tree-grows, node-grows}
 use Rattle.term_table.specs.Formulas.{tree, trees_at, IsNode}
 use Rattle.ackermann.specs.Ackermann.{applications, without_constant, pairs}
 use Rattle.ackermann.specs.LiveUses.{named_uses, AreBehind}
 use Rattle.ackermann.specs.Removals.{is_use}
-use Rattle.ackermann.specs.Replacing.{is_new_use, is_open, all_named, IsReplaced, IsDone}
+use Rattle.ackermann.specs.Replacing.{is_new_use, all_named}
 use Rattle.ackermann.proofs.GrownUses.{named-stay, uses-grow}
 use Rattle.ackermann.proofs.NewUses.{new-parts, are-new_constants, new_constants-stay, new-behind}
-use Rattle.ackermann.proofs.RemovedUses.{All-node, trees-same, parts-nodes, parts-in_order, root-among, uses-done, removed-group}
+use Rattle.ackermann.proofs.RemovedUses.{removed-group}
 use Rattle.ackermann.proofs.removal.remove_applications.Goals as goal
 
-pub replace_all-requires-clause-order : goal.replace_all-requires-clause-order
-replace_all-requires-clause-order c =
+pub replace_uses-requires-clause-order : goal.replace_uses-requires-clause-order
+replace_uses-requires-clause-order c =
     parts-in_order c.args.table.now c.draw_constants.new.table c.in_ok-constants.ensures.grows c.args.id c.requires.formula.node c.in_ok-order.order.items c.deref-3.result.now c.deref-3.ensures.value
     c.in_ok-order.ensures.nodes (c.in_ok-order.ensures.parts is_open (λ k node. refl) (λ q xs u. refl))
 
-pub replace_all-requires-clause-uses : goal.replace_all-requires-clause-uses
-replace_all-requires-clause-uses c = (uses-grow c.args.table.now c.draw_constants.new.table c.in_ok-constants.ensures.grows c.args.uses.now c.requires.live).each
+pub replace_uses-requires-clause-uses : goal.replace_uses-requires-clause-uses
+replace_uses-requires-clause-uses c = (uses-grow c.args.table.now c.draw_constants.new.table c.in_ok-constants.ensures.grows c.args.uses.now c.requires.live).each
 
-pub replace_all-requires-clause-constants : goal.replace_all-requires-clause-constants
-replace_all-requires-clause-constants c =
+pub replace_uses-requires-clause-constants : goal.replace_uses-requires-clause-constants
+replace_uses-requires-clause-constants c =
     let t0 = c.args.table.now in
     let t1 = c.draw_constants.new.table in
     let us = c.args.uses.now in
@@ -45,7 +47,7 @@ replace_all-requires-clause-constants c =
 pub enter_all-requires-clause-uses : goal.enter_all-requires-clause-uses
 enter_all-requires-clause-uses c =
     let t1 = c.draw_constants.new.table in
-    uses-grow t1 c.replace_all.new.table c.in_ok-memo.ensures.grows c.args.uses.now (uses-grow c.args.table.now t1 c.in_ok-constants.ensures.grows c.args.uses.now c.requires.live)
+    uses-grow t1 c.replace_uses.new.table c.in_ok-memo.ensures.grows c.args.uses.now (uses-grow c.args.table.now t1 c.in_ok-constants.ensures.grows c.args.uses.now c.requires.live)
 
 pub enter_all-requires-clause-constants : goal.enter_all-requires-clause-constants
 enter_all-requires-clause-constants c =
@@ -61,7 +63,7 @@ enter_all-requires-clause-constants c =
     ap (trees_at t0) c.deref-2.ensures.value ∙ c.in_ok-new.ensures.terms ∙ ap (λ ks. filter (is_new_use before) (trees_at t0 ks)) c.deref.ensures.value in
     let uses_are : trees_at t0 c.deref-2.result.now ≡ without_constant before (applications u) =
     new_are ∙ new-parts before (trees_at t0 c.in_ok-order.order.items) u (c.in_ok-order.ensures.collected is_open is_use (λ k node. refl) (λ q xs v. refl)) in
-    new_constants-stay t1 c.replace_all.new.table us c.in_ok-constants.constants c.in_ok-memo.ensures.grows live.each
+    new_constants-stay t1 c.replace_uses.new.table us c.in_ok-constants.constants c.in_ok-memo.ensures.grows live.each
     (are-new_constants t0 t1 us c.deref-2.result.now (trees_at t0 c.in_ok-order.order.items) c.in_ok-constants.constants u c.args.fresh.now c.in_ok-constants.ensures.grows c.requires.live.each fine new_are uses_are
     c.in_ok-constants.ensures.pairs c.in_ok-constants.ensures.nodes c.in_ok-constants.ensures.symbols c.in_ok-constants.ensures.terms)
 
@@ -69,7 +71,7 @@ pub enter_all-requires-clause-done : goal.enter_all-requires-clause-done
 enter_all-requires-clause-done c =
     let t0 = c.args.table.now in
     let t1 = c.draw_constants.new.table in
-    let t2 = c.replace_all.new.table in
+    let t2 = c.replace_uses.new.table in
     let us = c.args.uses.now in
     let before = named_uses t0 us in
     let u = tree t0 c.args.id in
@@ -82,15 +84,17 @@ enter_all-requires-clause-done c =
     ap terms_of c.in_ok-constants.ensures.symbols ∙ draws-for_each (trees_at t0 c.deref-2.result.now) c.args.fresh.now ∙ new_are in
     let same : all_named t2 us c.in_ok-constants.constants ≡ all_named t1 us c.in_ok-constants.constants =
     (λ i. named-stay t1 t2 c.in_ok-memo.ensures.grows us live.each i ++ named-grow t1 t2 c.in_ok-memo.ensures.grows c.in_ok-constants.constants.symbols c.in_ok-constants.ensures.pairs i) in
-    uses-done t1 t2 c.know_table.ensures c.in_ok-memo.ensures.grows c.deref-3.result.now nodes c.in_ok-constants.constants c.in_ok-constants.ensures.pairs (all_named t2 us c.in_ok-constants.constants) c.in_ok-memo.memo
+    drawn-done t1 t2 c.know_table.ensures c.deref-3.result.now nodes c.in_ok-constants.constants c.in_ok-constants.ensures.pairs (all_named t2 us c.in_ok-constants.constants) c.in_ok-memo.memo
     (λ k d lt. subst (λ ns. IsDone t2 ns c.in_ok-memo.memo (get_or c.deref-3.result.now k d)) (sym same) (c.in_ok-memo.ensures.done k d lt))
-    before (trees_at t0 c.in_ok-order.order.items) (trees-same t0 t1 c.in_ok-constants.ensures.grows c.args.id c.requires.formula.node c.in_ok-order.order.items c.deref-3.result.now c.deref-3.ensures.value c.in_ok-order.ensures.nodes parts) terms
+    (is_new_use before)
+    (terms
+    ∙ ap (filter (is_new_use before)) (sym (trees-same t0 t1 c.in_ok-constants.ensures.grows c.args.id c.requires.formula.node c.in_ok-order.order.items c.deref-3.result.now c.deref-3.ensures.value c.in_ok-order.ensures.nodes parts)))
 
 pub enter_all-requires-clause-behind : goal.enter_all-requires-clause-behind
 enter_all-requires-clause-behind c =
     let t0 = c.args.table.now in
     let t1 = c.draw_constants.new.table in
-    let t2 = c.replace_all.new.table in
+    let t2 = c.replace_uses.new.table in
     let us = c.args.uses.now in
     let before = named_uses t0 us in
     let u = tree t0 c.args.id in
@@ -129,7 +133,7 @@ pub returns-clause-named : goal.returns-clause-named
 returns-clause-named c =
     let t0 = c.args.table.now in
     let t1 = c.draw_constants.new.table in
-    let t2 = c.replace_all.new.table in
+    let t2 = c.replace_uses.new.table in
     let us = c.args.uses.now in
     let before = named_uses t0 us in
     let u = tree t0 c.args.id in
@@ -147,7 +151,7 @@ pub returns-clause-group : goal.returns-clause-group
 returns-clause-group c =
     let t0 = c.args.table.now in
     let t1 = c.draw_constants.new.table in
-    let t2 = c.replace_all.new.table in
+    let t2 = c.replace_uses.new.table in
     let us = c.args.uses.now in
     let before = named_uses t0 us in
     let u = tree t0 c.args.id in

@@ -1,5 +1,5 @@
--- Nodes with constants in place of the `ite`s below them.
-use Rattle.std.proofs.Common.{◌≡◌, ℕ, ◌+◌, ◌<◌, inl, inr, true, false, List, map, length, get_or, take, All, Option, Some, None, is_some, unwrap_or, refl, ap, sym, ◌∙◌, subst, arith}
+-- Nodes with constants in place of the terms below them that have some.
+use Rattle.std.proofs.Common.{◌≡◌, ℕ, ◌+◌, ◌<◌, inl, inr, Bool, true, false, List, map, length, get_or, take, All, Option, Some, None, is_some, unwrap_or, refl, ap, sym, ◌∙◌, subst, arith}
 use Rattle.std.proofs.lemmas.Bool.Decides.{eqb_tells}
 use Rattle.std.proofs.lemmas.List.{get_or-map, length-map}
 use Rattle.std.proofs.lemmas.List.Elements.{All-weaker, All-more}
@@ -11,14 +11,14 @@ use Rattle.smt_terms.specs.Sorts.{Symbol}
 use Rattle.smt_terms.specs.Term.{Term, apply, quantified, Terms, none, ◌⨾◌, list, terms, constant}
 use Rattle.term_table.specs.Formulas.{Formulas, no_tree, no_symbol, tree, tree_in, trees_at, symbol_at, operands, IsNode, IsSymbol}
 use Rattle.term_walk.specs.Walking.{GrowsTo}
-use Rattle.normal_forms.specs.Shape.{is_quantified}
+use Rattle.term_walk.specs.Binders.{is_quantified}
 use Rattle.quantifier_forms.specs.Memos.{Results, result_in, known_in, Sets}
 use Rattle.quantifier_forms.specs.Rebuilding.{with_operands, is_number, IsLike}
 use Rattle.quantifier_forms.proofs.Sweeps.{tree-stays, node-stays, kids-for, known-map}
 use Rattle.quantifier_forms.proofs.Memos.{sets-each}
 use Rattle.term_groups.specs.declared.constants.Constants.{Constants}
 use Rattle.term_groups.specs.Seen.{named_at}
-use Rattle.ite_free.specs.Removing.{is_choice, AreConstants, IsReplaced, AreReplaced, AreOperandsReplaced, IsDone, IsFit, AreOperandsFit}
+use Rattle.term_groups.specs.Replacing.{AreConstantsFor, IsReplaced, AreReplaced, AreOperandsReplaced, IsDone, IsFit, AreOperandsFit}
 
 -- ---- the same nodes under another table
 
@@ -62,9 +62,10 @@ pub rebuilt-constants : (ns : Named) (u : Term) → is_quantified u ≡ false �
 rebuilt-constants ns (apply h ts) plain e = ap (λ o. constant_or o (apply h (with_constants_each ns ts))) e ∙ ap (apply h) (sym (each-map ns ts))
 rebuilt-constants ns (quantified q xs body) plain e = absurd cc
 
-pub choice-constant : (ns : Named) (u : Term) (f : Symbol) → is_choice u ≡ true → constant_for ns u ≡ Some f → with_constants ns u ≡ constant f
-choice-constant ns (apply h ts) f choice e = ap (λ o. constant_or o (apply h (with_constants_each ns ts))) e
-choice-constant ns (quantified q xs body) f choice e = absurd cc
+-- one with a constant becomes that
+pub found-constant : (ns : Named) (u : Term) (f : Symbol) → is_quantified u ≡ false → constant_for ns u ≡ Some f → with_constants ns u ≡ constant f
+found-constant ns (apply h ts) f plain e = ap (λ o. constant_or o (apply h (with_constants_each ns ts))) e
+found-constant ns (quantified q xs body) f plain e = absurd cc
 
 pub rebuilt-replaced : (t new : Formulas) (ns : Named) (m : Results) (id r : NodeId) (ks : List NodeId) → GrowsTo t new → IsNode t id → is_quantified (tree t id) ≡ false → constant_for ns (tree t id) ≡ None
     → AreOperandsReplaced t ns m id → trees_at t ks ≡ operands (tree t id) → All (λ k. k.0 < id.0) ks → IsNode new r → tree new r ≡ with_operands (tree t id) (trees_at t (map (known_in m 0) ks)) → IsLike (tree t id) (tree new r) → IsReplaced new ns id r
@@ -87,7 +88,7 @@ rebuilt-replaced t new ns m id r ks grows node plain none_there ready same below
 pub sets-replaced : (old new : Formulas) (ns : Named) (m0 m1 : Results) (k r : NodeId) → GrowsTo old new → AreReplaced old ns m0 → IsReplaced new ns k r → Sets m0 m1 0 k r → AreReplaced new ns m1
 sets-replaced old new ns m0 m1 k r grows are one sets = sets-each m0 m1 0 k r (IsReplaced new ns) sets (all-stay old new ns m0 grows are) one
 
--- ---- the constant of an `ite`
+-- ---- the constant of a term
 
 module _ (t : Formulas) (ps : List (SymId × NodeId)) (i : ℕ) (p : SymId × NodeId) (lt : i < length ps) (at : get_or ps i p ≡ p) where
   abbrev named : SymId × NodeId → Symbol × Term
@@ -102,25 +103,36 @@ module _ (t : Formulas) (ps : List (SymId × NodeId)) (i : ℕ) (p : SymId × No
       let n = length-map ps named in
       subst P (at-pair d) (all i d (omega (arith, n)))
 
-pub constant-replaced : (t : Formulas) (c : Constants) → AreConstants t c → (i : ℕ) (p : SymId × NodeId) (r : NodeId) → i < length c.symbols → i < length c.nodes → get_or c.symbols i p ≡ p → get_or c.nodes i r ≡ r → IsReplaced t (named_at t c.symbols) p.1 r
-constant-replaced t c are i p r lt within at here =
+-- the own nodes of constants
+pub constant-at : (t : Formulas) (c : Constants) → trees_at t c.nodes ≡ map (λ n. constant n.0) (named_at t c.symbols) → (i : ℕ) (p : SymId × NodeId) (r : NodeId) → i < length c.symbols → i < length c.nodes
+    → get_or c.symbols i p ≡ p → get_or c.nodes i r ≡ r → tree t r ≡ constant (symbol_at t p.0)
+constant-at t c terms i p r lt within at here =
     let ns : Named = named_at t c.symbols in
     let d : Symbol × Term = (no_symbol, no_tree) in
-    let pair : IsSymbol t p.0 × IsNode t p.1 = subst (λ (q : SymId × NodeId). IsSymbol t q.0 × IsNode t q.1) at (are.pairs i p lt) in
-    let choice : is_choice (tree t p.1) ≡ true = of-pair t c.symbols i p lt at (λ n. is_choice n.1 ≡ true) are.choices in
-    let own : constant_for ns (tree t p.1) ≡ Some (symbol_at t p.0) = of-pair t c.symbols i p lt at (λ n. constant_for ns n.1 ≡ Some n.0) are.own in
-    let like : IsLike (tree t p.1) (constant (symbol_at t p.0)) = of-pair t c.symbols i p lt at (λ n. IsLike n.1 (constant n.0)) are.like in
     let n : length ns ≡ length c.symbols = length-map c.symbols (λ q. (symbol_at t q.0, tree t q.1)) in
-    let constant_is : tree t r ≡ constant (symbol_at t p.0) =
     ap (tree t) (sym here)
     ∙ sym (get_or-map (tree_in t.trees) c.nodes i r no_tree within)
-    ∙ ap (λ us. get_or us i no_tree) are.terms
+    ∙ ap (λ us. get_or us i no_tree) terms
     ∙ get_or-map (λ (q : Symbol × Term). constant q.0) ns i d no_tree (omega (arith, n))
-    ∙ ap (λ (q : Symbol × Term). constant q.0) (at-pair t c.symbols i p lt at d) in
+    ∙ ap (λ (q : Symbol × Term). constant q.0) (at-pair t c.symbols i p lt at d)
+
+pub as-many : (t : Formulas) (c : Constants) → trees_at t c.nodes ≡ map (λ n. constant n.0) (named_at t c.symbols) → length c.nodes ≡ length c.symbols
+as-many t c terms =
+    sym (length-map c.nodes (tree_in t.trees))
+    ∙ ap length terms
+    ∙ length-map (named_at t c.symbols) (λ (n : Symbol × Term). constant n.0)
+    ∙ length-map c.symbols (λ (q : SymId × NodeId). let n : Symbol × Term = (symbol_at t q.0, tree t q.1) in n)
+
+pub constant-replaced : (t : Formulas) (wanted : Term → Bool) (c : Constants) → AreConstantsFor t wanted c → (ns : Named) → All (λ n. with_constants ns n.1 ≡ constant n.0) (named_at t c.symbols)
+    → (i : ℕ) (p : SymId × NodeId) (r : NodeId) → i < length c.symbols → i < length c.nodes → get_or c.symbols i p ≡ p → get_or c.nodes i r ≡ r → IsReplaced t ns p.1 r
+constant-replaced t wanted c are ns own i p r lt within at here =
+    let pair : IsSymbol t p.0 × IsNode t p.1 = subst (λ (q : SymId × NodeId). IsSymbol t q.0 × IsNode t q.1) at (are.pairs i p lt) in
+    let constant_is : tree t r ≡ constant (symbol_at t p.0) = constant-at t c are.terms i p r lt within at here in
+    let like : IsLike (tree t p.1) (constant (symbol_at t p.0)) = of-pair t c.symbols i p lt at (λ n. IsLike n.1 (constant n.0)) are.like in
     record {
       node = pair.1;
       result = subst (IsNode t) here (are.nodes i r within);
-      term = constant_is ∙ sym (choice-constant ns (tree t p.1) (symbol_at t p.0) choice own);
+      term = constant_is ∙ sym (of-pair t c.symbols i p lt at (λ n. with_constants ns n.1 ≡ constant n.0) own);
       like = record { sort = ap sort_of constant_is ∙ like.sort; number = ap is_number constant_is ∙ like.number };
     }
 
@@ -162,3 +174,8 @@ done-stays old new ns m id grows h =
           let kid_stays : tree new k ≡ tree old k = tree-stays old new k grows node in
           replaced-stays old new ns k (known_in m 0 k) grows (h.operands (ap is_quantified (sym stays) ∙ plain) k below ((λ i. has_term (operands (sym stays i)) (sym kid_stays i)) ∙ there));
     }
+
+-- ---- terms with constants of their own
+
+pub own-become : (ns ms : Named) → All (λ n. is_quantified n.1 ≡ false) ms → All (λ n. constant_for ns n.1 ≡ Some n.0) ms → All (λ n. with_constants ns n.1 ≡ constant n.0) ms
+own-become ns ms plain own k d lt = found-constant ns (get_or ms k d).1 (get_or ms k d).0 (plain k d lt) (own k d lt)

@@ -4,8 +4,8 @@ use Rattle.smt_terms.specs.Term.{Term}
 use Rattle.term_table.specs.Formulas.{tree, trees_at, AreNodes}
 use Rattle.quantifier_forms.specs.Rebuilding.{with_operands, AreLike}
 use Rattle.quantifier_forms.proofs.Sweeps.{known-nodes, known-like}
-use Rattle.ackermann.proofs.ReplacedNodes.{rebuilt-replaced, kids-fit}
-use Rattle.ackermann.proofs.replacing.over_results.Goals as goal
+use Rattle.term_groups.proofs.ReplacedNodes.{rebuilt-replaced, kids-fit}
+use Rattle.term_groups.proofs.replacing.replaced.Goals as goal
 
 pub rebuilt-requires-clause-kids : goal.rebuilt-requires-clause-kids
 rebuilt-requires-clause-kids c =

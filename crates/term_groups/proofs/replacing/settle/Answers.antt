@@ -1,7 +1,7 @@
 use Rattle.std.proofs.Common.{is_some, ap, sym, ◌∙◌}
 use Rattle.quantifier_forms.specs.Memos.{result_in}
-use Rattle.ite_free.proofs.ReplacedNodes.{sets-replaced, no-result}
-use Rattle.ite_free.proofs.removal.settle.Goals as goal
+use Rattle.term_groups.proofs.ReplacedNodes.{sets-replaced, no-result}
+use Rattle.term_groups.proofs.replacing.settle.Goals as goal
 
 pub returns-clause-replaced : goal.returns-clause-replaced
 returns-clause-replaced c ns are ready missing =

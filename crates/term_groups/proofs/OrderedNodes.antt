@@ -1,5 +1,5 @@
 -- Nodes in an order in which each stands behind its operands, and what becomes of them one after the other.
-use Rattle.std.proofs.Common.{◌≡◌, ℕ, suc, ◌<◌, ◌≤◌, Bool, true, false, not, cond, List, [], ◌∷◌, ◌++◌, length, get_or, take, drop, All, Some, None, is_some, refl, ap, sym, ◌∙◌, subst, arith, drop-cons}
+use Rattle.std.proofs.Common.{◌≡◌, ℕ, suc, ◌<◌, ◌≤◌, Bool, true, false, not, cond, List, [], ◌∷◌, ◌++◌, length, get_or, take, drop, All, Option, Some, None, is_some, refl, ap, sym, ◌∙◌, subst, arith, drop-cons}
 use Rattle.std.proofs.lemmas.List.{map-append, take-append-drop, length-take}
 use Rattle.std.proofs.lemmas.List.Elements.{All-head, All-tail, All-take}
 use Rattle.smt_terms.specs.declared.ids.NodeId.{NodeId}
@@ -12,14 +12,14 @@ use Rattle.term_table.specs.Formulas.{Formulas, no_tree, tree, tree_in, trees_at
 use Rattle.term_walk.specs.FreeLists.{has_node}
 use Rattle.term_walk.specs.Walking.{GrowsTo}
 use Rattle.term_walk.proofs.Members.{place-of}
-use Rattle.normal_forms.specs.Shape.{is_quantified}
+use Rattle.term_walk.specs.Binders.{is_quantified}
 use Rattle.quantifier_forms.specs.Memos.{Results, result_in}
 use Rattle.quantifier_forms.proofs.Stands.{term-among}
 use Rattle.quantifier_forms.proofs.Sweeps.{tree-stays, at-number, taken-at, AreDone, number-result}
 use Rattle.term_groups.specs.Parts.{operands_of}
 use Rattle.term_groups.specs.Seen.{named_at, ArePairs}
-use Rattle.ite_free.specs.Removing.{AreInOrder, AreReplaced, AreOperandsReplaced, IsDone}
-use Rattle.ite_free.proofs.ReplacedNodes.{known-replaced}
+use Rattle.term_groups.specs.Replacing.{AreInOrder, AreReplaced, AreOperandsReplaced, IsDone}
+use Rattle.term_groups.proofs.ReplacedNodes.{known-replaced}
 
 -- ---- operands stand before
 
@@ -94,3 +94,12 @@ missing-constant t table m (p ∷ ps) pairs kept id node missing =
         let no : false ≡ true = ap is_some (sym missing) ∙ sym (number-result m 0 p.1 id number) ∙ some in
         absurd cc
     by false other rest = rest
+
+-- ---- results that stay were there
+
+pub missing-before : (m0 m1 : Results) (k : NodeId) → (is_some (result_in m0 0 k) ≡ true → is_some (result_in m1 0 k) ≡ true) → result_in m1 0 k ≡ None → result_in m0 0 k ≡ None
+missing-before m0 m1 k stays missing = by (result_in m0 0 k) refl
+  where
+    by : (o : Option NodeId) → result_in m0 0 k ≡ o → result_in m0 0 k ≡ None
+    by None e = e
+    by (Some r) e = let no : false ≡ true = ap is_some (sym missing) ∙ stays (ap is_some e) in absurd cc

@@ -5,9 +5,9 @@ use Rattle.smt_terms.specs.declared.ids.NodeId.{NodeId}
 use Rattle.smt_terms.specs.declared.ids.SymId.{SymId}
 use Rattle.quantifier_forms.specs.Memos.{result_in}
 use Rattle.quantifier_forms.proofs.Memos.{sets-each}
-use Rattle.ackermann.specs.Replacing.{all_named, IsReplaced}
-use Rattle.ackermann.proofs.ReplacedNodes.{constant-replaced, kept-more}
-use Rattle.ackermann.proofs.replacing.keep_constants.Goals as goal
+use Rattle.term_groups.specs.Replacing.{IsReplaced}
+use Rattle.term_groups.proofs.ReplacedNodes.{constant-replaced, kept-more}
+use Rattle.term_groups.proofs.replacing.keep_constants.Goals as goal
 
 pub loop-i-preserved : goal.loop-i-preserved
 loop-i-preserved c =
@@ -15,9 +15,9 @@ loop-i-preserved c =
     let within : c.loop-i.i < length ps = omega arith in
     let at = get_or_from_slice_get ps c.loop-i.i c.get.result c.get.result c.get.ensures in
     record {
-      replaced = λ t us are.
-          sets-each c.loop-i.memo c.set.new.self 0 c.get.result.1 c.get-in-loop-i.result (IsReplaced t (all_named t us c.args.constants.now)) c.in_ok-set.ensures.ok (c.loop-i.invariant.replaced t us are)
-          (constant-replaced t us c.args.constants.now are c.loop-i.i c.get.result c.get-in-loop-i.result within (omega arith) at
+      replaced = λ t wanted ns are own.
+          sets-each c.loop-i.memo c.set.new.self 0 c.get.result.1 c.get-in-loop-i.result (IsReplaced t ns) c.in_ok-set.ensures.ok (c.loop-i.invariant.replaced t wanted ns are own)
+          (constant-replaced t wanted c.args.constants.now are ns own c.loop-i.i c.get.result c.get-in-loop-i.result within (omega arith) at
           (get_or_from_slice_get c.args.constants.now.nodes c.loop-i.i c.get-in-loop-i.result c.get-in-loop-i.result c.get-in-loop-i.ensures));
       kept = kept-more c.loop-i.memo c.set.new.self ps c.loop-i.i c.get.result c.get-in-loop-i.result within at c.in_ok-set.ensures.ok c.loop-i.invariant.kept;
     }
