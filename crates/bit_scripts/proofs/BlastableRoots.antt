@@ -19,10 +19,11 @@ use Rattle.script_read.specs.Printable.{printable}
 use Rattle.models.specs.LiveTerms.{live_terms}
 use Rattle.bit_blast.specs.Blasted.{is_bits_head, is_bits_sort, is_bits, are_bits}
 use Rattle.bit_blast.specs.Laws.{AreBlastable, are_among}
-use Rattle.bit_scripts.specs.Scripts.{roots, first_refused, refused_root}
+use Rattle.models.specs.LiveRoots.{roots}
+use Rattle.bit_scripts.specs.Scripts.{first_refused, refused_root}
 use Rattle.bit_scripts.proofs.DistinctNames.{among_one}
 use Rattle.bit_scripts.proofs.LiveFormulas.{IsLiveFormula}
-use Rattle.bit_scripts.proofs.LiveNumbered.{roots_are}
+use Rattle.models.proofs.LiveRoots.{roots_are}
 use Rattle.bit_scripts.proofs.LivePoints.{LiveAt, live_at}
 use Rattle.bit_scripts.proofs.LiveStates.{AreLive}
 

@@ -22,7 +22,8 @@ use Rattle.script_read.specs.Printable.{is_usable}
 use Rattle.script_read.proofs.LiveSorts.{drawn_usable}
 use Rattle.bit_blast.specs.Blasted.{bit_of, bits_from, width_of, bits_of_constant, vector_constants}
 use Rattle.bit_blast.specs.Laws.{is_flag as has_truth_value, has_symbol, IsFlagFormula, BlastGivesFlagFormulas}
-use Rattle.bit_scripts.specs.Scripts.{roots, root_group, new_bits, is_flag_over, is_flag, flags}
+use Rattle.models.specs.LiveRoots.{roots, is_flag_over, is_flag, flags}
+use Rattle.bit_scripts.specs.Scripts.{root_group, new_bits}
 use Rattle.bit_scripts.proofs.BlastableRoots.{RootsFit}
 use Rattle.bit_scripts.proofs.BooleanTerms.{IsFlag}
 use Rattle.bit_scripts.proofs.DeclaredFlags.{declared_for}

@@ -7,7 +7,8 @@ use Rattle.smt_terms.specs.Term.{Term}
 use Rattle.script_read.specs.Commands.{Command, Signature, all_asserted}
 use Rattle.bit_blast.specs.Laws.{is_boolean, BlastKeepsValues, BlastGivesFlagFormulas, BlastLifts, BlastLowers}
 use Rattle.bit_scripts.specs.Laws.{IsBlasted, ScriptsAreBlasted}
-use Rattle.bit_scripts.specs.Scripts.{root_group, is_flag}
+use Rattle.models.specs.LiveRoots.{is_flag}
+use Rattle.bit_scripts.specs.Scripts.{root_group}
 use Rattle.bit_scripts.proofs.BlastableRoots.{RootsFit, roots_fit}
 use Rattle.bit_scripts.proofs.BlastedFlags.{may_be_declared, may_be_asserted, all_flags}
 use Rattle.bit_scripts.proofs.CarriedChecks.{lifts_over, lowers_over}

@@ -19,10 +19,11 @@ use Rattle.script_read.specs.Satisfied.{sat}
 use Rattle.bit_blast.specs.Carried.{everywhere, lifted_value, kept_flag, lowered_graph}
 use Rattle.bit_blast.specs.Laws.{holds, ReadsBits, BlastKeepsValues, BlastLifts, BlastLowers}
 use Rattle.bit_scripts.specs.Laws.{IsModelAt}
-use Rattle.bit_scripts.specs.Scripts.{roots, root_group, new_bits, is_flag_over, is_flag, lifted_model, lowered_model}
+use Rattle.models.specs.LiveRoots.{roots, is_flag_over, is_flag}
+use Rattle.bit_scripts.specs.Scripts.{root_group, new_bits, lifted_model, lowered_model}
 use Rattle.bit_scripts.proofs.BlastableRoots.{RootsFit}
 use Rattle.bit_scripts.proofs.DeclaredFlags.{script_over, declared_for, signature_over, live_over, literals_over}
-use Rattle.bit_scripts.proofs.LiveNumbered.{roots_are}
+use Rattle.models.proofs.LiveRoots.{roots_are}
 
 -- ---- satisfaction
 

@@ -7,7 +7,8 @@ use Rattle.smt_terms.specs.Sorts.{Symbol}
 use Rattle.smt_terms.specs.Term.{Term}
 use Rattle.term_groups.specs.Grouping.{symbols_of}
 use Rattle.script_read.specs.Commands.{Command, declare, check, checked, ended, State, Point, points_from, points, nth_point, at_point, live_in, sorts_of_state, symbols_of_state, kinds, live, literals, Signature, signature, all_asserted, all_assumed}
-use Rattle.bit_scripts.specs.Scripts.{root_group, new_bits, flags, asserting, blasted_script}
+use Rattle.models.specs.LiveRoots.{flags}
+use Rattle.bit_scripts.specs.Scripts.{root_group, new_bits, asserting, blasted_script}
 
 abbrev pub script_over : List Symbol → List Term → List (Command Term)
 script_over fs us = map declare fs ++ (asserting 1 us ++ check ∷ [])

@@ -13,7 +13,6 @@ mod LiftedPlaces
 mod LiveBits
 mod LiveFits
 mod LiveFormulas
-mod LiveNumbered
 mod LivePoints
 mod LiveStates
 mod LiveTruths

@@ -15,7 +15,7 @@ use Rattle.models.specs.ModelView.{default_model, with_graph}
 use Rattle.bit_blast.specs.Blasted.{bits_from}
 use Rattle.bit_blast.specs.Carried.{everywhere, bit_value, lifted_value, lifted}
 use Rattle.bit_scripts.specs.Lifting.{with_flags}
-use Rattle.bit_scripts.specs.Scripts.{is_flag_over, is_flag}
+use Rattle.models.specs.LiveRoots.{is_flag_over, is_flag}
 use Rattle.bit_scripts.proofs.ModelTruths.{truth_read}
 
 -- the model n with these functions

@@ -13,7 +13,7 @@ use Rattle.script_read.specs.Commands.{signature}
 use Rattle.bit_blast.specs.Blasted.{is_vector, bits_of_constant, vector_constants}
 use Rattle.bit_scripts.specs.Bits.{AreBitsOf}
 use Rattle.bit_scripts.specs.Laws.{BlastedBitsAreLive}
-use Rattle.bit_scripts.specs.Scripts.{roots}
+use Rattle.models.specs.LiveRoots.{roots}
 use Rattle.bit_scripts.proofs.BlastableRoots.{roots_fit}
 
 -- what passes a test passes it, and was there before

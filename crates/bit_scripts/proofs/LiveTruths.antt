@@ -16,7 +16,7 @@ use Rattle.normal_forms.specs.Nodes.{IsFormula}
 use Rattle.script_terms.specs.Read.{is_of_sort, has_sort}
 use Rattle.script_read.specs.Commands.{Command, passed, declare_sort, declare, assert, check, check_assuming, push, pop, reset, reset_assertions, globals, exit, State, start, after, symbols_of_state}
 use Rattle.script_read.specs.Printable.{is_live_constant, is_live_literal, is_printable_term, may_stand, fixes, may_be_followed, printable_from, printable}
-use Rattle.term_table.specs.Formulas.{Formulas, tree, trees_at, IsNode}
+use Rattle.term_table.specs.Formulas.{Formulas, tree, IsNode}
 use Rattle.models.specs.LiveTerms.{with_number, live_terms, numbered_at, AreNumbered}
 use Rattle.bit_scripts.proofs.LiveFits.{Fits, EachFits, live_fits}
 
@@ -105,8 +105,3 @@ live_nodes t (l ∷ ls) nodes sorts =
     All-cons (IsFormula t) l.0 (map (λ k. k.0) ls)
     (record { node = All-head (λ k. IsNode t k.0) l ls nodes; sort = All-head IsBool (tree t l.0, l.1) (numbered_at t ls) sorts })
     (live_nodes t ls (All-tail (λ k. IsNode t k.0) l ls nodes) (All-tail IsBool (tree t l.0, l.1) (numbered_at t ls) sorts))
-
--- and their terms those of the numbered ones
-pub live_trees : (t : Formulas) (ls : List (NodeId × ℕ)) → trees_at t (map (λ l. l.0) ls) ≡ map (λ r. r.0) (numbered_at t ls)
-live_trees t [] = refl
-live_trees t (l ∷ ls) = ap (λ ts. tree t l.0 ∷ ts) (live_trees t ls)

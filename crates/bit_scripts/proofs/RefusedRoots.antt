@@ -6,14 +6,14 @@ use Rattle.smt_terms.specs.Term.{Term}
 use Rattle.term_table.specs.Formulas.{Formulas, trees_at}
 use Rattle.script_read.specs.Commands.{Command}
 use Rattle.models.specs.LiveTerms.{live_terms, numbered_at}
+use Rattle.models.proofs.LiveRoots.{live_trees, live_numbers}
 use Rattle.bit_blast.specs.declared.blasting.BlastFault.{BlastFault}
 use Rattle.bit_blast.specs.declared.blasting.BlastFault.TheVariants.{NotBits, Memory}
 use Rattle.bit_blast.specs.Blasted.{is_bits}
 use Rattle.bit_blast.specs.Faults.{IsFirstFault, IsFault}
 use Rattle.bit_scripts.specs.Nodes.{IsRefusedBy}
 use Rattle.bit_scripts.specs.Places.{fault_at}
-use Rattle.bit_scripts.specs.Scripts.{first_refused, roots, refused_root}
-use Rattle.bit_scripts.proofs.LiveTruths.{live_trees}
+use Rattle.bit_scripts.specs.Scripts.{first_refused, refused_root}
 
 abbrev terms_in : List (Term × ℕ) → List Term
 terms_in rs = map (λ r. r.0) rs
@@ -35,23 +35,15 @@ one_refused (r ∷ rs) (suc place) first =
     ap (λ b. if b then first_refused rs else Some r.1) (first.before 0 (omega arith))
     ∙ one_refused rs place (record { within = omega arith; here = first.here; before = λ i less. first.before (suc i) (omega (arith, less)) })
 
-same_numbers : (t : Formulas) (ls : List (NodeId × ℕ)) → numbers_in (numbered_at t ls) ≡ map (λ l. l.1) ls
-same_numbers t [] = refl
-same_numbers t (l ∷ ls) = ap (λ ns. l.1 ∷ ns) (same_numbers t ls)
-
 -- the fault of the roots is that of the check
 pub refused : (t : Formulas) (ls : List (NodeId × ℕ)) (cs : List (Command Term)) (k : ℕ) (fault : BlastFault) → numbered_at t ls ≡ live_terms cs k
     → IsFault (trees_at t (map (λ l. l.0) ls)) fault → IsRefusedBy cs k (fault_at ls fault)
 refused t ls cs k (NotBits place) same first =
     let here : IsFirstFault (terms_in (numbered_at t ls)) place = subst (λ us. IsFirstFault us place) (live_trees t ls) first in
-    ap first_refused (sym same) ∙ one_refused (numbered_at t ls) place here ∙ ap (λ ns. Some (get_or ns place 0)) (same_numbers t ls)
+    ap first_refused (sym same) ∙ one_refused (numbered_at t ls) place here ∙ ap (λ ns. Some (get_or ns place 0)) (live_numbers t ls)
 refused t ls cs k Memory same first = tt
 
 pub accepted : (t : Formulas) (ls : List (NodeId × ℕ)) (cs : List (Command Term)) (k : ℕ) → numbered_at t ls ≡ live_terms cs k
     → All (λ u. is_bits u ≡ true) (trees_at t (map (λ l. l.0) ls)) → refused_root cs k ≡ None
 accepted t ls cs k same all =
     ap first_refused (sym same) ∙ none_refused (numbered_at t ls) (subst (All (λ u. is_bits u ≡ true)) (live_trees t ls) all)
-
--- their terms are the roots
-pub roots_are : (t : Formulas) (ls : List (NodeId × ℕ)) (cs : List (Command Term)) (k : ℕ) → numbered_at t ls ≡ live_terms cs k → trees_at t (map (λ l. l.0) ls) ≡ roots cs k
-roots_are t ls cs k same = live_trees t ls ∙ ap terms_in same

@@ -1,8 +1,7 @@
 -- The commands that are made, over the nodes of a table: one after the other, and as commands with terms.
-use Rattle.std.proofs.Common.{◌≡◌, ◌∙◌, sym, ap, refl, ℕ, suc, ◌+◌, ◌<◌, Bool, cond, List, [], ◌∷◌, ◌++◌, map, take, length, get_or, slice_get, Some, All, append_assoc, arith}
-use Rattle.std.specs.Prelude.{filter}
-use Rattle.std.proofs.lemmas.List.{map-append, map_more, take_more, length-take}
-use Rattle.std.proofs.lemmas.List.Elements.{All-nil, All-cons, All-head, All-tail, All-append, All-push, All-map, All-weaker, filter-append}
+use Rattle.std.proofs.Common.{◌≡◌, ◌∙◌, sym, ap, refl, ℕ, suc, ◌+◌, List, [], ◌∷◌, ◌++◌, map, take, length, slice_get, Some, All, append_assoc, arith}
+use Rattle.std.proofs.lemmas.List.{map-append, take_more, length-take}
+use Rattle.std.proofs.lemmas.List.Elements.{All-nil, All-cons, All-head, All-tail, All-append, All-push, All-map, All-weaker}
 use Rattle.std.proofs.lemmas.Option.{slice_get_within, get_or_from_slice_get}
 use Rattle.smt_terms.specs.declared.ids.NodeId.{NodeId}
 use Rattle.smt_terms.specs.declared.ids.SymId.{SymId}
@@ -17,7 +16,8 @@ use Rattle.script_read.specs.declared.scripts.Command.{Command}
 use Rattle.script_read.specs.declared.scripts.Command.TheVariants.{Declare, Assert, Check}
 use Rattle.script_read.specs.CommandLists.{command_of, commands_of, IsCommandOf, AreCommandsOf}
 use Rattle.script_read.specs.Commands.{Command as CommandOf, declare, assert, check}
-use Rattle.bit_scripts.specs.Scripts.{is_flag, flags, new_bits, asserting, root_group, blasted_script}
+use Rattle.models.specs.LiveRoots.{flags}
+use Rattle.bit_scripts.specs.Scripts.{new_bits, asserting, root_group, blasted_script}
 use Rattle.bit_scripts.specs.Spelled.{declarations, assertions, group_commands}
 
 -- ---- one after the other
@@ -50,16 +50,6 @@ asserted_more cs ks i k e =
 
 abbrev pub declares : List Symbol → List (CommandOf Term)
 declares fs = map declare fs
-
-pub flags_more : (t : Formulas) (fs : List SymId) (i : ℕ) (d : SymId) (b : Bool) → i < length fs → is_flag (symbol_at t (get_or fs i d)) ≡ b
-    → declares (filter is_flag (map (symbol_at t) (take (i + 1) fs))) ≡ declares (filter is_flag (map (symbol_at t) (take i fs))) ++ declares (cond b (symbol_at t (get_or fs i d) ∷ []) [])
-flags_more t fs i d b less e =
-    let before = map (symbol_at t) (take i fs) in
-    let f = symbol_at t (get_or fs i d) in
-    ap (λ gs. declares (filter is_flag gs)) (map_more (symbol_at t) fs i d less)
-    ∙ ap declares (filter-append is_flag before (f ∷ []))
-    ∙ map-append declare (filter is_flag before) (filter is_flag (f ∷ []))
-    ∙ ap (λ c. declares (filter is_flag before) ++ declares (cond c (f ∷ []) [])) e
 
 -- ---- as commands with terms
 

@@ -9,7 +9,8 @@ use Rattle.script_read.specs.Printable.{printable}
 use Rattle.script_read.specs.Satisfied.{sat}
 use Rattle.bit_blast.specs.Laws.{is_boolean}
 use Rattle.bit_scripts.specs.Bits.{AreBitsOf}
-use Rattle.bit_scripts.specs.Scripts.{is_flag, new_bits, refused_root, blasted_script, lifted_model, lowered_model}
+use Rattle.models.specs.LiveRoots.{is_flag}
+use Rattle.bit_scripts.specs.Scripts.{new_bits, refused_root, blasted_script, lifted_model, lowered_model}
 
 abbrev pub IsModelAt : List (Command Term) → ℕ → Model → Type 0
 IsModelAt cs k m = IsModelOver (signature cs k).sorts (signature cs k).symbols m

@@ -13,7 +13,7 @@ use Rattle.models.specs.ModelView.{with_graph}
 use Rattle.bit_blast.specs.Blasted.{bit_of, width_of}
 use Rattle.bit_blast.specs.Carried.{everywhere}
 use Rattle.bit_scripts.specs.declared.lifting.Bit.{Bit}
-use Rattle.bit_scripts.specs.Scripts.{is_flag}
+use Rattle.models.specs.LiveRoots.{is_flag}
 
 -- n with the truth values among these symbols as m has them
 abbrev pub with_flags : List Symbol → Model → Model → Model

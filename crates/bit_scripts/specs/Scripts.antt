@@ -1,21 +1,18 @@
 -- The check of a script over bit vectors as a script over truth values: declarations of the truth values that are declared at the
 -- check and of the new ones, what is made of each live assertion and of each literal of the check, and a check. SMT-LIB 2.6,
 -- section 4.2.
-use Rattle.std.specs.Prelude.{ℕ, suc, Bool, true, false, List, [], ◌∷◌, ◌++◌, map, filter, Option, Some, None, if◌then◌else◌}
+use Rattle.std.specs.Prelude.{ℕ, suc, List, [], ◌∷◌, ◌++◌, map, Option, Some, None, if◌then◌else◌}
 use Rattle.smt_terms.specs.Fresh.{Supply}
 use Rattle.smt_terms.specs.Groups.{Grouped, Named}
 use Rattle.smt_terms.specs.Models.{Model}
-use Rattle.smt_terms.specs.Sorts.{Sort, bool, Symbol}
 use Rattle.smt_terms.specs.Term.{Term}
 use Rattle.script_read.specs.Commands.{Command, declare, assert, check, signature}
+use Rattle.models.specs.LiveRoots.{roots, flags}
 use Rattle.models.specs.LiveTerms.{live_terms}
 use Rattle.bit_blast.specs.Blasted.{is_bits, blasted}
 use Rattle.bit_blast.specs.Carried.{lifted, lowered}
 
 -- ---- what is blasted
-
-abbrev pub roots : List (Command Term) → ℕ → List Term
-roots cs k = map (λ r. r.0) (live_terms cs k)
 
 abbrev pub root_group : List (Command Term) → ℕ → Supply → Grouped
 root_group cs k s = blasted (roots cs k) s
@@ -33,17 +30,6 @@ abbrev pub refused_root : List (Command Term) → ℕ → Option ℕ
 refused_root cs k = first_refused (live_terms cs k)
 
 -- ---- the commands
-
-abbrev pub is_flag_over : List Sort → Sort → Bool
-is_flag_over [] bool = true
-is_flag_over _ _ = false
-
--- a truth value, without arguments
-abbrev pub is_flag : Symbol → Bool
-is_flag f = is_flag_over f.args f.result
-
-abbrev pub flags : List (Command Term) → ℕ → List Symbol
-flags cs k = filter is_flag (signature cs k).symbols
 
 -- these terms asserted, the first with this number
 abbrev pub asserting : ℕ → List Term → List (Command Term)

@@ -15,8 +15,7 @@ ghost use Rattle.models.specs.ModelView.{model_at, IsModelOf};
 ghost use Rattle.term_groups.specs.Seen.{named_at, ArePairs};
 ghost use Rattle.term_table.specs.Formulas.{symbol_at, tree, IsNode, IsSymbol};
 
-use crate::scripts::is_flag;
-use models::{Model, Signature};
+use models::{Model, Signature, is_flag};
 use smt_terms::{NodeId, SymId};
 use smt_values::{Op, Scalar, Value};
 use std::alloc::{AllocError, Global};

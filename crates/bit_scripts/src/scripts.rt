@@ -4,20 +4,20 @@ ghost use Rattle.std.specs.Prelude.{◌≡◌, ◌≤◌, ◌++◌, map, count_b
 ghost use Rattle.bit_blast.specs.Blasted.{blasted};
 ghost use Rattle.bit_scripts.specs.Nodes.{IsBlastingOf, IsRefusedBy};
 ghost use Rattle.bit_scripts.specs.Places.{fault_at, IsPlaceIn};
-ghost use Rattle.bit_scripts.specs.Scripts.{is_flag, flags, root_group};
+ghost use Rattle.bit_scripts.specs.Scripts.{root_group};
 ghost use Rattle.bit_scripts.specs.Spelled.{declarations, assertions, group_commands};
+ghost use Rattle.models.specs.LiveRoots.{flags};
 ghost use Rattle.script_read.specs.CommandLists as lists;
 ghost use Rattle.script_read.specs.CommandLists.{commands_of, AreCommandsOf};
 ghost use Rattle.script_read.specs.Commands.{declare};
 ghost use Rattle.script_read.specs.Printable.{printable};
 ghost use Rattle.term_subst.specs.Substituting.{IsLater, NeverGivesGained};
-ghost use Rattle.term_table.specs.Formulas.{symbol_at, IsSymbol};
 ghost use Rattle.term_walk.specs.Walking.{GrowsTo};
 
 use bit_blast::{BlastFault, blast};
-use models::{live, signature_at};
+use models::{flags_at, live, roots_of};
 use script_read::{Command, Commands, Script};
-use smt_terms::{NodeId, SortId, SymId};
+use smt_terms::NodeId;
 use std::alloc::{AllocError, AllocFailed, Global};
 use term_subst::{Fresh, Group, SymPairs};
 use term_table::{Nodes, Table};
@@ -103,13 +103,6 @@ pub fn blast_check(
     }
 }
 
-// The nodes of these, in order.
-fn roots_of(alloc: Global, lives: &[(NodeId, u64)]) -> Result<Vec<NodeId>, AllocError>
-    ensures { IfOk result (λ roots. roots.items ≡ map (λ l. l.0) lives.now) }
-{
-    lives.iter().map(|live| live.0).collect(alloc)
-}
-
 // The fault that one of the nodes of these is, by its number.
 fn fault_among(lives: &[(NodeId, u64)], fault: BlastFault) -> BlastScriptFault
     requires { IsPlaceIn lives.now fault }
@@ -124,7 +117,7 @@ fn fault_among(lives: &[(NodeId, u64)], fault: BlastFault) -> BlastScriptFault
     }
 }
 
-// Declarations of the truth values without arguments that are declared at a check.
+// Declarations of the flags of a check.
 fn declared_flags(
     alloc: Global,
     table: &Table,
@@ -138,23 +131,12 @@ fn declared_flags(
     ensures numbers { IfOk result (AreCommandsOf table.now) }
     ensures commands { IfOk result (λ cs. commands_of table.now cs ≡ map declare (flags (commands_of table.now script.now.commands) check)) }
 {
-    let signature = signature_at(alloc, table, script, check)?;
+    let flags = flags_at(alloc, table, script, check)?;
     let mut commands = Commands::new(alloc);
-    for symbol in signature.symbols() {
-        if is_flag(table, *symbol) {
-            commands.push(Command::Declare(*symbol))?;
-        }
+    for flag in flags.as_slice() {
+        commands.push(Command::Declare(*flag))?;
     }
     Ok(commands)
-}
-
-// Whether a symbol is a truth value without arguments.
-pub(crate) fn is_flag(table: &Table, symbol: SymId) -> bool
-    requires { IsSymbol table.now symbol }
-    ensures { result ≡ is_flag (symbol_at table.now symbol) }
-{
-    let (args, sort) = table.symbol_rank(symbol);
-    args.is_empty() && sort == SortId::BOOL
 }
 
 // Puts the commands of a group last: it declares its symbols, asserts its assertions, numbered from 1, and checks.

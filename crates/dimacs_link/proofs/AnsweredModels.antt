@@ -18,7 +18,8 @@ use Rattle.term_table.specs.Formulas.{Formulas, symbol_at, no_symbol}
 use Rattle.script_read.specs.Commands.{Signature}
 use Rattle.models.specs.GraphRows.{constant_graph, default_graph}
 use Rattle.models.specs.ModelView.{default_model, with_graph}
-use Rattle.dimacs_link.specs.AnswerModels.{is_flag_over, is_flag, AreFlags, value_of, given_graph, with_truths, answered, truths_in}
+use Rattle.models.specs.LiveRoots.{is_flag_over, is_flag}
+use Rattle.dimacs_link.specs.AnswerModels.{AreFlags, value_of, given_graph, with_truths, answered, truths_in}
 use Rattle.dimacs_link.specs.Constants.{are_distinct, constants_at, AreConstants}
 use Rattle.dimacs_link.proofs.Numbering.{symmetric, none_before, take-constants, get_or-constants, length-constants}
 

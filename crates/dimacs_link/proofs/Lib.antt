@@ -10,7 +10,6 @@ mod ClauseLists
 mod ClauseValues
 mod AnsweredModels
 pub mod Answered
-mod LiveNumbered
 mod DistinctSymbols
 mod LinkedChecks
 mod UnlinkedRoots

@@ -2,6 +2,7 @@
 use Rattle.std.proofs.Common.{◌≡◌, ◌∙◌, sym, ap, refl, ℕ, Bool, true, false, List, [], ◌∷◌, map, All, Some, None, if◌then◌else◌}
 use Rattle.std.proofs.lemmas.List.Elements.{All-nil, All-cons, All-filter, All-weaker, filter_passes}
 use Rattle.std.proofs.lemmas.List.Folds.{list_all-append}
+use Rattle.smt_terms.specs.declared.ids.SymId.{SymId}
 use Rattle.smt_terms.specs.Equal.{symbol_eq}
 use Rattle.smt_terms.specs.Free.{is_among}
 use Rattle.smt_terms.specs.Models.{Model}
@@ -9,17 +10,19 @@ use Rattle.smt_terms.specs.Sorts.{Symbol}
 use Rattle.smt_terms.specs.Term.{Term}
 use Rattle.smt_terms.proofs.Equal.{Decides-symbol_eq}
 use Rattle.smt_terms.proofs.Tests.{left_true, right_true}
+use Rattle.term_table.specs.Formulas.{Formulas, IsSymbol}
 use Rattle.script_read.specs.Commands.{Command, live, literals, signature}
 use Rattle.script_read.specs.Printable.{printable}
 use Rattle.script_read.specs.Satisfied.{sat}
 use Rattle.models.specs.LiveTerms.{live_terms}
-use Rattle.dimacs_link.specs.AnswerModels.{is_flag, AreFlags}
-use Rattle.dimacs_link.specs.Checks.{flags, roots, first_other, unlinked_root}
+use Rattle.models.specs.LiveRoots.{roots, is_flag, flags}
+use Rattle.models.proofs.LiveRoots.{roots_are}
+use Rattle.dimacs_link.specs.AnswerModels.{AreFlags}
+use Rattle.dimacs_link.specs.Checks.{first_other, unlinked_root}
 use Rattle.dimacs_link.specs.Clauses.{is_clause}
-use Rattle.dimacs_link.specs.Constants.{are_distinct}
+use Rattle.dimacs_link.specs.Constants.{are_distinct, constants_at, AreConstants}
 use Rattle.dimacs_link.specs.Laws.{holds, all_hold, AreClauses}
 use Rattle.dimacs_link.proofs.DistinctSymbols.{signature_distinct, kept_distinct}
-use Rattle.dimacs_link.proofs.LiveNumbered.{roots_are}
 
 -- ---- the constants
 
@@ -41,6 +44,10 @@ flags_are cs k = record {
 
 pub flags_distinct : (cs : List (Command Term)) (k : ℕ) → printable cs ≡ true → are_distinct (flags cs k) ≡ true
 flags_distinct cs k h = kept_distinct is_flag (signature cs k).symbols (signature_distinct cs k h)
+
+-- over a table
+pub flags_constants : (t : Formulas) (fs : List SymId) (cs : List (Command Term)) (k : ℕ) → printable cs ≡ true → All (IsSymbol t) fs → constants_at t fs ≡ flags cs k → AreConstants t fs
+flags_constants t fs cs k h symbols so = record { symbols = symbols; distinct = ap are_distinct so ∙ flags_distinct cs k h }
 
 -- ---- the roots
 

@@ -1,19 +1,19 @@
--- The first of the live terms that isn't a clause, and the constants, over a table.
-use Rattle.std.proofs.Common.{◌≡◌, ◌∙◌, sym, ap, refl, subst, ℕ, zero, suc, ◌+◌, ◌<◌, ◌≤◌, Bool, true, cond, List, [], ◌∷◌, ◌++◌, map, filter, take, get_or, length, Some, None, arith, if◌then◌else◌}
-use Rattle.std.proofs.lemmas.List.{map_more, take_all}
-use Rattle.std.proofs.lemmas.List.Elements.{All-nil, All-cons, All-head, All-tail, filter-append}
+-- The first of the live terms that isn't a clause, and the text, over a table.
+use Rattle.std.proofs.Common.{◌≡◌, ◌∙◌, sym, ap, refl, subst, ℕ, zero, suc, true, List, [], ◌∷◌, map, get_or, length, Some, None, arith, if◌then◌else◌}
+use Rattle.std.proofs.lemmas.List.Elements.{All-nil, All-cons, All-head, All-tail}
 use Rattle.smt_terms.specs.declared.ids.NodeId.{NodeId}
 use Rattle.smt_terms.specs.declared.ids.SymId.{SymId}
 use Rattle.smt_terms.specs.Sorts.{Symbol}
 use Rattle.smt_terms.specs.Term.{Term}
-use Rattle.term_table.specs.Formulas.{Formulas, tree, trees_at, symbol_at, IsNode, AreNodes}
+use Rattle.term_table.specs.Formulas.{Formulas, trees_at, IsNode, AreNodes}
 use Rattle.script_read.specs.Commands.{Command}
 use Rattle.models.specs.LiveTerms.{live_terms, numbered_at, AreNumbered}
+use Rattle.models.proofs.LiveRoots.{live_trees, live_numbers}
 use Rattle.dimacs_link.specs.declared.clauses.LinkFault.{LinkFault}
 use Rattle.dimacs_link.specs.declared.clauses.LinkFault.TheVariants.{NotClauses, Memory}
-use Rattle.dimacs_link.specs.AnswerModels.{is_flag}
+use Rattle.models.specs.LiveRoots.{roots, flags}
 use Rattle.dimacs_link.specs.CheckFaults.{fault_at, IsLinkCheckFault}
-use Rattle.dimacs_link.specs.Checks.{flags, roots, first_other, unlinked_root, linked_text}
+use Rattle.dimacs_link.specs.Checks.{first_other, unlinked_root, linked_text}
 use Rattle.dimacs_link.specs.Clauses.{is_clause, clauses, text_of, IsFirstOther, IsLinkFault}
 use Rattle.dimacs_link.specs.Constants.{constants_at}
 use Rattle.dimacs_link.specs.Laws.{AreClauses}
@@ -46,28 +46,16 @@ one_other fs (r ∷ rs) (suc place) first =
 
 -- ---- over a table
 
-live_trees : (t : Formulas) (ls : List (NodeId × ℕ)) → trees_at t (map (λ l. l.0) ls) ≡ map (λ r. r.0) (numbered_at t ls)
-live_trees t [] = refl
-live_trees t (l ∷ ls) = ap (λ ts. tree t l.0 ∷ ts) (live_trees t ls)
-
-same_numbers : (t : Formulas) (ls : List (NodeId × ℕ)) → numbers_in (numbered_at t ls) ≡ map (λ l. l.1) ls
-same_numbers t [] = refl
-same_numbers t (l ∷ ls) = ap (λ ns. l.1 ∷ ns) (same_numbers t ls)
-
 pub live_nodes : (t : Formulas) (ls : List (NodeId × ℕ)) → AreNumbered t ls → AreNodes t (map (λ l. l.0) ls)
 live_nodes t [] nodes = All-nil (IsNode t)
 live_nodes t (l ∷ ls) nodes = All-cons (IsNode t) l.0 (nodes_in ls) (All-head (λ k. IsNode t k.0) l ls nodes) (live_nodes t ls (All-tail (λ k. IsNode t k.0) l ls nodes))
-
--- their terms are the roots
-pub roots_are : (t : Formulas) (ls : List (NodeId × ℕ)) (cs : List (Command Term)) (k : ℕ) → numbered_at t ls ≡ live_terms cs k → trees_at t (map (λ l. l.0) ls) ≡ roots cs k
-roots_are t ls cs k same = live_trees t ls ∙ ap terms_in same
 
 -- the fault of the roots is that of the check
 pub unlinked : (t : Formulas) (ls : List (NodeId × ℕ)) (cs : List (Command Term)) (k : ℕ) (fault : LinkFault) → numbered_at t ls ≡ live_terms cs k
     → IsLinkFault (flags cs k) (trees_at t (map (λ l. l.0) ls)) fault → IsLinkCheckFault cs k (fault_at ls fault)
 unlinked t ls cs k (NotClauses place) same first =
     let here : IsFirstOther (flags cs k) (terms_in (numbered_at t ls)) place = subst (λ us. IsFirstOther (flags cs k) us place) (live_trees t ls) first in
-    ap (first_other (flags cs k)) (sym same) ∙ one_other (flags cs k) (numbered_at t ls) place here ∙ ap (λ ns. Some (get_or ns place 0)) (same_numbers t ls)
+    ap (first_other (flags cs k)) (sym same) ∙ one_other (flags cs k) (numbered_at t ls) place here ∙ ap (λ ns. Some (get_or ns place 0)) (live_numbers t ls)
 unlinked t ls cs k Memory same first = tt
 
 pub linked : (t : Formulas) (ls : List (NodeId × ℕ)) (cs : List (Command Term)) (k : ℕ) → numbered_at t ls ≡ live_terms cs k
@@ -82,17 +70,3 @@ pub text_so : (t : Formulas) (fs : List SymId) (ks : List NodeId) (cs : List (Co
 text_so t fs ks cs k so are =
     ap (λ n. text_of n (clauses (constants_at t fs) (trees_at t ks))) (sym (length-constants t fs) ∙ ap length so)
     ∙ (λ i. text_of (length (flags cs k)) (clauses (so i) (are i)))
-
--- ---- constants
-
-pub flags_more : (t : Formulas) (fs : List SymId) (i : ℕ) (d : SymId) (b : Bool) → i < length fs → is_flag (symbol_at t (get_or fs i d)) ≡ b
-    → filter is_flag (map (symbol_at t) (take (i + 1) fs)) ≡ filter is_flag (map (symbol_at t) (take i fs)) ++ cond b (symbol_at t (get_or fs i d) ∷ []) []
-flags_more t fs i d b less e =
-    let before = map (symbol_at t) (take i fs) in
-    let f = symbol_at t (get_or fs i d) in
-    ap (filter is_flag) (map_more (symbol_at t) fs i d less)
-    ∙ filter-append is_flag before (f ∷ [])
-    ∙ ap (λ c. filter is_flag before ++ cond c (f ∷ []) []) e
-
-pub flags_all : (t : Formulas) (fs gs : List SymId) (i : ℕ) (sig : List Symbol) → fs ≡ gs → map (symbol_at t) gs ≡ sig → length fs ≤ i → filter is_flag (map (symbol_at t) (take i fs)) ≡ filter is_flag sig
-flags_all t fs gs i sig listed same past = ap (λ (hs : List SymId). filter is_flag (map (symbol_at t) hs)) (take_all i fs past ∙ listed) ∙ ap (filter is_flag) same

@@ -1,21 +1,14 @@
 -- Truth values of constants as a model: each constant is as it is given, and all else is its sort's default.
-use Rattle.std.specs.Prelude.{◌≡◌, Bool, true, false, List, [], ◌∷◌, map, All, Option, Some, None, IsTrue, if◌then◌else◌}
+use Rattle.std.specs.Prelude.{◌≡◌, Bool, true, List, [], ◌∷◌, map, All, Option, Some, None, IsTrue, if◌then◌else◌}
 use Rattle.smt_terms.specs.Equal.{symbol_eq}
 use Rattle.smt_terms.specs.Free.{is_among}
 use Rattle.smt_terms.specs.Models.{Graph, Model, symbol_value}
-use Rattle.smt_terms.specs.Sorts.{Sort, bool, Symbol}
+use Rattle.smt_terms.specs.Sorts.{Symbol}
 use Rattle.smt_terms.specs.Values.{truth, is_true}
 use Rattle.script_read.specs.Commands.{Signature}
 use Rattle.models.specs.GraphRows.{constant_graph}
+use Rattle.models.specs.LiveRoots.{is_flag}
 use Rattle.models.specs.ModelView.{default_model}
-
-abbrev pub is_flag_over : List Sort → Sort → Bool
-is_flag_over [] bool = true
-is_flag_over _ _ = false
-
--- a Boolean constant
-abbrev pub is_flag : Symbol → Bool
-is_flag f = is_flag_over f.args f.result
 
 -- Boolean constants among these symbols
 pub record AreFlags (symbols cs : List Symbol) : Type 0 where

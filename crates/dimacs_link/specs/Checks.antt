@@ -1,25 +1,18 @@
 -- The check of a script whose live assertions are clauses: its DIMACS text, and answers as models of what is declared at the check.
-use Rattle.std.specs.Prelude.{◌≡◌, ◌≤◌, ℕ, Bool, List, [], ◌∷◌, map, filter, length, Option, Some, None, IsTrue, if◌then◌else◌}
+use Rattle.std.specs.Prelude.{◌≡◌, ◌≤◌, ℕ, Bool, List, [], ◌∷◌, length, Option, Some, None, IsTrue, if◌then◌else◌}
 use Rattle.smt_terms.specs.Models.{Model, IsModelOver}
 use Rattle.smt_terms.specs.Sorts.{Symbol}
 use Rattle.smt_terms.specs.Term.{Term}
 use Rattle.script_read.specs.Commands.{Command, checks, signature}
 use Rattle.script_read.specs.Printable.{printable}
 use Rattle.script_read.specs.Satisfied.{sat}
+use Rattle.models.specs.LiveRoots.{roots, flags}
 use Rattle.models.specs.LiveTerms.{live_terms}
-use Rattle.dimacs_link.specs.AnswerModels.{is_flag, answered, truths_in}
+use Rattle.dimacs_link.specs.AnswerModels.{answered, truths_in}
 use Rattle.dimacs_link.specs.Clauses.{is_clause, clauses, text_of}
 use Rattle.dimacs_link.specs.Laws.{satisfies}
 
 -- ---- what is linked
-
--- the truth values without arguments that are declared at the check, in order of declaration
-abbrev pub flags : List (Command Term) → ℕ → List Symbol
-flags cs k = filter is_flag (signature cs k).symbols
-
--- the live assertions and the literals of the check
-abbrev pub roots : List (Command Term) → ℕ → List Term
-roots cs k = map (λ r. r.0) (live_terms cs k)
 
 -- the number of the first of these that isn't a clause
 abbrev pub first_other : List Symbol → List (Term × ℕ) → Option ℕ

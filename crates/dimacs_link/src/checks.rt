@@ -1,20 +1,20 @@
 //! The check of a script as clauses.
 
-ghost use Rattle.std.specs.Prelude.{◌≡◌, ◌≤◌, map, count_by, None, IsTrue, IfOk, IfErr, OnOk};
+ghost use Rattle.std.specs.Prelude.{◌≡◌, ◌≤◌, count_by, None, IsTrue, IfOk, IfErr, OnOk};
+ghost use Rattle.models.specs.LiveRoots.{flags};
 ghost use Rattle.script_read.specs.CommandLists as lists;
 ghost use Rattle.script_read.specs.CommandLists.{commands_of, AreCommandsOf};
 ghost use Rattle.script_read.specs.Commands.{signature};
 ghost use Rattle.script_read.specs.Printable.{printable};
-ghost use Rattle.term_table.specs.Formulas.{symbol_at, IsSymbol};
-ghost use Rattle.dimacs_link.specs.AnswerModels.{is_flag, AreFlags};
+ghost use Rattle.dimacs_link.specs.AnswerModels.{AreFlags};
 ghost use Rattle.dimacs_link.specs.CheckFaults.{fault_at, IsPlaceIn, IsLinkCheckFault};
-ghost use Rattle.dimacs_link.specs.Checks.{flags, unlinked_root, linked_text};
+ghost use Rattle.dimacs_link.specs.Checks.{unlinked_root, linked_text};
 ghost use Rattle.dimacs_link.specs.Constants.{constants_at, AreConstants};
 
 use crate::clauses::{LinkFault, check_clauses, dimacs_text};
-use models::{live, signature_at};
+use models::{flags_at, live, roots_of};
 use script_read::Script;
-use smt_terms::{NodeId, SortId, SymId};
+use smt_terms::{NodeId, SymId};
 use std::alloc::{AllocError, Global};
 use term_table::Table;
 use thiserror::Error;
@@ -67,7 +67,7 @@ pub fn clause_constants(
     ensures clauses { OnOk result (unlinked_root (commands_of table.now script.now.commands) check ≡ None) }
     ensures fault { IfErr result (IsLinkCheckFault (commands_of table.now script.now.commands) check) }
 {
-    let constants = declared_flags(alloc, table, script, check)?;
+    let constants = flags_at(alloc, table, script, check)?;
     let lives = live(alloc, table, script, check)?;
     let roots = roots_of(alloc, lives.as_slice())?;
     match check_clauses(alloc, table, roots.as_slice(), constants.as_slice()) {
@@ -98,20 +98,13 @@ pub fn link_check(
     ensures clauses { OnOk result (unlinked_root (commands_of table.now script.now.commands) check ≡ None) }
     ensures fault { IfErr result (IsLinkCheckFault (commands_of table.now script.now.commands) check) }
 {
-    let constants = declared_flags(alloc, table, script, check)?;
+    let constants = flags_at(alloc, table, script, check)?;
     let lives = live(alloc, table, script, check)?;
     let roots = roots_of(alloc, lives.as_slice())?;
     match dimacs_text(alloc, table, roots.as_slice(), constants.as_slice()) {
         Ok(text) => Ok(text),
         Err(fault) => Err(fault_among(lives.as_slice(), fault)),
     }
-}
-
-// The nodes of these, in order.
-fn roots_of(alloc: Global, lives: &[(NodeId, u64)]) -> Result<Vec<NodeId>, AllocError>
-    ensures { IfOk result (λ roots. roots.items ≡ map (λ l. l.0) lives.now) }
-{
-    lives.iter().map(|live| live.0).collect(alloc)
 }
 
 // The fault that one of the nodes of these is, by its number.
@@ -126,37 +119,4 @@ fn fault_among(lives: &[(NodeId, u64)], fault: LinkFault) -> LinkCheckFault
         }
         LinkFault::Memory => LinkCheckFault::Memory,
     }
-}
-
-// The truth values without arguments that are declared at a check.
-fn declared_flags(
-    alloc: Global,
-    table: &Table,
-    script: &Script,
-    check: u64,
-) -> Result<Vec<SymId>, AllocError>
-    requires numbers { AreCommandsOf table.now script.now.commands }
-    requires printable { IsTrue (printable (commands_of table.now script.now.commands)) }
-    requires first { 1 ≤ check }
-    requires last { check ≤ count_by lists.is_check script.now.commands }
-    ensures constants { IfOk result (λ fs. constants_at table.now fs.items ≡ flags (commands_of table.now script.now.commands) check) }
-    ensures numbers { IfOk result (λ fs. AreConstants table.now fs.items) }
-{
-    let signature = signature_at(alloc, table, script, check)?;
-    let mut constants = Vec::new(alloc);
-    for symbol in signature.symbols() {
-        if is_flag(table, *symbol) {
-            constants.push(*symbol)?;
-        }
-    }
-    Ok(constants)
-}
-
-// Whether a symbol is a truth value without arguments.
-fn is_flag(table: &Table, symbol: SymId) -> bool
-    requires { IsSymbol table.now symbol }
-    ensures { result ≡ is_flag (symbol_at table.now symbol) }
-{
-    let (args, sort) = table.symbol_rank(symbol);
-    args.is_empty() && sort == SortId::BOOL
 }

@@ -1,8 +1,10 @@
+mod FlagsFound
 mod FoundBack
 mod FunctionsForgotten
 mod LiveBehind
 mod LiveFound
 mod LiveLevels
+pub mod LiveRoots
 mod ModelsGrown
 mod NumberedGraphs
 mod PlacedAssertions

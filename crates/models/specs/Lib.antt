@@ -9,3 +9,4 @@ pub mod Division
 pub mod Laws
 pub mod LiveTerms
 pub mod LiveAssertions
+pub mod LiveRoots

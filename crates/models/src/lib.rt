@@ -5,6 +5,7 @@
 
 mod graph;
 mod laws;
+mod live_roots;
 mod live_terms;
 mod model;
 mod numbers;
@@ -13,6 +14,7 @@ mod signature;
 
 pub use graph::Graph;
 pub use laws::models_stay;
+pub use live_roots::{flags_at, is_flag, roots_of};
 pub use live_terms::live;
 pub use model::{Division, Model};
 pub use numbers::NumberGraph;

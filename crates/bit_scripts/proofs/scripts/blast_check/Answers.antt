@@ -11,11 +11,13 @@ use Rattle.bit_blast.specs.Blasted.{is_bits, blasted}
 use Rattle.bit_blast.specs.Faults.{IsFault}
 use Rattle.bit_scripts.specs.Nodes.{IsRefusedBy}
 use Rattle.bit_scripts.specs.Places.{fault_at}
-use Rattle.bit_scripts.specs.Scripts.{roots, root_group}
+use Rattle.models.specs.LiveRoots.{roots}
+use Rattle.bit_scripts.specs.Scripts.{root_group}
 use Rattle.bit_scripts.specs.Spelled.{group_commands}
 use Rattle.models.specs.LiveTerms.{numbered_at}
+use Rattle.models.proofs.LiveRoots.{root_trees}
 use Rattle.bit_scripts.proofs.LiveTruths.{IsBool, live_bool, live_nodes}
-use Rattle.bit_scripts.proofs.RefusedRoots.{refused, accepted, roots_are}
+use Rattle.bit_scripts.proofs.RefusedRoots.{refused, accepted}
 use Rattle.bit_scripts.proofs.SpelledNodes.{spelled_so, spelled_within, spelled_behind}
 use Rattle.bit_scripts.proofs.scripts.blast_check.Goals as goal
 use Rattle.bit_scripts.proofs.scripts.blast_check.Goals.{After-as_slice-2}
@@ -30,7 +32,7 @@ roots_so c =
 terms_so : (c : After-as_slice-2) → trees_at c.args.table.now c.as_slice-2.result.now ≡ roots (commands_of c.args.table.now c.args.script.now.commands) c.args.check
 terms_so c =
     let t = c.args.table.now in
-    ap (trees_at t) (roots_so c) ∙ roots_are t c.in_ok-lives.lives.items (commands_of t c.args.script.now.commands) c.args.check c.in_ok-lives.ensures.terms
+    ap (trees_at t) (roots_so c) ∙ root_trees t c.in_ok-lives.lives.items (commands_of t c.args.script.now.commands) c.args.check c.in_ok-lives.ensures.terms
 
 pub blast-requires : goal.blast-requires
 blast-requires c =

@@ -9,7 +9,8 @@ use Rattle.term_table.specs.Formulas.{symbol_at}
 use Rattle.models.specs.GraphRows.{constant_graph}
 use Rattle.models.specs.LiveNumbers.{signature_of}
 use Rattle.models.specs.ModelView.{default_model, with_graph}
-use Rattle.dimacs_link.specs.AnswerModels.{is_flag, answered}
+use Rattle.models.specs.LiveRoots.{is_flag}
+use Rattle.dimacs_link.specs.AnswerModels.{answered}
 use Rattle.dimacs_link.specs.Constants.{constants_at}
 use Rattle.dimacs_link.proofs.AnsweredModels.{flag_value, answered_over, value_more, constant_at}
 use Rattle.dimacs_link.proofs.answer_models.answer_model.Goals as goal

@@ -6,11 +6,11 @@ use Rattle.script_read.specs.CommandLists.{commands_of}
 use Rattle.script_read.specs.Commands.{signature}
 use Rattle.dimacs_link.specs.AnswerModels.{AreFlags}
 use Rattle.dimacs_link.specs.CheckFaults.{fault_at, IsLinkCheckFault}
-use Rattle.dimacs_link.specs.Checks.{flags}
+use Rattle.models.specs.LiveRoots.{flags}
 use Rattle.dimacs_link.specs.Clauses.{IsLinkFault}
-use Rattle.dimacs_link.specs.Constants.{constants_at}
+use Rattle.dimacs_link.specs.Constants.{constants_at, AreConstants}
 use Rattle.dimacs_link.specs.Laws.{AreClauses}
-use Rattle.dimacs_link.proofs.LinkedChecks.{flags_are}
+use Rattle.dimacs_link.proofs.LinkedChecks.{flags_are, flags_constants}
 use Rattle.dimacs_link.proofs.UnlinkedRoots.{live_nodes, linked, unlinked}
 use Rattle.dimacs_link.proofs.checks.clause_constants.Goals as goal
 use Rattle.dimacs_link.proofs.checks.clause_constants.Goals.{After-as_slice-3}
@@ -23,7 +23,7 @@ roots_so c =
 
 -- and the constants are those of the check
 constants_so : (c : After-as_slice-3) → constants_at c.args.table.now c.as_slice-3.result.now ≡ flags (commands_of c.args.table.now c.args.script.now.commands) c.args.check
-constants_so c = ap (constants_at c.args.table.now) c.as_slice-3.ensures.value ∙ c.in_ok-constants.ensures.constants
+constants_so c = ap (constants_at c.args.table.now) c.as_slice-3.ensures.value ∙ c.in_ok-constants.ensures.flags
 
 pub check_clauses-requires-clause-roots : goal.check_clauses-requires-clause-roots
 check_clauses-requires-clause-roots c =
@@ -31,10 +31,24 @@ check_clauses-requires-clause-roots c =
     let a = (goal.at.check_clauses-requires-clause-roots c).After-as_slice-3 in
     subst (AreNodes t) (sym (roots_so a)) (live_nodes t c.in_ok-lives.lives.items c.in_ok-lives.ensures.nodes)
 
+-- which are different symbols
+constants_differ : (c : After-as_slice-3) → AreConstants c.args.table.now c.in_ok-constants.constants.items
+constants_differ c =
+    let t = c.args.table.now in
+    flags_constants t c.in_ok-constants.constants.items (commands_of t c.args.script.now.commands) c.args.check c.requires.printable c.in_ok-constants.ensures.symbols c.in_ok-constants.ensures.flags
+
+pub check_clauses-requires-clause-constants : goal.check_clauses-requires-clause-constants
+check_clauses-requires-clause-constants c =
+    let a = (goal.at.check_clauses-requires-clause-constants c).After-as_slice-3 in
+    subst (AreConstants c.args.table.now) (sym c.as_slice-3.ensures.value) (constants_differ a)
+
+pub returns-in-Ok-clause-numbers : goal.returns-in-Ok-clause-numbers
+returns-in-Ok-clause-numbers c = constants_differ (goal.at.returns-in-Ok-clause-numbers c).After-as_slice-3
+
 pub returns-in-Ok-clause-flags : goal.returns-in-Ok-clause-flags
 returns-in-Ok-clause-flags c =
     let cs = commands_of c.args.table.now c.args.script.now.commands in
-    subst (AreFlags (signature cs c.args.check).symbols) (sym c.in_ok-constants.ensures.constants) (flags_are cs c.args.check)
+    subst (AreFlags (signature cs c.args.check).symbols) (sym c.in_ok-constants.ensures.flags) (flags_are cs c.args.check)
 
 pub returns-in-Ok-clause-clauses : goal.returns-in-Ok-clause-clauses
 returns-in-Ok-clause-clauses c =

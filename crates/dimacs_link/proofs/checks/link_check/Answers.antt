@@ -4,11 +4,13 @@ use Rattle.smt_terms.specs.Sorts.{Symbol}
 use Rattle.term_table.specs.Formulas.{trees_at, AreNodes}
 use Rattle.script_read.specs.CommandLists.{commands_of}
 use Rattle.dimacs_link.specs.CheckFaults.{fault_at, IsLinkCheckFault}
-use Rattle.dimacs_link.specs.Checks.{flags}
+use Rattle.models.specs.LiveRoots.{flags}
+use Rattle.models.proofs.LiveRoots.{root_trees}
 use Rattle.dimacs_link.specs.Clauses.{IsLinkFault}
-use Rattle.dimacs_link.specs.Constants.{constants_at}
+use Rattle.dimacs_link.specs.Constants.{constants_at, AreConstants}
 use Rattle.dimacs_link.specs.Laws.{AreClauses}
-use Rattle.dimacs_link.proofs.UnlinkedRoots.{live_nodes, roots_are, linked, unlinked, text_so}
+use Rattle.dimacs_link.proofs.LinkedChecks.{flags_constants}
+use Rattle.dimacs_link.proofs.UnlinkedRoots.{live_nodes, linked, unlinked, text_so}
 use Rattle.dimacs_link.proofs.checks.link_check.Goals as goal
 use Rattle.dimacs_link.proofs.checks.link_check.Goals.{After-as_slice-3}
 
@@ -20,13 +22,19 @@ roots_so c =
 
 -- and the constants are those of the check
 constants_so : (c : After-as_slice-3) → constants_at c.args.table.now c.as_slice-3.result.now ≡ flags (commands_of c.args.table.now c.args.script.now.commands) c.args.check
-constants_so c = ap (constants_at c.args.table.now) c.as_slice-3.ensures.value ∙ c.in_ok-constants.ensures.constants
+constants_so c = ap (constants_at c.args.table.now) c.as_slice-3.ensures.value ∙ c.in_ok-constants.ensures.flags
 
 pub dimacs_text-requires-clause-roots : goal.dimacs_text-requires-clause-roots
 dimacs_text-requires-clause-roots c =
     let t = c.args.table.now in
     let a = (goal.at.dimacs_text-requires-clause-roots c).After-as_slice-3 in
     subst (AreNodes t) (sym (roots_so a)) (live_nodes t c.in_ok-lives.lives.items c.in_ok-lives.ensures.nodes)
+
+pub dimacs_text-requires-clause-constants : goal.dimacs_text-requires-clause-constants
+dimacs_text-requires-clause-constants c =
+    let t = c.args.table.now in
+    subst (AreConstants t) (sym c.as_slice-3.ensures.value)
+    (flags_constants t c.in_ok-constants.constants.items (commands_of t c.args.script.now.commands) c.args.check c.requires.printable c.in_ok-constants.ensures.symbols c.in_ok-constants.ensures.flags)
 
 pub returns-in-Ok-clause-text : goal.returns-in-Ok-clause-text
 returns-in-Ok-clause-text c =
@@ -35,7 +43,7 @@ returns-in-Ok-clause-text c =
     let cs = commands_of t c.args.script.now.commands in
     c.in-Ok.ensures.text
     ∙ text_so t c.as_slice-3.result.now c.as_slice-2.result.now cs c.args.check (constants_so a)
-    (ap (λ (ks : List NodeId). trees_at t ks) (roots_so a) ∙ roots_are t c.in_ok-lives.lives.items cs c.args.check c.in_ok-lives.ensures.terms)
+    (ap (λ (ks : List NodeId). trees_at t ks) (roots_so a) ∙ root_trees t c.in_ok-lives.lives.items cs c.args.check c.in_ok-lives.ensures.terms)
 
 pub returns-in-Ok-clause-clauses : goal.returns-in-Ok-clause-clauses
 returns-in-Ok-clause-clauses c =

@@ -1,6 +1,7 @@
 use Rattle.std.proofs.Common.{◌∙◌}
 use Rattle.script_read.specs.Commands.{signature}
-use Rattle.dimacs_link.specs.Checks.{flags, roots, answered_model}
+use Rattle.models.specs.LiveRoots.{roots, flags}
+use Rattle.dimacs_link.specs.Checks.{answered_model}
 use Rattle.dimacs_link.proofs.LinkedChecks.{flags_are, flags_distinct, roots_clauses, roots_hold}
 use Rattle.dimacs_link.proofs.laws.checks_are_linked.Goals as goal
 

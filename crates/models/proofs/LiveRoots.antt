@@ -1,12 +1,15 @@
--- What is live with its number is what is live: the roots are the live assertions of a point, and then its literals.
+-- What is live with its number is what is live: the roots are the live assertions of a check, and then its literals; and so are their
+-- nodes, over a table.
 use Rattle.std.proofs.Common.{◌≡◌, ◌∙◌, sym, ap, refl, ℕ, zero, suc, Bool, true, false, List, [], ◌∷◌, ◌++◌, map, replicate, Option, Some, None}
 use Rattle.std.specs.Prelude.{option_map}
 use Rattle.std.proofs.lemmas.List.{map-append, drop-map}
+use Rattle.smt_terms.specs.declared.ids.NodeId.{NodeId}
 use Rattle.smt_terms.specs.Sorts.{Name, Symbol}
 use Rattle.smt_terms.specs.Term.{Term}
+use Rattle.term_table.specs.Formulas.{Formulas, tree, trees_at}
 use Rattle.script_read.specs.Commands.{Command, declare_sort, declare, assert, check, check_assuming, push, pop, reset_assertions, with_asserted, Level, State, empty_level, start, throughout, on_latest, with_sort, with_symbol, with_assertion, with_declarations, folded, levels_popped, levels_emptied, after, Point, with_point, points_from, points, nth_point, at_point, live_in, live, literals}
-use Rattle.models.specs.LiveTerms.{with_number}
-use Rattle.dimacs_link.specs.Checks.{roots}
+use Rattle.models.specs.LiveTerms.{with_number, live_terms, numbered_at}
+use Rattle.models.specs.LiveRoots.{roots}
 
 module _ {A B : Type 0} (g : A → B) where
   abbrev level_with : Level A → Level B
@@ -135,3 +138,17 @@ roots_are cs k =
     map-append unnumbered (live (map with_number cs) k) (literals (map with_number cs) k)
     ∙ (λ i. sym (live_with unnumbered (map with_number cs) k) i ++ sym (literals_with unnumbered (map with_number cs) k) i)
     ∙ ap (λ ds. live ds k ++ literals ds k) (numbers_off cs)
+
+-- ---- over a table
+
+pub live_trees : (t : Formulas) (ls : List (NodeId × ℕ)) → trees_at t (map (λ l. l.0) ls) ≡ map (λ r. r.0) (numbered_at t ls)
+live_trees t [] = refl
+live_trees t (l ∷ ls) = ap (λ ts. tree t l.0 ∷ ts) (live_trees t ls)
+
+pub live_numbers : (t : Formulas) (ls : List (NodeId × ℕ)) → map (λ r. r.1) (numbered_at t ls) ≡ map (λ l. l.1) ls
+live_numbers t [] = refl
+live_numbers t (l ∷ ls) = ap (λ ns. l.1 ∷ ns) (live_numbers t ls)
+
+-- the terms of live nodes are the roots
+pub root_trees : (t : Formulas) (ls : List (NodeId × ℕ)) (cs : List (Command Term)) (k : ℕ) → numbered_at t ls ≡ live_terms cs k → trees_at t (map (λ l. l.0) ls) ≡ roots cs k
+root_trees t ls cs k same = live_trees t ls ∙ ap (λ (rs : List (Term × ℕ)). map unnumbered rs) same
