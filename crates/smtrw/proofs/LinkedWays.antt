@@ -12,7 +12,8 @@ use Rattle.dimacs_link.specs.declared.checks.LinkCheckFault.{LinkCheckFault}
 use Rattle.dimacs_link.specs.declared.checks.LinkCheckFault.TheVariants.{NotClauses, Memory}
 use Rattle.dimacs_link.specs.AnswerModels.{AreFlags}
 use Rattle.dimacs_link.specs.CheckFaults.{IsLinkCheckFault}
-use Rattle.dimacs_link.specs.Checks.{flags, linked_text as linked_check, unlinked_root, ChecksAreLinked}
+use Rattle.models.specs.LiveRoots.{flags}
+use Rattle.dimacs_link.specs.Checks.{linked_text as linked_check, unlinked_root, ChecksAreLinked}
 use Rattle.dimacs_link.specs.Constants.{constants_at, AreConstants}
 use Rattle.smtrw_answers.specs.declared.status.Status.{Status}
 use Rattle.smtrw_answers.specs.declared.status.Status.TheVariants.{Done, Refused, Usage, ReadFailed, WriteFailed, OutOfMemory, ModelRefused, Beyond128, PassRefused}

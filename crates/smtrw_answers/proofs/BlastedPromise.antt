@@ -11,7 +11,7 @@ use Rattle.smt_print.specs.Laws.{ReadsBack}
 use Rattle.passes.specs.declared.names.Pass.{Pass}
 use Rattle.passes.specs.Laws.{IsModelOf, CarriesModels}
 use Rattle.bit_scripts.specs.Laws.{IsBlasted, ScriptsAreBlasted}
-use Rattle.bit_scripts.specs.Scripts.{is_flag}
+use Rattle.models.specs.LiveRoots.{is_flag}
 use Rattle.smtrw_answers.specs.Blasting.{names_behind, blasted_commands, blasted_text, lifted, unblasted, blasted_model, IsBlasting}
 use Rattle.smtrw_answers.specs.Carrying.{translated, extended}
 use Rattle.smtrw_answers.specs.Headline.{IsModelAt}

@@ -31,7 +31,7 @@ module _ (laws : ReadingLaws) (b : List ℕ) (ps : List Pass) (k : ℕ) (linked 
       sym (linked.models (extended b ps k m)) ∙ is.sat
 
   promise : IsLinking b ps k (linked_text b ps k)
-  promise = record { text = refl; translation = answer_back; extension = model_forth }
+  promise = record { text = refl; exact = linked.answers; translation = answer_back; extension = model_forth }
 
 pub keeps_linking : LinkingLaws → LinkingKeepsItsPromise
 keeps_linking laws b ps k accepted some few taken ready carried =

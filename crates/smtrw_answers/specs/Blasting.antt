@@ -14,7 +14,8 @@ use Rattle.model_texts.specs.Refusals.{Unmodelled}
 use Rattle.passes.specs.declared.names.Pass.{Pass}
 use Rattle.passes.specs.Passed.{passed}
 use Rattle.bit_blast.specs.Laws.{is_boolean}
-use Rattle.bit_scripts.specs.Scripts.{is_flag, blasted_script, lifted_model, lowered_model}
+use Rattle.models.specs.LiveRoots.{is_flag}
+use Rattle.bit_scripts.specs.Scripts.{blasted_script, lifted_model, lowered_model}
 use Rattle.smtrw_answers.specs.Carrying.{translated, extended, signature_before, carried_text}
 use Rattle.smtrw_answers.specs.Headline.{signature_at, IsModelAt}
 use Rattle.smtrw_answers.specs.Outputs.{commands, names_left, rewritten_commands}

@@ -3,6 +3,7 @@
 use Rattle.std.specs.Prelude.{◌≡◌, ℕ, Bool, true, List, codes, length, Result, Ok, Err, IsTrue}
 use Rattle.smt_terms.specs.Models.{Model}
 use Rattle.smt_terms.specs.Sorts.{Symbol}
+use Rattle.script_read.specs.Satisfied.{sat}
 use Rattle.script_read.specs.Scenes.{holds}
 use Rattle.model_texts.specs.ModelLines.{model_lines}
 use Rattle.passes.specs.declared.names.Pass.{Pass}
@@ -10,7 +11,8 @@ use Rattle.dimacs_link.specs.declared.answers.Answer.{Answer}
 use Rattle.dimacs_link.specs.declared.answers.Answer.TheVariants.{Sat, Unsat, Unknown}
 use Rattle.dimacs_link.specs.AnswerModels.{truths_in}
 use Rattle.dimacs_link.specs.AnswerTexts.{reading}
-use Rattle.dimacs_link.specs.Checks.{flags, linked_text as linked_check, answered_model, satisfies_check}
+use Rattle.models.specs.LiveRoots.{flags}
+use Rattle.dimacs_link.specs.Checks.{linked_text as linked_check, answered_model, satisfies_check}
 use Rattle.smtrw_answers.specs.Carrying.{translated, extended, signature_before}
 use Rattle.smtrw_answers.specs.Headline.{IsModelAt}
 use Rattle.smtrw_answers.specs.Outputs.{rewritten_commands}
@@ -52,11 +54,13 @@ answer_text b ps k g = lines_if_read b ps k (reading (length (linked_constants b
 
 -- ---- the sentence
 
--- The text w has the clauses of check k of the text b behind the passes ps. Truth values of the constants that make them true stand for
--- a model of b at the check, and every model of b there, carried forth, has truth values that make them true. So where there are no
--- such truth values there is no model of b.
+-- The text w has the clauses of check k of the text b behind the passes ps. Truth values of the constants make them true exactly where
+-- the model that they stand for satisfies the check behind the passes. Those that make them true stand for a model of b at the check,
+-- and every model of b there, carried forth, has truth values that make them true. So where there are no such truth values there is
+-- no model of b.
 pub record IsLinking (b : List ℕ) (ps : List Pass) (k : ℕ) (w : List ℕ) : Type 0 where
   pub text : w ≡ linked_text b ps k
+  pub exact : (vs : List Bool) → length vs ≡ length (linked_constants b ps k) → sat (linked_model b ps k vs) (rewritten_commands b ps) k ≡ satisfies_clauses b ps k vs
   pub translation : (vs : List Bool) → length vs ≡ length (linked_constants b ps k) → satisfies_clauses b ps k vs ≡ true →
       IsModelAt b k (answered b ps k vs) × IsTrue (holds (answered b ps k vs) b k)
   pub extension : (m : Model) → IsModelAt b k m → IsTrue (holds m b k) → satisfies_clauses b ps k (truths_in (extended b ps k m) (linked_constants b ps k)) ≡ true
