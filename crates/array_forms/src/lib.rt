@@ -10,6 +10,3 @@ pub mod value_terms;
 
 pub use over_write::read_over_write;
 pub use value_terms::array_value;
-
-#[cfg(test)]
-mod tests;

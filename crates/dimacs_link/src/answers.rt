@@ -69,6 +69,3 @@ pub fn read_answer(alloc: Global, bytes: &[u8], constants: u64) -> Result<Answer
         }),
     }
 }
-
-#[cfg(test)]
-mod tests;

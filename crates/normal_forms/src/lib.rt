@@ -17,5 +17,3 @@ pub mod opposites;
 pub mod results;
 pub mod room;
 pub mod shapes;
-#[cfg(test)]
-mod tests;

@@ -25,6 +25,3 @@ pub use list::{Passes, parse_list};
 pub use names::{ListFault, Pass};
 pub use plan::Plan;
 pub use running::{PassFault, run_passes};
-
-#[cfg(test)]
-mod tests;

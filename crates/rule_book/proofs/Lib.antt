@@ -1,21 +1,20 @@
-mod Answering
+pub mod Answering
 mod AskedRules
 mod BitRules
 mod CellsKept
 pub mod DrawnFrom
 mod EightRewrite
-mod ExclusiveRules
 mod Fillings
 mod Holes
 mod HolesInOrder
 mod LogicRules
 mod MadeTerms
-mod OperandsSeen
+pub mod OperandsSeen
 mod PlacedNodes
 mod Powers
 mod PowersOfTwo
 mod PowersRead
-mod Replacing
+pub mod Replacing
 mod RewritesKeep
 mod RewritingKeeps
 pub mod RewritingLaw
@@ -28,5 +27,5 @@ mod SortedPlaces
 mod TemplateLaws
 mod ViewCells
 mod ViewLaws
-mod ViewRanks
+pub mod ViewRanks
 mod ViewValues

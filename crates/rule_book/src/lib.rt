@@ -17,6 +17,3 @@ pub use applying::apply;
 pub use book::{AddFault, Named, Rule, RuleBook};
 pub use templates::{Parts, Piece, Tmpl};
 pub use views::{Cell, Cells, View};
-
-#[cfg(test)]
-mod tests;

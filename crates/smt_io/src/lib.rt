@@ -19,6 +19,3 @@ pub use mem_sink::MemSink;
 pub use pieces::{Pieces, send_pieces};
 pub use sink::{Failed, Sink};
 pub use transfer::{LONGEST_TEXT, read_all, send_all};
-
-#[cfg(test)]
-mod tests;

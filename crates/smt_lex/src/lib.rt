@@ -18,6 +18,3 @@ pub use forests::{Forest, scan};
 pub use items::{Item, Span, Until};
 pub use runs::{are_digits, is_numeral};
 pub use symbols::{is_among, is_command_word, is_reserved, symbol_text};
-
-#[cfg(test)]
-mod tests;

@@ -22,6 +22,3 @@ pub use laws::printing_reads_back;
 pub use layout::Layout;
 pub use scripts::{script_into, script_text};
 pub use terms::term_text;
-
-#[cfg(test)]
-mod tests;

@@ -8,8 +8,6 @@ ghost use Rattle.smt_values.specs.WordShapes.{TakesWords, TakesPair};
 mod integers;
 mod logic;
 mod operands;
-#[cfg(test)]
-mod tests;
 mod word;
 
 use crate::scalar::Scalar;

@@ -12,9 +12,6 @@ ghost use Rattle.smt_values.specs.Numbered.{numbered, numbered_at, last_number, 
 ghost use Rattle.smt_terms.specs.Sorts.{Name, array, free_sort};
 ghost use Rattle.smt_terms.specs.Values.{is_value, is_key};
 
-#[cfg(test)]
-mod tests;
-
 use crate::flat_keys::flat_key;
 use crate::scalar::Scalar;
 use crate::sizes::Sizes;

@@ -21,6 +21,3 @@ pub use laws::{
 pub use lines::complain;
 pub use status::{Status, Usage, Why};
 pub use words::{Asked, File, Source, WordsFault, parse_words};
-
-#[cfg(test)]
-mod tests;

@@ -18,6 +18,3 @@ pub use fault::MakeFault;
 pub use making::make;
 pub use operators::make_form;
 pub use written::{Form, Operator, form_named};
-
-#[cfg(test)]
-mod tests;

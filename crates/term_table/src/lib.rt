@@ -17,6 +17,3 @@ pub use lists::{Bytes, Nodes, Syms};
 pub use smt_terms::NodeId;
 pub use table::Table;
 pub use text::{scalar_text, sort_text};
-
-#[cfg(test)]
-mod tests;

@@ -22,6 +22,3 @@ pub use node_step::NodeStep;
 pub use stacks::Stack;
 pub use steps::Steps;
 pub use walks::{walk, walk_all};
-
-#[cfg(test)]
-mod tests;

@@ -1,4 +1,0 @@
-use Rattle.normal_forms.proofs.tests.terms.applied.Goals as goal
-
-pub made-requires-clause-numbers : goal.made-requires-clause-numbers
-made-requires-clause-numbers g c = c.in-Some.ensures.numbers c.args.table.now

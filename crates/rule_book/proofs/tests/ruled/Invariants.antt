@@ -1,4 +1,0 @@
-use Rattle.rule_book.proofs.tests.ruled.Given as goal
-
-abbrev pub ghosts-rewritten : goal.ghosts-rewritten
-ghosts-rewritten g a = record { name = a.blank.name; parts = a.blank.parts }

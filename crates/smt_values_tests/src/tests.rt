@@ -1,0 +1,4 @@
+//! Values of operators, and arrays.
+
+mod arrays;
+mod operators;
