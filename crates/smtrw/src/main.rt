@@ -1,26 +1,11 @@
-//! The program `smtrw`: it reads a script of SMT-LIB 2.6, rewrites its assertions by named passes and prints it again
-//! (`rewrite`), carries a model of a check over the passes (`translate`, `extend`), makes a check over bit vectors one over truth
-//! values, and a model of that one of the script (`blast`, `unblast`), takes a check for clauses, and a solver's answer to these for a
-//! model of the script (`dimacs`, `answer`), tells how much stands in the script (`stats`), or shows what
-//! becomes of a script that it makes (`demo`). `run` is all of it, over sources and sinks of bytes; its contract has the sentence that
-//! the program is for, that a script which was rewritten means what it meant before.
+//! The program `smtrw` on the words, files and streams of the host: it takes the words that it was started with, and ends with the
+//! number of the status that `run_with_eight` of `smtrw_run` answers.
 
 #![tactic(auto)]
 
-mod blasting;
-mod carrying;
-mod counting;
-mod demo;
-mod linking;
-mod rewriting;
-mod run;
-mod standard;
-#[cfg(test)]
-mod tests;
-
-use crate::standard::run_with_eight;
 use smt_io::{HostInputs, HostSink};
 use smtrw_answers::Status;
+use smtrw_run::run_with_eight;
 use std::env;
 use std::process::ExitCode;
 

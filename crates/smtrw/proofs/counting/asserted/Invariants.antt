@@ -1,6 +1,0 @@
-use Rattle.std.proofs.Common.{◌≡◌, ◌++◌, drop}
-use Rattle.smtrw.specs.Counted.{ids_of}
-use Rattle.smtrw.proofs.counting.asserted.Given as goal
-
-abbrev pub invariant-loop-command : goal.invariant-loop-command
-invariant-loop-command l = l.ids.items ++ ids_of (drop l.command-index l.commands) ≡ ids_of l.commands
