@@ -24,6 +24,3 @@ mod values;
 pub use faults::ModelFault;
 pub use print::model_text;
 pub use reader::read_model;
-
-#[cfg(test)]
-mod print_tests;

@@ -19,8 +19,8 @@ use std::process::Abort;
 use std::test::Fail;
 use term_table::Table;
 
-const SCRIPT: &[u8] = b"(declare-sort S 0)\
-    (declare-fun b () Bool)(declare-fun f (Int Bool) Int)(declare-fun c () S)(check-sat)";
+const SCRIPT: &[u8] = b"(declare-sort |a b| 0)\
+    (declare-fun b () Bool)(declare-fun f (Int Bool) Int)(declare-fun c () |a b|)(check-sat)";
 
 // A text, and what is printed of its model or why it is refused.
 type Row<'a> = (&'a [u8], Result<&'a [u8], ModelFault>);
@@ -144,27 +144,27 @@ const GIVEN: [Row<'static>; 4] = [
     (
         b"sat ( )",
         Ok(
-            b"(\n(@sort S (as @S_0 S))\n(define-fun b () Bool false)\n(define-fun f ((x!0 Int) (x!1 Bool)) Int 0)\n(define-fun c () S (as @S_0 S))\n)\n",
+            b"(\n(@sort |a b| (as |@a b_0| |a b|))\n(define-fun b () Bool false)\n(define-fun f ((x!0 Int) (x!1 Bool)) Int 0)\n(define-fun c () |a b| (as |@a b_0| |a b|))\n)\n",
         ),
     ),
     (
         b"(model (define-fun f ((x Int) (y Bool)) Int \
         (ite (and y (= x 1)) 5 (ite (and (= 1 x) y) 6 (ite (and (not y) (= x (- 2))) 7 8)))))",
         Ok(
-            b"(\n(@sort S (as @S_0 S))\n(define-fun b () Bool false)\n(define-fun f ((x!0 Int) (x!1 Bool)) Int \
-        (ite (and (= x!0 1) (= x!1 true)) 5 (ite (and (= x!0 (- 2)) (= x!1 false)) 7 8)))\n(define-fun c () S (as @S_0 S))\n)\n",
+            b"(\n(@sort |a b| (as |@a b_0| |a b|))\n(define-fun b () Bool false)\n(define-fun f ((x!0 Int) (x!1 Bool)) Int \
+        (ite (and (= x!0 1) (= x!1 true)) 5 (ite (and (= x!0 (- 2)) (= x!1 false)) 7 8)))\n(define-fun c () |a b| (as |@a b_0| |a b|))\n)\n",
         ),
     ),
     (
-        b"((declare-sort S 0) (@sort S (as @u S) (as @v S)) (define-fun c () S (as @v S)))",
+        b"((declare-sort |a b| 0) (@sort |a b| (as @u |a b|) (as @v |a b|)) (define-fun c () |a b| (as @v |a b|)))",
         Ok(
-            b"(\n(@sort S (as @S_0 S) (as @S_1 S))\n(define-fun b () Bool false)\n(define-fun f ((x!0 Int) (x!1 Bool)) Int 0)\n(define-fun c () S (as @S_1 S))\n)\n",
+            b"(\n(@sort |a b| (as |@a b_0| |a b|) (as |@a b_1| |a b|))\n(define-fun b () Bool false)\n(define-fun f ((x!0 Int) (x!1 Bool)) Int 0)\n(define-fun c () |a b| (as |@a b_1| |a b|))\n)\n",
         ),
     ),
     (
-        b"((define-fun @div0 ((x Int)) Int (ite (= x 3) 4 (- 1))) (define-fun b () Bool true))",
+        b"((define-fun @div0 ((x Int)) Int (ite (= x 3) 4 (- 1))) (define-fun b () Bool true) (define-fun @mod0 ((x Int)) Int 0))",
         Ok(
-            b"(\n(@sort S (as @S_0 S))\n(define-fun b () Bool true)\n(define-fun f ((x!0 Int) (x!1 Bool)) Int 0)\n(define-fun c () S (as @S_0 S))\n\
+            b"(\n(@sort |a b| (as |@a b_0| |a b|))\n(define-fun b () Bool true)\n(define-fun f ((x!0 Int) (x!1 Bool)) Int 0)\n(define-fun c () |a b| (as |@a b_0| |a b|))\n\
         (define-fun @div0 ((x!0 Int)) Int (ite (= x!0 3) 4 (- 1)))\n)\n",
         ),
     ),
