@@ -99,7 +99,6 @@ fn many_keys(rt: HostRuntime) -> Result<(), Fail> {
     let numbers = ArrayValue::new(alloc, whole(240));
     let numbers = filled(alloc, numbers, (0, 40), 0, &sorts, &sizes)?;
     let numbers = filled(alloc, numbers, (10, 20), 100, &sorts, &sizes)?;
-    assert!(rt; numbers.places().is_some());
     assert!(rt; numbers.len() == 40);
     assert!(rt; reads(&numbers, (0, 10), 0, &sorts, &sizes));
     assert!(rt; reads(&numbers, (10, 20), 100, &sorts, &sizes));
