@@ -13,8 +13,7 @@ mod counting;
 mod demo;
 mod linking;
 mod rewriting;
-mod run;
+pub mod run;
 mod standard;
 
-pub use run::run;
 pub use standard::run_with_eight;
