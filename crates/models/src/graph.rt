@@ -9,9 +9,6 @@ ghost use Rattle.smt_values.specs.SortIds.{sort_at, IsSortId};
 ghost use Rattle.models.specs.GraphRows.{meanings, rows_of, constant_graph, has_row, with_row, IsHeldRow, AreValues, HaveKeys};
 ghost use Rattle.models.specs.RowKeys.{keys_of, row_place, ArePlacesOf};
 
-#[cfg(test)]
-mod tests;
-
 use crate::row_keys::{RowPlaces, enter, row_keys};
 use indexmap::IndexSet;
 use smt_terms::SortId;

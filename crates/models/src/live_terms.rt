@@ -112,6 +112,3 @@ fn keep_levels(placed: &mut Vec<(NodeId, u64, u128)>, levels: u128)
     }
     placed.truncate(left);
 }
-
-#[cfg(test)]
-mod tests;

@@ -278,6 +278,3 @@ impl Model {
         self.push_row(s, keys, value)
     }
 }
-
-#[cfg(test)]
-mod tests;

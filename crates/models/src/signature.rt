@@ -146,6 +146,3 @@ fn live_behind(alloc: Global, commands: &[Command], global: bool) -> Result<Sign
     symbols.reverse();
     Ok(Signature { sorts, symbols })
 }
-
-#[cfg(test)]
-mod tests;
