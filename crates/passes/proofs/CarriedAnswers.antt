@@ -13,15 +13,15 @@ use Rattle.term_table.specs.Formulas.{Formulas, tree}
 use Rattle.script_read.specs.Commands.{Command}
 use Rattle.models.specs.ModelView.{ModelLists}
 use Rattle.evaluation.specs.Evaluated.{breaks}
-use Rattle.passes.specs.declared.names.Pass.{Pass}
+use Rattle.pass_laws.specs.declared.names.Pass.{Pass}
 use Rattle.passes.specs.declared.plan.Plan.{Plan}
 use Rattle.passes.specs.declared.carrying.CarryFault.{CarryFault}
 use Rattle.passes.specs.declared.carrying.CarryFault.TheVariants.{NoSuchCheck, EvalWidth, Beyond128, Memory}
-use Rattle.passes.specs.Carry.{Asked, Stage, back, forth, back_stages, forth_stages, most_bits, numbers, all_asked, greatest_bound, beyond_at, beyond}
+use Rattle.pass_laws.specs.Carry.{Asked, Stage, back, forth, back_stages, forth_stages, most_bits, numbers, all_asked, greatest_bound, beyond_at, beyond}
 use Rattle.passes.specs.Carrying.{IsCheck, breaks_in, CarriesTo, CarriesBack, CarriesForth}
-use Rattle.passes.specs.Laws.{IsReady}
-use Rattle.passes.specs.LiveGroups.{back_by, back_stages_by, forth_by, forth_stages_by}
-use Rattle.passes.specs.Passed.{least, or_later}
+use Rattle.pass_laws.specs.Laws.{IsReady}
+use Rattle.pass_laws.specs.LiveGroups.{back_by, back_stages_by, forth_by, forth_stages_by}
+use Rattle.pass_laws.specs.Passed.{least, or_later}
 use Rattle.passes.specs.Plans.{IsPlanOf, told_in}
 use Rattle.passes.proofs.CarriedPlans.{CarryLaws, plan_back, plan_forth, plan_forth_found, plan_back_found}
 

@@ -7,7 +7,7 @@ use Rattle.script_read.specs.Commands.{Command, checks}
 use Rattle.models.specs.ModelView.{ModelLists}
 use Rattle.passes.specs.declared.carrying.CarryFault.{CarryFault}
 use Rattle.passes.specs.declared.carrying.CarryFault.TheVariants.{NoSuchCheck, EvalWidth, Beyond128, Memory}
-use Rattle.passes.specs.Carry.{Asked, Stage, all_asked}
+use Rattle.pass_laws.specs.Carry.{Asked, Stage, all_asked}
 use Rattle.passes.specs.Carrying.{IsCheck, CarriesTo}
 use Rattle.passes.specs.LiveSymbols.{widest_of, bits_among, IsTooWide, Answers}
 

@@ -9,17 +9,17 @@ use Rattle.smt_terms.specs.Models.{Model}
 use Rattle.smt_terms.specs.Term.{Term}
 use Rattle.term_table.specs.Formulas.{Formulas}
 use Rattle.script_read.specs.Commands.{Command, passed, check, check_assuming, State, start, after, Point, with_point, points_from, points, kinds, is_check, checks}
-use Rattle.passes.specs.declared.names.Pass.{Pass}
-use Rattle.passes.specs.declared.names.Pass.TheVariants.{Ite, Cnf, Ackermann}
+use Rattle.pass_laws.specs.declared.names.Pass.{Pass}
+use Rattle.pass_laws.specs.declared.names.Pass.TheVariants.{Ite, Cnf, Ackermann}
 use Rattle.passes.specs.declared.plan.Plan.{Plan}
 use Rattle.passes.specs.declared.plan.Stage.{Stage as PlanStage}
-use Rattle.passes.specs.Carry.{Asked, Stage, back, forth_over, forth, asked_back, asked_forth, back_stages, forth_stages}
-use Rattle.passes.specs.Laws.{puts_groups, keeps_values, IsReady, KeepsCommands, PassKeepsCommands, PutsGroups, GroupsCarryModels, RemovalsCarryModels, TellsModels, StepsTellModels, TellsRemovals, RemovalsTellModels}
-use Rattle.passes.specs.LiveGroups.{Drawn, Operands, all_told, Told, Met, met_at, met_of, asked_of, asked_back_by, back_over_by, forth_over_by, back_by, back_stages_by, forth_by, forth_stages_by, removed_operands}
+use Rattle.pass_laws.specs.Carry.{Asked, Stage, back, forth_over, forth, asked_back, asked_forth, back_stages, forth_stages}
+use Rattle.pass_laws.specs.Laws.{puts_groups, keeps_values, IsReady, KeepsCommands, PassKeepsCommands, PutsGroups, GroupsCarryModels, RemovalsCarryModels, TellsModels, StepsTellModels, TellsRemovals, RemovalsTellModels}
+use Rattle.pass_laws.specs.LiveGroups.{Drawn, Operands, all_told, Told, Met, met_at, met_of, asked_of, asked_back_by, back_over_by, forth_over_by, back_by, back_stages_by, forth_by, forth_stages_by, removed_operands}
 use Rattle.passes.specs.LiveRows.{AreAppliedBy, AreAppliedAt}
-use Rattle.passes.specs.Passed.{apply_pass, replacements}
+use Rattle.pass_laws.specs.Passed.{apply_pass, replacements}
 use Rattle.passes.specs.Plans.{Uses, uses_of, told_operands, AreUsesOf, FirstTells, HasStages, IsPlanOf, told_of, told_in}
-use Rattle.passes.proofs.ModelsStay.{back_stays, forth_stays, nothing_asked}
+use Rattle.pass_laws.proofs.ModelsStay.{back_stays, forth_stays, nothing_asked}
 
 -- the laws of single passes that carrying over a list of them rests on
 pub record CarryLaws : Type 0 where

@@ -8,13 +8,13 @@ use Rattle.script_read.specs.Commands.{Command}
 use Rattle.models.specs.ModelView.{ModelLists}
 use Rattle.passes.specs.declared.carrying.CarryFault.{CarryFault}
 use Rattle.passes.specs.declared.searching.Live.{Live as FoundLive}
-use Rattle.passes.specs.declared.names.Pass.{Pass}
+use Rattle.pass_laws.specs.declared.names.Pass.{Pass}
 use Rattle.passes.specs.declared.plan.Plan.{Plan}
 use Rattle.passes.specs.declared.plan.Stage.{Stage as PlanStage}
-use Rattle.passes.specs.Carry.{all_asked}
+use Rattle.pass_laws.specs.Carry.{all_asked}
 use Rattle.passes.specs.Carrying.{IsCheck, CarriesBack, CarriesForth}
-use Rattle.passes.specs.Laws.{IsReady}
-use Rattle.passes.specs.LiveGroups.{Told, met_of, back_by, back_stages_by, forth_by, forth_stages_by}
+use Rattle.pass_laws.specs.Laws.{IsReady}
+use Rattle.pass_laws.specs.LiveGroups.{Told, met_of, back_by, back_stages_by, forth_by, forth_stages_by}
 use Rattle.passes.specs.LiveRows.{all_asked_at, AreAppliedAt}
 use Rattle.passes.specs.LiveSymbols.{live_of, lives_at, all_asked_in, widest_of, AreLiveAt, IsTooWide, Answers}
 use Rattle.passes.specs.Plans.{told_of, told_in, IsPlanOf}

@@ -11,8 +11,8 @@ use Rattle.script_read.specs.Commands.{Command}
 use Rattle.models.specs.ModelView.{with_graph}
 use Rattle.passes.specs.declared.plan.Step.{Step}
 use Rattle.passes.specs.declared.plan.Step.TheVariants.{Declare, Group, Check, Push, Pop, Reset, ResetAssertions, Globals}
-use Rattle.passes.specs.Carry.{with_graphs, graph_dropped}
-use Rattle.passes.specs.LiveGroups.{Drawn, symbols_in, drawn_in_command, all_drawn, without_drawn}
+use Rattle.pass_laws.specs.Carry.{with_graphs, graph_dropped}
+use Rattle.pass_laws.specs.LiveGroups.{Drawn, symbols_in, drawn_in_command, all_drawn, without_drawn}
 use Rattle.passes.specs.LiveSymbols.{dropped_at}
 use Rattle.passes.specs.Plans.{step_of}
 use Rattle.passes.proofs.GivenModels.{drop-more, drop-append}

@@ -11,7 +11,7 @@ use Rattle.smt_terms.proofs.Among.{is_among-append}
 use Rattle.smt_terms.proofs.Equal.{Decides-symbol_eq, symbol_itself}
 use Rattle.smt_terms.proofs.Tests.{alike_from}
 use Rattle.models.specs.ModelView.{with_graph}
-use Rattle.passes.specs.Carry.{with_graphs, graph_dropped, graph_given, term_for, constant_graph}
+use Rattle.pass_laws.specs.Carry.{with_graphs, graph_dropped, graph_given, term_for, constant_graph}
 use Rattle.passes.specs.LiveSymbols.{Given, named_in, with_defaults, with_each, values_in}
 
 turned : (f g : Symbol) → symbol_eq f g ≡ true → symbol_eq g f ≡ true

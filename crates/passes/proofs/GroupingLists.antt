@@ -5,8 +5,8 @@ use Rattle.std.proofs.lemmas.Grind.{flat_map-append}
 use Rattle.smt_terms.specs.Fresh.{Supply}
 use Rattle.smt_terms.specs.Term.{Term}
 use Rattle.script_read.specs.Commands.{Command, passed, declare_sort, declare, assert, check, check_assuming, push, pop, reset, reset_assertions, globals, exit, with_asserted}
-use Rattle.passes.specs.Groups.{Making, replacement, groups_from, spelled, in_groups}
-use Rattle.passes.specs.Passed.{Replacement, literal_kept, behind, group_commands}
+use Rattle.pass_laws.specs.Groups.{Making, replacement, groups_from, spelled, in_groups}
+use Rattle.pass_laws.specs.Passed.{Replacement, literal_kept, behind, group_commands}
 
 -- what was made so far, and then what becomes of the rest
 abbrev pub continued : {A : Type 0} → List A × Supply → (Supply → List A × Supply) → List A × Supply

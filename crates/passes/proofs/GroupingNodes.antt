@@ -11,8 +11,8 @@ use Rattle.term_groups.specs.Seen.{named_at, IsGroup}
 use Rattle.script_read.specs.declared.scripts.Command.TheVariants.{Declare, Assert}
 use Rattle.script_read.specs.CommandLists.{command_of, commands_of, IsCommandOf, AreCommandsOf}
 use Rattle.script_read.specs.Commands.{declare, assert}
-use Rattle.passes.specs.Groups.{node_commands}
-use Rattle.passes.specs.Passed.{group_commands}
+use Rattle.pass_laws.specs.Groups.{node_commands}
+use Rattle.pass_laws.specs.Passed.{group_commands}
 
 module _ (t : Formulas) where
   declared_so : (ps : List (SymId × NodeId)) → commands_of t (map (λ p. Declare p.0) ps) ≡ map (λ n. declare n.0) (named_at t ps)

@@ -12,7 +12,7 @@ use Rattle.script_read.specs.declared.scripts.Command.{Command}
 use Rattle.script_read.specs.declared.scripts.Command.TheVariants.{Passed, DeclareSort, Declare, Assert, Check, CheckAssuming, Push, Pop, Reset, ResetAssertions, Globals, Exit}
 use Rattle.script_read.specs.CommandLists.{command_of, commands_of, IsCommandOf, AreCommandsOf}
 use Rattle.script_read.proofs.CommandsStay.{commands_within, commands_stay}
-use Rattle.passes.specs.Groups.{Making, in_groups, node_commands}
+use Rattle.pass_laws.specs.Groups.{Making, in_groups, node_commands}
 use Rattle.passes.proofs.GroupingLists.{grouped_assertion, grouped_check}
 use Rattle.passes.proofs.GroupingNodes.{group_commands_so, group_commands_within}
 

@@ -13,8 +13,8 @@ use Rattle.script_read.specs.declared.scripts.Command.{Command}
 use Rattle.script_read.specs.CommandLists.{command_of, commands_of, IsCommandOf, AreCommandsOf}
 use Rattle.script_read.specs.Commands.{Command as CommandOf, passed, declare_sort, declare, assert, check, check_assuming, push, pop, reset, reset_assertions, globals, exit}
 use Rattle.script_read.proofs.CommandsStay.{command_within, command_stays}
-use Rattle.passes.specs.Behind.{IsRewritable, AreRewritable}
-use Rattle.passes.specs.Groups.{Making, in_groups}
+use Rattle.pass_laws.specs.Behind.{IsRewritable, AreRewritable}
+use Rattle.pass_laws.specs.Groups.{Making, in_groups}
 use Rattle.passes.proofs.GroupingLists.{continued, grouped_on}
 use Rattle.passes.proofs.GroupingSteps.{taken_more, holds_there}
 

@@ -18,7 +18,7 @@ use Rattle.ackermann.specs.Tables.{operands_of}
 use Rattle.passes.specs.declared.plan.Step.{Step}
 use Rattle.passes.specs.declared.plan.Step.TheVariants.{Declare, Group, Check, Push, Pop, Reset, ResetAssertions, Globals}
 use Rattle.passes.specs.declared.plan.Use.{Use}
-use Rattle.passes.specs.LiveGroups.{operands_with}
+use Rattle.pass_laws.specs.LiveGroups.{operands_with}
 use Rattle.passes.specs.Plans.{use_of, Uses, IsStepOf, IsUse, HasUse, HaveUses}
 use Rattle.passes.specs.Removing.{keys_of, operands_kept, AreApart, IsKept, AreKept}
 

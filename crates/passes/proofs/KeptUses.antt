@@ -18,7 +18,7 @@ use Rattle.ackermann.specs.LevelsAt.{Live, levels_at, IsApplicationOf}
 use Rattle.ackermann.specs.LiveUses.{named_uses}
 use Rattle.ackermann.proofs.CutLevels.{live-cut}
 use Rattle.passes.specs.declared.plan.Use.{Use}
-use Rattle.passes.specs.LiveGroups.{operands_with}
+use Rattle.pass_laws.specs.LiveGroups.{operands_with}
 use Rattle.passes.specs.Plans.{Uses, IsUse, HasUse}
 use Rattle.passes.specs.Removing.{keys_of, operands_kept, AreApart, Keeps}
 use Rattle.passes.proofs.GroupingSteps.{taken_more}

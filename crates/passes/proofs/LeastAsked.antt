@@ -8,8 +8,8 @@ use Rattle.std.proofs.lemmas.List.Sums.{fold-append}
 use Rattle.smt_terms.specs.Val.{bits_bound}
 use Rattle.evaluation.specs.Evaluated.{told_bits}
 use Rattle.passes.specs.declared.carrying.Wide.{Wide}
-use Rattle.passes.specs.Carry.{Asked, numbers, greatest_bound, most_bits}
-use Rattle.passes.specs.Passed.{least}
+use Rattle.pass_laws.specs.Carry.{Asked, numbers, greatest_bound, most_bits}
+use Rattle.pass_laws.specs.Passed.{least}
 use Rattle.passes.specs.LiveSymbols.{widest_of, bits_among, IsWidest}
 
 -- ---- the least of numbers

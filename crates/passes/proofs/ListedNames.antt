@@ -6,10 +6,10 @@ use Rattle.std.proofs.Math.Seq.{drop-cons}
 use Rattle.std.proofs.lemmas.Bool.Decides.{nat_tests}
 use Rattle.std.proofs.lemmas.List.{drop_all, get_or-map, length-append, length-map}
 use Rattle.smt_terms.specs.Sorts.{Name}
-use Rattle.passes.specs.Lists.{all_known, any_pass, between_commas, groups_after_rules, in_order, listed, makes_groups, onto_first, pass_among, pass_named, passes_named, with_pass}
-use Rattle.passes.specs.declared.names.Pass.{Pass}
-use Rattle.passes.specs.declared.names.Pass.TheVariants.{Rules}
-use Rattle.passes.specs.declared.names.ListFault.TheVariants.{BadPass}
+use Rattle.pass_laws.specs.Lists.{all_known, any_pass, between_commas, groups_after_rules, in_order, listed, makes_groups, onto_first, pass_among, pass_named, passes_named, with_pass}
+use Rattle.pass_laws.specs.declared.names.Pass.{Pass}
+use Rattle.pass_laws.specs.declared.names.Pass.TheVariants.{Rules}
+use Rattle.pass_laws.specs.declared.names.ListFault.TheVariants.{BadPass}
 
 -- ---- what stands between commas, in the words of `split`
 

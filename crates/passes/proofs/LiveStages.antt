@@ -26,17 +26,17 @@ use Rattle.passes.specs.declared.carrying.CarryFault.TheVariants.{NoSuchCheck, E
 use Rattle.passes.specs.declared.searching.Live.{Live as FoundLive}
 use Rattle.passes.specs.declared.searching.LiveSymbol.{LiveSymbol}
 use Rattle.passes.specs.declared.plan.Stage.{Stage as PlanStage}
-use Rattle.passes.specs.Carry.{Asked, Stage, asked_for, beyond, constant_graph, with_graphs, graph_given, term_for, numbers, most_bits, all_asked}
+use Rattle.pass_laws.specs.Carry.{Asked, Stage, asked_for, beyond, constant_graph, with_graphs, graph_given, term_for, numbers, most_bits, all_asked}
 use Rattle.passes.specs.Carrying.{breaks_in}
-use Rattle.passes.specs.LiveGroups.{Drawn, Operands, Met, Told, met_of, asked_of, symbols_in, forth_over_by, forth_by, forth_stages_by}
+use Rattle.pass_laws.specs.LiveGroups.{Drawn, Operands, Met, Told, met_of, asked_of, symbols_in, forth_over_by, forth_by, forth_stages_by}
 use Rattle.passes.specs.LiveSymbols.{Given, Live, given_by, live_of, live_at, lives_at, given_at, named_in, asked_in, all_asked_in, kept_over, with_live, beyond_of, breaks_among, widest_of, with_defaults, with_each, valued_at, AreLiveAt, AreValues, IsValueFor, IsBeyondAmong, Answers}
-use Rattle.passes.specs.Passed.{least, or_later}
+use Rattle.pass_laws.specs.Passed.{least, or_later}
 use Rattle.passes.specs.Plans.{Uses, uses_of, told_operands}
 use Rattle.passes.proofs.GivenModels.{given_live, each-more, default-more}
 use Rattle.passes.proofs.GroupingSteps.{taken_more}
 use Rattle.passes.proofs.LeastAsked.{is_wide}
 use Rattle.passes.proofs.ListPlaces.{front, all_at, map_at}
-use Rattle.passes.proofs.NamedTerms.{all_apart}
+use Rattle.pass_laws.proofs.NamedTerms.{all_apart}
 
 -- ---- one element more
 

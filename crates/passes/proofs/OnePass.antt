@@ -5,19 +5,19 @@ use Rattle.smt_terms.specs.Fresh.{Supply}
 use Rattle.smt_terms.specs.Sorts.{Name}
 use Rattle.smt_terms.specs.Term.{Term}
 use Rattle.script_read.specs.Commands.{Command}
-use Rattle.passes.specs.declared.names.Pass.{Pass}
-use Rattle.passes.specs.declared.names.Pass.TheVariants.{Simplify, Nnf, Aig, Prenex, Reads, Shannon, SelfSub, Rules, Ite, Cnf, Ackermann}
-use Rattle.passes.specs.Behind.{Form, in_form}
-use Rattle.passes.specs.Carry.{back_over, forth_over}
-use Rattle.passes.specs.Groups.{making, in_groups}
-use Rattle.passes.specs.Laws.{keeps_values, puts_groups, IsReady, IsModelOf, CarriesModels, CarriesSignatures, KeepsCommands, PassKeepsCommands, RulesKeepCommands, EquivalentsHaveOneModel, PassesLeaveModels, PutsGroups, GroupsCarryModels, RemovalsCarryModels, IsCarried}
-use Rattle.passes.specs.Led.{EachMayBecome, LeadsTo}
-use Rattle.passes.specs.Lists.{makes_groups}
-use Rattle.passes.specs.Passed.{apply_pass, refused_by}
-use Rattle.passes.specs.Ruling.{RewritesCommands}
-use Rattle.passes.proofs.GroupPasses.{applied-group}
-use Rattle.passes.proofs.InForm.{IsForm, asks_rules, applied}
-use Rattle.passes.proofs.ModelsCarried.{IsOver, one_signature}
+use Rattle.pass_laws.specs.declared.names.Pass.{Pass}
+use Rattle.pass_laws.specs.declared.names.Pass.TheVariants.{Simplify, Nnf, Aig, Prenex, Reads, Shannon, SelfSub, Rules, Ite, Cnf, Ackermann}
+use Rattle.pass_laws.specs.Behind.{Form, in_form}
+use Rattle.pass_laws.specs.Carry.{back_over, forth_over}
+use Rattle.pass_laws.specs.Groups.{making, in_groups}
+use Rattle.pass_laws.specs.Laws.{keeps_values, puts_groups, IsReady, IsModelOf, CarriesModels, CarriesSignatures, KeepsCommands, PassKeepsCommands, RulesKeepCommands, EquivalentsHaveOneModel, PassesLeaveModels, PutsGroups, GroupsCarryModels, RemovalsCarryModels, IsCarried}
+use Rattle.pass_laws.specs.Led.{EachMayBecome, LeadsTo}
+use Rattle.pass_laws.specs.Lists.{makes_groups}
+use Rattle.pass_laws.specs.Passed.{apply_pass, refused_by}
+use Rattle.pass_laws.specs.Ruling.{RewritesCommands}
+use Rattle.pass_laws.proofs.GroupPasses.{applied-group}
+use Rattle.pass_laws.proofs.InForm.{IsForm, asks_rules, applied}
+use Rattle.pass_laws.proofs.ModelsCarried.{IsOver, one_signature}
 
 -- the pass leads from these commands to those, and carries models from the ones to the others
 pub record IsLed (p : Pass) (cs : List (Command Term)) (s : Supply) (rules : List Name) (ds : List (Command Term)) (r : Supply) : Type 0 where

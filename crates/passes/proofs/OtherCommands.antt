@@ -15,13 +15,13 @@ use Rattle.script_read.specs.declared.scripts.Command.{Command}
 use Rattle.script_read.specs.declared.scripts.Command.TheVariants.{Passed, DeclareSort, Declare, Assert, Check, CheckAssuming, Push, Pop, Reset, ResetAssertions, Globals, Exit}
 use Rattle.script_read.specs.CommandLists.{command_of, commands_of, IsCommandOf}
 use Rattle.script_read.specs.Commands.{Command as CommandOf, check_assuming, assert, with_asserted}
-use Rattle.passes.specs.declared.names.Pass.TheVariants.{Ackermann}
+use Rattle.pass_laws.specs.declared.names.Pass.TheVariants.{Ackermann}
 use Rattle.passes.specs.declared.plan.Step.{Step}
 use Rattle.passes.specs.declared.plan.Step.TheVariants.{Declare as DeclareStep, Group, Check as CheckStep, Push as PushStep, Pop as PopStep, Reset as ResetStep, ResetAssertions as ResetAssertionsStep, Globals as GlobalsStep}
 use Rattle.passes.specs.declared.removing.Removal.{Removal}
-use Rattle.passes.specs.Behind.{IsRewritable}
-use Rattle.passes.specs.LiveGroups.{Drawn, told_function, told, opened_by, operands_behind}
-use Rattle.passes.specs.Passed.{Replacement, Way, literal_kept, onward, turn, written, quantified_use}
+use Rattle.pass_laws.specs.Behind.{IsRewritable}
+use Rattle.pass_laws.specs.LiveGroups.{Drawn, told_function, told, opened_by, operands_behind}
+use Rattle.pass_laws.specs.Passed.{Replacement, Way, literal_kept, onward, turn, written, quantified_use}
 use Rattle.passes.specs.Plans.{steps_of, told_by, Uses, HaveUses}
 use Rattle.passes.specs.Removing.{operands_kept, kept_of, way_of, Goes}
 

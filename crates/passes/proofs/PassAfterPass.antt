@@ -9,15 +9,15 @@ use Rattle.smt_terms.specs.Sorts.{Name}
 use Rattle.smt_terms.specs.Term.{Term}
 use Rattle.smt_terms.proofs.Tests.{both_false, or_false}
 use Rattle.script_read.specs.Commands.{Command}
-use Rattle.passes.specs.declared.names.Pass.{Pass}
-use Rattle.passes.specs.declared.names.Pass.TheVariants.{Rules}
-use Rattle.passes.specs.Laws.{IsReady, PassesLeaveModels, IsCarried, AreCarried}
-use Rattle.passes.specs.Led.{LeadsTo}
-use Rattle.passes.specs.Lists.{makes_groups, groups_after_rules}
-use Rattle.passes.specs.Passed.{apply_pass, passed}
-use Rattle.passes.proofs.CarriedLists.{any_more, carried-more, carried-none, passed-more}
-use Rattle.passes.proofs.InForm.{asks_rules}
-use Rattle.passes.proofs.Kept.{equivalent_itself, equivalent_then}
+use Rattle.pass_laws.specs.declared.names.Pass.{Pass}
+use Rattle.pass_laws.specs.declared.names.Pass.TheVariants.{Rules}
+use Rattle.pass_laws.specs.Laws.{IsReady, PassesLeaveModels, IsCarried, AreCarried}
+use Rattle.pass_laws.specs.Led.{LeadsTo}
+use Rattle.pass_laws.specs.Lists.{makes_groups, groups_after_rules}
+use Rattle.pass_laws.specs.Passed.{apply_pass, passed}
+use Rattle.pass_laws.proofs.CarriedLists.{any_more, carried-more, carried-none, passed-more}
+use Rattle.pass_laws.proofs.InForm.{asks_rules}
+use Rattle.pass_laws.proofs.Kept.{equivalent_itself, equivalent_then}
 
 -- ---- one pass, and then others
 

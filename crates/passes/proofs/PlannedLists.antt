@@ -15,20 +15,20 @@ use Rattle.script_read.specs.declared.scripts.Command.{Command as NodeCommand}
 use Rattle.script_read.specs.declared.scripts.Command.TheVariants.{Passed, DeclareSort, Declare as DeclareCommand, Assert, Check as CheckCommand, CheckAssuming, Push as PushCommand, Pop as PopCommand, Reset as ResetCommand, ResetAssertions as ResetAssertionsCommand, Globals as GlobalsCommand, Exit}
 use Rattle.script_read.specs.CommandLists.{command_of, commands_of, is_check as is_node_check}
 use Rattle.script_read.specs.Commands.{Command, is_check, checks}
-use Rattle.passes.specs.declared.names.Pass.{Pass}
-use Rattle.passes.specs.declared.names.Pass.TheVariants.{Simplify, Nnf, Aig, Prenex, Reads, Shannon, SelfSub, Rules, Ite, Cnf, Ackermann}
+use Rattle.pass_laws.specs.declared.names.Pass.{Pass}
+use Rattle.pass_laws.specs.declared.names.Pass.TheVariants.{Simplify, Nnf, Aig, Prenex, Reads, Shannon, SelfSub, Rules, Ite, Cnf, Ackermann}
 use Rattle.passes.specs.declared.plan.Stage.{Stage}
 use Rattle.passes.specs.declared.plan.Step.{Step}
 use Rattle.passes.specs.declared.plan.Step.TheVariants.{Declare, Group, Check, Push, Pop, Reset, ResetAssertions, Globals}
-use Rattle.passes.specs.Groups.{making, groups_from}
-use Rattle.passes.specs.Laws.{puts_groups, IsReady, HaveSorts, DrawnHaveSorts}
-use Rattle.passes.specs.Lists.{makes_groups, groups_after_rules}
-use Rattle.passes.specs.LiveGroups.{all_told, all_drawn}
-use Rattle.passes.specs.Passed.{apply_pass, passed, replacements}
+use Rattle.pass_laws.specs.Groups.{making, groups_from}
+use Rattle.pass_laws.specs.Laws.{puts_groups, IsReady, HaveSorts, DrawnHaveSorts}
+use Rattle.pass_laws.specs.Lists.{makes_groups, groups_after_rules}
+use Rattle.pass_laws.specs.LiveGroups.{all_told, all_drawn}
+use Rattle.pass_laws.specs.Passed.{apply_pass, passed, replacements}
 use Rattle.passes.specs.Plans.{steps_of, told_operands, uses_of, AreUsesOf, HasUse, HaveUses, IsPairOver, IsStepOf, IsStepOver, Tells, TellInOrder, HasStages, IsStageOf, IsStageOver, Uses}
 use Rattle.passes.specs.Removing.{AreKept, IsStageKept}
-use Rattle.passes.proofs.CarriedLists.{no_rules_before}
-use Rattle.passes.proofs.GroupPasses.{replaced-group}
+use Rattle.pass_laws.proofs.CarriedLists.{no_rules_before}
+use Rattle.pass_laws.proofs.GroupPasses.{replaced-group}
 use Rattle.passes.proofs.GroupingSteps.{taken_more}
 use Rattle.passes.proofs.KeptOperands.{have-within, kept-still}
 use Rattle.passes.proofs.OnePass.{is_group_pass}

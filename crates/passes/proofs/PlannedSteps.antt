@@ -21,9 +21,9 @@ use Rattle.script_read.specs.CommandLists.{command_of}
 use Rattle.script_read.specs.Commands.{Command as CommandOf, declare, assert}
 use Rattle.passes.specs.declared.plan.Step.{Step}
 use Rattle.passes.specs.declared.plan.Step.TheVariants.{Declare as DeclareStep, Group, Check as CheckStep, Push as PushStep, Pop as PopStep, Reset as ResetStep, ResetAssertions as ResetAssertionsStep, Globals as GlobalsStep}
-use Rattle.passes.specs.Groups.{Making, groups_from}
-use Rattle.passes.specs.LiveGroups.{told, all_told}
-use Rattle.passes.specs.Passed.{Replacement}
+use Rattle.pass_laws.specs.Groups.{Making, groups_from}
+use Rattle.pass_laws.specs.LiveGroups.{told, all_told}
+use Rattle.pass_laws.specs.Passed.{Replacement}
 use Rattle.passes.specs.Plans.{step_of, steps_of, told_by, IsStepOf, IsPairOver, IsStepOver, Tells}
 use Rattle.passes.proofs.GroupingLists.{made_on}
 use Rattle.passes.proofs.GroupingSteps.{taken_more}

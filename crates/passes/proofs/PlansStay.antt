@@ -5,7 +5,7 @@ use Rattle.smt_terms.specs.Term.{Term}
 use Rattle.term_table.specs.Formulas.{Formulas}
 use Rattle.term_walk.specs.Walking.{GrowsTo}
 use Rattle.script_read.specs.Commands.{Command}
-use Rattle.passes.specs.declared.names.Pass.{Pass}
+use Rattle.pass_laws.specs.declared.names.Pass.{Pass}
 use Rattle.passes.specs.declared.plan.Plan.{Plan}
 use Rattle.passes.specs.Plans.{IsPlanOf, IsPlanOver}
 use Rattle.passes.specs.Removing.{IsPlanKept}

@@ -7,13 +7,13 @@ use Rattle.smt_terms.specs.Sorts.{Name}
 use Rattle.smt_terms.specs.Term.{Term}
 use Rattle.smt_terms.proofs.Tests.{true_or_false}
 use Rattle.script_read.specs.Commands.{Command}
-use Rattle.passes.specs.declared.names.Pass.{Pass}
-use Rattle.passes.specs.declared.names.Pass.TheVariants.{Simplify, Nnf, Aig, Prenex, Reads, Shannon, SelfSub, Rules, Ite, Cnf, Ackermann}
+use Rattle.pass_laws.specs.declared.names.Pass.{Pass}
+use Rattle.pass_laws.specs.declared.names.Pass.TheVariants.{Simplify, Nnf, Aig, Prenex, Reads, Shannon, SelfSub, Rules, Ite, Cnf, Ackermann}
 use Rattle.passes.specs.declared.running.PassFault.{PassFault}
 use Rattle.passes.specs.declared.running.PassFault.TheVariants.{QuantifiedUse}
-use Rattle.passes.specs.Lists.{makes_groups, groups_after_rules}
-use Rattle.passes.specs.Passed.{apply_pass, passed, or_later, refused_by, refused_assertion}
-use Rattle.passes.proofs.CarriedLists.{no_rules_before}
+use Rattle.pass_laws.specs.Lists.{makes_groups, groups_after_rules}
+use Rattle.pass_laws.specs.Passed.{apply_pass, passed, or_later, refused_by, refused_assertion}
+use Rattle.pass_laws.proofs.CarriedLists.{no_rules_before}
 use Rattle.passes.proofs.GroupingSteps.{taken_more}
 use Rattle.passes.proofs.PassAfterPass.{first_in_order, IsBehind}
 use Rattle.passes.proofs.RefusedCommands.{first_left}

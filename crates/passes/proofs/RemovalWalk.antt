@@ -16,13 +16,13 @@ use Rattle.script_read.specs.declared.scripts.Command.TheVariants.{Passed, Decla
 use Rattle.script_read.specs.CommandLists.{command_of, commands_of, IsCommandOf, AreCommandsOf}
 use Rattle.script_read.specs.Commands.{Command, passed, declare_sort, declare, assert, check, check_assuming, push, pop, reset, reset_assertions, globals, exit}
 use Rattle.script_read.proofs.CommandsStay.{commands_within, commands_stay}
-use Rattle.passes.specs.declared.names.Pass.TheVariants.{Ackermann}
+use Rattle.pass_laws.specs.declared.names.Pass.TheVariants.{Ackermann}
 use Rattle.passes.specs.declared.plan.Stage.{Stage}
 use Rattle.passes.specs.declared.plan.Step.{Step}
 use Rattle.passes.specs.declared.removing.Removal.{Removal}
-use Rattle.passes.specs.Laws.{IsReady, HaveSorts, LevelsAreOpen, RemovalsTellModels}
-use Rattle.passes.specs.LiveGroups.{all_told, all_drawn, told, levels_open, opened_by, opened_from, operands_in, operands_behind}
-use Rattle.passes.specs.Passed.{Way, Replacement, turn, replacements_from, replacements, written, apply_pass, least, quantified_use, refused_by}
+use Rattle.pass_laws.specs.Laws.{IsReady, HaveSorts, LevelsAreOpen, RemovalsTellModels}
+use Rattle.pass_laws.specs.LiveGroups.{all_told, all_drawn, told, levels_open, opened_by, opened_from, operands_in, operands_behind}
+use Rattle.pass_laws.specs.Passed.{Way, Replacement, turn, replacements_from, replacements, written, apply_pass, least, quantified_use, refused_by}
 use Rattle.passes.specs.Plans.{steps_of, uses_of, told_operands, Uses, IsStepOf, HaveUses, IsStageOf, IsStageOver}
 use Rattle.passes.specs.Removing.{keys_of, operands_kept, way_of, ClosesOpen, IsKept, AreKept, Goes, IsRemovalOver}
 use Rattle.passes.proofs.GroupingSteps.{SameFrom, taken_more}

@@ -20,8 +20,8 @@ use Rattle.script_read.specs.Commands.{assert}
 use Rattle.script_read.proofs.CommandsStay.{commands_within, commands_stay}
 use Rattle.passes.specs.declared.plan.Step.TheVariants.{Group}
 use Rattle.passes.specs.declared.removing.Removal.{Removal}
-use Rattle.passes.specs.Groups.{node_commands}
-use Rattle.passes.specs.LiveGroups.{operands_with}
+use Rattle.pass_laws.specs.Groups.{node_commands}
+use Rattle.pass_laws.specs.LiveGroups.{operands_with}
 use Rattle.passes.specs.Plans.{step_of, Uses, IsStepOf, HaveUses}
 use Rattle.passes.specs.Removing.{keys_of, AreApart, IsKept, Keeps, IsRemovalOver, Goes}
 use Rattle.passes.proofs.DrawnKeys.{first_of, keys-apart, drawn-gone, earlier-gone}

@@ -12,17 +12,17 @@ use Rattle.passes.specs.declared.carrying.CarryFault.{CarryFault}
 use Rattle.passes.specs.declared.carrying.CarryFault.TheVariants.{NoSuchCheck, EvalWidth, Beyond128, Memory}
 use Rattle.passes.specs.declared.searching.Live.{Live as FoundLive}
 use Rattle.passes.specs.declared.plan.Stage.{Stage as PlanStage}
-use Rattle.passes.specs.Carry.{Stage, asked_for, beyond_at, beyond, all_asked}
+use Rattle.pass_laws.specs.Carry.{Stage, asked_for, beyond_at, beyond, all_asked}
 use Rattle.passes.specs.Carrying.{breaks_in}
-use Rattle.passes.specs.LiveGroups.{Drawn, Operands, Met, Told, met_of, asked_back_by, back_over_by, back_by, back_stages_by}
+use Rattle.pass_laws.specs.LiveGroups.{Drawn, Operands, Met, Told, met_of, asked_back_by, back_over_by, back_by, back_stages_by}
 use Rattle.passes.specs.LiveRows.{operands_by, asked_for_rows, asked_at, all_asked_at, back_over_live, operands_told, AreAppliedBy}
 use Rattle.passes.specs.LiveSymbols.{Given, Live, given_by, live_of, live_at, beyond_of, breaks_among, widest_of, AreLiveAt, IsBeyondAmong, Answers}
-use Rattle.passes.specs.Passed.{or_later}
+use Rattle.pass_laws.specs.Passed.{or_later}
 use Rattle.passes.specs.Plans.{Uses, told_of, told_operands}
 use Rattle.passes.proofs.CarriedAnswers.{asked_last, beyond_last, breaks_last, breaks_at}
 use Rattle.passes.proofs.ListPlaces.{drop-front}
 use Rattle.passes.proofs.LiveStages.{IsNarrow, all_narrow, none_of_narrow}
-use Rattle.passes.proofs.NamedTerms.{all_parted}
+use Rattle.pass_laws.proofs.NamedTerms.{all_parted}
 use Rattle.passes.proofs.TabledRows.{tables_made}
 
 -- ---- the operands of live applications

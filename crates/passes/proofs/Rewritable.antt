@@ -13,9 +13,9 @@ use Rattle.script_read.specs.Commands.{Command, passed, declare_sort, declare, a
 use Rattle.script_read.specs.Laws.{names_in_command}
 use Rattle.script_terms.specs.Read.{has_sort}
 use Rattle.script_read.specs.Printable.{is_printable_term, may_stand, fixes, may_be_followed, printable_from}
-use Rattle.passes.specs.Laws.{IsReady}
-use Rattle.passes.specs.Behind.{IsRewritable, AreRewritable}
-use Rattle.passes.proofs.Literals.{sort_is_bool}
+use Rattle.pass_laws.specs.Laws.{IsReady}
+use Rattle.pass_laws.specs.Behind.{IsRewritable, AreRewritable}
+use Rattle.pass_laws.proofs.Literals.{sort_is_bool}
 
 one_rewritable : (begun : Bool) (st : State Term) (s : Supply) (c : Command Term) → may_stand begun st c ≡ true → GivesNone s (names_in_command c) → IsRewritable s c
 one_rewritable begun st s (passed text) h none = tt

@@ -17,9 +17,9 @@ use Rattle.script_read.specs.CommandLists.{command_of, commands_of, IsCommandOf,
 use Rattle.script_read.specs.Commands.{Command as CommandOf, assert}
 use Rattle.script_terms.proofs.Grown.{none_later}
 use Rattle.passes.specs.Assertion.{assertion_of}
-use Rattle.passes.specs.Behind.{Form, IsRewritable, AreRewritable}
+use Rattle.pass_laws.specs.Behind.{Form, IsRewritable, AreRewritable}
 use Rattle.script_read.proofs.CommandsStay.{commands_within, commands_stay}
-use Rattle.passes.proofs.InForm.{IsUnderWay, is_assertion, kept_step, changed_step, its_own}
+use Rattle.pass_laws.proofs.InForm.{IsUnderWay, is_assertion, kept_step, changed_step, its_own}
 
 all_at : {X : Type 0} (P : X → Type 0) (xs : List X) (i : ℕ) (x : X) → slice_get xs i ≡ Some x → All P xs → P x
 all_at P xs i x e all = subst P (get_or_from_slice_get xs i x x e) (All-get_or P xs i x (slice_get_within xs i x e) all)

@@ -11,8 +11,8 @@ use Rattle.script_read.specs.declared.scripts.Command.TheVariants.{Assert}
 use Rattle.script_read.specs.CommandLists.{commands_of, AreCommandsOf}
 use Rattle.script_read.specs.Commands.{Command as CommandOf, assert}
 use Rattle.passes.specs.Assertion.{assertion_of}
-use Rattle.passes.specs.Ruling.{RewritesCommand, RewritesCommands}
-use Rattle.passes.proofs.InForm.{is_assertion}
+use Rattle.pass_laws.specs.Ruling.{RewritesCommand, RewritesCommands}
+use Rattle.pass_laws.proofs.InForm.{is_assertion}
 use Rattle.passes.proofs.RewrittenCommands.{IsOther, other_seen, seen, commands_then}
 
 -- the first i commands are rewritten, the others stand as they were

@@ -1,7 +1,7 @@
 -- Whether declarations outlive their levels, step by step.
 use Rattle.std.proofs.Common.{◌+◌, take, slice_get, Some, ◌≡◌, ◌∙◌, ap, refl, ℕ, Bool, false, List, [], ◌∷◌, ◌++◌}
 use Rattle.script_read.specs.Commands.{Command, globals, reset}
-use Rattle.passes.specs.LiveGroups.{Drawn, global_behind}
+use Rattle.pass_laws.specs.LiveGroups.{Drawn, global_behind}
 use Rattle.passes.proofs.GroupingSteps.{taken_more}
 
 pub global-append : (b : Bool) (cs ds : List (Command Drawn)) → global_behind b (cs ++ ds) ≡ global_behind (global_behind b cs) ds

@@ -16,7 +16,7 @@ use Rattle.term_walk.specs.Walking.{GrowsTo}
 use Rattle.script_terms.proofs.Grown.{trees_stay}
 use Rattle.models.specs.ModelView.{symbol_number}
 use Rattle.passes.specs.declared.plan.Use.{Use}
-use Rattle.passes.specs.LiveGroups.{operands_in}
+use Rattle.pass_laws.specs.LiveGroups.{operands_in}
 use Rattle.passes.specs.Plans.{use_of, Uses, operands_at, told_operands}
 use Rattle.passes.specs.Removing.{keys_of, operands_kept, AreApart, IsKept, AreKept}
 use Rattle.passes.proofs.KeptOperands.{IsNew, use-new}

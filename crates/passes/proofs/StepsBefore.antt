@@ -10,7 +10,7 @@ use Rattle.passes.specs.declared.searching.Live.{Live as FoundLive}
 use Rattle.passes.specs.declared.plan.Stage.{Stage}
 use Rattle.passes.specs.declared.plan.Step.{Step}
 use Rattle.passes.specs.declared.plan.Step.TheVariants.{Declare, Group, Check, Push, Pop, Reset, ResetAssertions, Globals}
-use Rattle.passes.specs.LiveGroups.{Drawn, before_check}
+use Rattle.pass_laws.specs.LiveGroups.{Drawn, before_check}
 use Rattle.passes.specs.LiveRows.{IsLiveStage, AreLiveStages}
 use Rattle.passes.specs.LiveSymbols.{Live, live_at, lives_at, AreLiveOver}
 use Rattle.passes.specs.Plans.{step_of, steps_of}

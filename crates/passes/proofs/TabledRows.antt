@@ -17,12 +17,12 @@ use Rattle.ackermann.specs.Tables.{with_rows}
 use Rattle.script_read.specs.Commands.{Command}
 use Rattle.models.specs.GraphRows.{row_added}
 use Rattle.models.specs.ModelView.{with_row_for}
-use Rattle.passes.specs.Carry.{with_graphs, graph_dropped, constant_graph}
-use Rattle.passes.specs.LiveGroups.{Drawn, Operands, Met, symbols_in, all_drawn, without_drawn, row_by, graph_by, with_tables, is_applied, AreApplied}
+use Rattle.pass_laws.specs.Carry.{with_graphs, graph_dropped, constant_graph}
+use Rattle.pass_laws.specs.LiveGroups.{Drawn, Operands, Met, symbols_in, all_drawn, without_drawn, row_by, graph_by, with_tables, is_applied, AreApplied}
 use Rattle.passes.specs.LiveRows.{RowOf, row_for, rows_for, with_rows_for}
 use Rattle.passes.specs.LiveSymbols.{Given, named_in, live_of, with_defaults}
 use Rattle.passes.proofs.LiveStages.{named_met}
-use Rattle.passes.proofs.NamedTerms.{all_joined}
+use Rattle.pass_laws.proofs.NamedTerms.{all_joined}
 
 -- ---- rows one after the other
 

@@ -36,15 +36,15 @@ use Rattle.passes.specs.declared.searching.LiveSymbol.{LiveSymbol}
 use Rattle.passes.specs.declared.plan.Use.{Use}
 use Rattle.passes.specs.declared.tables.NewRow.{NewRow}
 use Rattle.passes.specs.declared.tables.Tabling.{Tabling}
-use Rattle.passes.specs.Carry.{Asked, asked_for}
-use Rattle.passes.specs.LiveGroups.{Operands}
+use Rattle.pass_laws.specs.Carry.{Asked, asked_for}
+use Rattle.pass_laws.specs.LiveGroups.{Operands}
 use Rattle.passes.specs.LiveRows.{asked_for_rows, row_for, rows_for, row_at, with_rows_for, IsNarrowTerm, IsOneBeyond, AreValuesIn, IsRowFor, IsTabling}
 use Rattle.passes.specs.LiveSymbols.{Given, given_at, beyond_of, breaks_among, widest_of, is_settled, IsLiveOver, IsLeastBeyond}
 use Rattle.passes.specs.Plans.{IsUse}
 use Rattle.passes.proofs.GroupingSteps.{taken_more}
 use Rattle.passes.proofs.ListPlaces.{all_at, map_at}
 use Rattle.passes.proofs.LiveStages.{given-more, IsNarrow, all_narrow}
-use Rattle.passes.proofs.NamedTerms.{all_apart}
+use Rattle.pass_laws.proofs.NamedTerms.{all_apart}
 use Rattle.passes.proofs.ValuedTerms.{beyond_fits, beyond_settled, beyond_least, settled_stays}
 
 -- ---- an assertion's terms

@@ -18,7 +18,7 @@ use Rattle.evaluation.specs.Evaluated.{breaks, IsValueOf, IsBeyond}
 use Rattle.passes.specs.declared.carrying.Beyond.{Beyond}
 use Rattle.passes.specs.declared.searching.LiveSymbol.{LiveSymbol}
 use Rattle.passes.specs.declared.carrying.Valuation.{Valuation}
-use Rattle.passes.specs.Carry.{Asked}
+use Rattle.pass_laws.specs.Carry.{Asked}
 use Rattle.passes.specs.LiveSymbols.{Given, given_at, asked_in, beyond_of, breaks_among, valued_at, is_settled, IsLiveOver, IsLeastBeyond, IsValueFor, IsValuation}
 use Rattle.passes.proofs.LeastAsked.{picked-passed, picked-other}
 

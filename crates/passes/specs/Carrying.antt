@@ -10,10 +10,10 @@ use Rattle.term_table.specs.Formulas.{Formulas, tree, IsNode}
 use Rattle.script_read.specs.Commands.{Command, checks}
 use Rattle.models.specs.ModelView.{ModelLists, model_at, IsModelOf}
 use Rattle.evaluation.specs.Evaluated.{breaks}
-use Rattle.passes.specs.declared.names.Pass.{Pass}
+use Rattle.pass_laws.specs.declared.names.Pass.{Pass}
 use Rattle.passes.specs.declared.carrying.CarryFault.{CarryFault}
 use Rattle.passes.specs.declared.carrying.CarryFault.TheVariants.{NoSuchCheck, EvalWidth, Beyond128, Memory}
-use Rattle.passes.specs.Carry.{Stage, back, forth, back_stages, forth_stages, too_wide, bits_of_assertion, beyond}
+use Rattle.pass_laws.specs.Carry.{Stage, back, forth, back_stages, forth_stages, too_wide, bits_of_assertion, beyond}
 
 abbrev pub IsCheck : ℕ → List (Command Term) → Type 0
 IsCheck k cs = (1 ≤ k) × (k ≤ checks cs)

@@ -1,14 +1,4 @@
 pub mod Assertion
-pub mod Behind
-pub mod Carry
-pub mod GroupPoints
-pub mod Groups
-pub mod Laws
-pub mod Led
-pub mod Lists
-pub mod Passed
-pub mod Ruling
-pub mod LiveGroups
 pub mod Plans
 pub mod Carrying
 pub mod LiveSymbols

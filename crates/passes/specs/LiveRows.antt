@@ -17,8 +17,8 @@ use Rattle.models.specs.ModelView.{ModelLists, symbol_number, model_at, with_row
 use Rattle.evaluation.specs.declared.faults.ValueFault.{ValueFault}
 use Rattle.evaluation.specs.declared.faults.ValueFault.TheVariants.{Beyond128 as BeyondRange, Memory as NoMemory}
 use Rattle.evaluation.specs.Evaluated.{breaks, IsValueOf}
-use Rattle.passes.specs.Carry.{Asked, asked_for, most_bits}
-use Rattle.passes.specs.LiveGroups.{Drawn, Operands, Met, Told, AreApplied, met_of, without_drawn}
+use Rattle.pass_laws.specs.Carry.{Asked, asked_for, most_bits}
+use Rattle.pass_laws.specs.LiveGroups.{Drawn, Operands, Met, Told, AreApplied, met_of, without_drawn}
 use Rattle.passes.specs.LiveSymbols.{Given, Live, live_at, with_defaults, beyond_of, AreLiveOver, HasUseOf, IsLeastBeyond}
 use Rattle.passes.specs.Plans.{Uses, use_of, operands_at, steps_of, told_operands, uses_of, IsStageOver}
 use Rattle.passes.specs.declared.searching.Live.{Live as CodeLive}

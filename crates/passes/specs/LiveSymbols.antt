@@ -20,10 +20,10 @@ use Rattle.term_table.specs.Formulas.{Formulas, symbol_at, tree, sort_or_bool, I
 use Rattle.term_groups.specs.Seen.{named_at}
 use Rattle.models.specs.ModelView.{ModelLists, model_at, with_graph, without_functions, IsModelOf}
 use Rattle.evaluation.specs.Evaluated.{breaks}
-use Rattle.passes.specs.Carry.{Asked, Stage, with_graphs, graph_dropped, graph_given, term_for, constant_graph, most_bits, greatest_bound, numbers, beyond}
+use Rattle.pass_laws.specs.Carry.{Asked, Stage, with_graphs, graph_dropped, graph_given, term_for, constant_graph, most_bits, greatest_bound, numbers, beyond}
 use Rattle.passes.specs.Carrying.{breaks_in}
-use Rattle.passes.specs.LiveGroups.{Met, Told, met_of, symbols_in}
-use Rattle.passes.specs.Passed.{least}
+use Rattle.pass_laws.specs.LiveGroups.{Met, Told, met_of, symbols_in}
+use Rattle.pass_laws.specs.Passed.{least}
 use Rattle.passes.specs.Plans.{Uses, HasUse}
 use Rattle.passes.specs.declared.carrying.CarryFault.{CarryFault}
 use Rattle.passes.specs.declared.carrying.CarryFault.TheVariants.{EvalWidth, Beyond128 as BeyondRange, Memory}

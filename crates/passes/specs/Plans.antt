@@ -12,16 +12,16 @@ use Rattle.script_read.specs.declared.scripts.Command.TheVariants.{Assert}
 use Rattle.script_read.specs.CommandLists.{command_of}
 use Rattle.script_read.specs.Commands.{Command, with_asserted, declare, assert, check, push, pop, reset, reset_assertions, globals, checks}
 use Rattle.models.specs.ModelView.{symbol_number}
-use Rattle.passes.specs.declared.names.Pass.{Pass}
-use Rattle.passes.specs.declared.names.Pass.TheVariants.{Ackermann}
+use Rattle.pass_laws.specs.declared.names.Pass.{Pass}
+use Rattle.pass_laws.specs.declared.names.Pass.TheVariants.{Ackermann}
 use Rattle.passes.specs.declared.plan.Plan.{Plan}
 use Rattle.passes.specs.declared.plan.Stage.{Stage}
 use Rattle.passes.specs.declared.plan.Use.{Use}
 use Rattle.passes.specs.declared.plan.Step.{Step}
 use Rattle.passes.specs.declared.plan.Step.TheVariants.{Declare, Group, Check, Push, Pop, Reset, ResetAssertions, Globals}
-use Rattle.passes.specs.LiveGroups.{Drawn, Operands, Told, told, all_told, removed_operands}
-use Rattle.passes.specs.Lists.{makes_groups}
-use Rattle.passes.specs.Passed.{Replacement, literal_kept, apply_pass, refused_by, replacements}
+use Rattle.pass_laws.specs.LiveGroups.{Drawn, Operands, Told, told, all_told, removed_operands}
+use Rattle.pass_laws.specs.Lists.{makes_groups}
+use Rattle.pass_laws.specs.Passed.{Replacement, literal_kept, apply_pass, refused_by, replacements}
 
 abbrev pub step_of : Formulas → Step → Command Drawn
 step_of t (Declare f) = declare (symbol_at t f)

@@ -13,13 +13,13 @@ use Rattle.script_read.specs.declared.scripts.Command.{Command as NodeCommand}
 use Rattle.script_read.specs.declared.scripts.Command.TheVariants.{Pop}
 use Rattle.script_read.specs.CommandLists.{commands_of, AreCommandsOf}
 use Rattle.script_read.specs.Commands.{Command, declare}
-use Rattle.passes.specs.declared.names.Pass.TheVariants.{Ackermann}
+use Rattle.pass_laws.specs.declared.names.Pass.TheVariants.{Ackermann}
 use Rattle.passes.specs.declared.plan.Plan.{Plan}
 use Rattle.passes.specs.declared.plan.Stage.{Stage}
 use Rattle.passes.specs.declared.plan.Use.{Use}
 use Rattle.passes.specs.declared.removing.Removal.{Removal}
-use Rattle.passes.specs.LiveGroups.{told, opened_by, operands_behind, operands_with}
-use Rattle.passes.specs.Passed.{Way, turn, written, without_arguments}
+use Rattle.pass_laws.specs.LiveGroups.{told, opened_by, operands_behind, operands_with}
+use Rattle.pass_laws.specs.Passed.{Way, turn, written, without_arguments}
 use Rattle.passes.specs.Plans.{steps_of, Uses, uses_of, IsStepOf, HasUse, HaveUses}
 
 -- ---- the applications that gave way to constants

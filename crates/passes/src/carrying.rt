@@ -16,25 +16,25 @@ ghost use Rattle.script_read.specs.Commands.{Command};
 ghost use Rattle.models.specs.ModelView.{model_at, IsModelOf};
 ghost use Rattle.evaluation.specs.Evaluated.{told_bits};
 ghost use Rattle.evaluation.specs.KeptValues.{KeepsBounds, KeepsValues};
-ghost use Rattle.passes.specs.declared.names.Pass.{Pass};
-ghost use Rattle.passes.specs.Carry.{Asked};
+ghost use Rattle.pass_laws.specs.declared.names.Pass.{Pass};
+ghost use Rattle.pass_laws.specs.Carry.{Asked};
 ghost use Rattle.passes.specs.Carrying.{CarriesBack, CarriesForth};
-ghost use Rattle.passes.specs.Laws.{IsReady};
-ghost use Rattle.passes.specs.Lists.{groups_after_rules};
-ghost use Rattle.passes.specs.LiveGroups.{without_drawn, back_by, back_stages_by, forth_by, forth_stages_by};
+ghost use Rattle.pass_laws.specs.Laws.{IsReady};
+ghost use Rattle.pass_laws.specs.Lists.{groups_after_rules};
+ghost use Rattle.pass_laws.specs.LiveGroups.{without_drawn, back_by, back_stages_by, forth_by, forth_stages_by};
 ghost use Rattle.passes.specs.LiveRows.{asked_at, all_asked_at, IsLiveStage, AreLiveStages, Returns, AreAppliedAt};
 ghost use Rattle.passes.specs.LiveSymbols.{Given, asked_in, all_asked_in, kept_over, with_defaults, with_each, widest_of, given_at, live_at, lives_at, dropped_at, valued_at, IsLiveOver, AreLiveOver, AreLiveAt, IsWidest, IsTooWide, IsValueFor, IsValuation, AreValues, IsBeyondAmong, is_settled, Gives, Answers};
 ghost use Rattle.passes.specs.Plans.{steps_of, told_of, IsPlanOf, IsPlanOver, IsStageOver, IsPairOver};
 
-use crate::laws::{
-    groups_carry_models, passes_keep_commands, removals_carry_models, removals_tell_models,
-    steps_tell_models,
-};
 use crate::plan::{Plan, Stage, Step};
 use crate::searching::{Live, LiveSymbol, live_at_each};
 use crate::tables::{add_rows, rows_of, widest_operands};
 use evaluation::{ValueFault, bits_bound, value_of};
 use models::Model;
+use pass_laws::laws::{
+    groups_carry_models, passes_keep_commands, removals_carry_models, removals_tell_models,
+    steps_tell_models,
+};
 use smt_terms::{NodeId, SymId};
 use smt_values::{Value, default_value};
 use std::alloc::{AllocError, Global};

@@ -8,8 +8,8 @@ ghost use Rattle.term_groups.specs.Seen.{IsGroup};
 ghost use Rattle.term_subst.specs.Substituting.{IsLater, NeverGivesGained};
 ghost use Rattle.term_table.specs.Formulas.{tree};
 ghost use Rattle.term_walk.specs.Walking.{GrowsTo};
-ghost use Rattle.passes.specs.Behind.{IsRewritable, AreRewritable};
-ghost use Rattle.passes.specs.Groups.{groups_from, in_groups, node_commands};
+ghost use Rattle.pass_laws.specs.Behind.{IsRewritable, AreRewritable};
+ghost use Rattle.pass_laws.specs.Groups.{groups_from, in_groups, node_commands};
 ghost use Rattle.passes.specs.Plans.{uses_of, Tells};
 
 use crate::plan::{Stage, Step};
@@ -23,7 +23,7 @@ use term_table::Table;
 
 /// Makes a group in the place of a formula.
 pub(crate) trait Grouper {
-    ghost use Rattle.passes.specs.Groups.{Making};
+    ghost use Rattle.pass_laws.specs.Groups.{Making};
 
     /// What takes the place of a formula, and the names that are left.
     ghost making: { Making };

@@ -5,9 +5,7 @@
 
 mod carrying;
 mod grouping;
-mod laws;
 mod list;
-mod names;
 mod plan;
 mod removing;
 mod rewriters;
@@ -16,12 +14,6 @@ mod searching;
 mod tables;
 
 pub use carrying::{CarryFault, back, forth};
-pub use laws::{
-    equivalents_have_one_model, groups_carry_models, passes_carry_models, passes_keep_commands,
-    passes_leave_models, removals_carry_models, removals_tell_models, rules_keep_commands,
-    signatures_stay_led, steps_tell_models,
-};
 pub use list::{Passes, parse_list};
-pub use names::{ListFault, Pass};
 pub use plan::Plan;
 pub use running::{PassFault, run_passes};

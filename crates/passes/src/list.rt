@@ -1,11 +1,11 @@
 //! Lists of passes as they are written: names joined by commas, at most 32 of them.
 
 ghost use Rattle.std.specs.Prelude.{◌≡◌, ◌<◌, ◌≤◌, [], ◌∷◌, ◌++◌, length, map, slice_get, MatchResult, false};
-ghost use Rattle.passes.specs.declared.names.Pass.{Pass as APass};
-ghost use Rattle.passes.specs.Lists.{groups_after_rules, in_order, makes_groups, pass_among, pass_list, pass_named};
+ghost use Rattle.pass_laws.specs.declared.names.Pass.{Pass as APass};
+ghost use Rattle.pass_laws.specs.Lists.{groups_after_rules, in_order, makes_groups, pass_among, pass_list, pass_named};
 
-use crate::names::{ListFault, Pass};
 use arrayvec::ArrayVec;
+use pass_laws::{ListFault, Pass};
 use std::marker::Model;
 
 /// The most passes that a list may have.
@@ -34,8 +34,8 @@ pub struct Passes {
 
 impl Model for Passes {
     ghost use Rattle.std.specs.Prelude.{◌≡◌, List, false};
-    ghost use Rattle.passes.specs.declared.names.Pass.{Pass as APass};
-    ghost use Rattle.passes.specs.Lists.{groups_after_rules};
+    ghost use Rattle.pass_laws.specs.declared.names.Pass.{Pass as APass};
+    ghost use Rattle.pass_laws.specs.Lists.{groups_after_rules};
 
     ghost Value = { List APass };
 
@@ -69,13 +69,6 @@ impl Passes {
         ensures { slice_get self.now i ≡ Some result }
     {
         self.passes.as_slice()[i]
-    }
-}
-
-/// Fills the places of a list that aren't used.
-impl Default for Pass {
-    fn default() -> Pass {
-        Pass::Nnf
     }
 }
 
@@ -123,7 +116,7 @@ fn named_among(names: &[(&str, Pass)], name: &str) -> Option<Pass>
 }
 
 /// The pass of this name.
-#[tactic(auto, unfolding(crate::specs::Lists::pass_named))]
+#[tactic(auto, unfolding(pass_laws::specs::Lists::pass_named))]
 fn named(name: &str) -> Option<Pass>
     ensures { result ≡ pass_named name.now }
 {

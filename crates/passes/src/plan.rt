@@ -3,7 +3,7 @@
 ghost use Rattle.std.specs.Prelude.{◌≡◌, option_to_list, IfSome};
 ghost use Rattle.term_table.specs.Formulas.{symbol_at, IsSymbol};
 ghost use Rattle.script_read.specs.CommandLists.{IsCommandOf};
-ghost use Rattle.passes.specs.Carry.{has_arguments};
+ghost use Rattle.pass_laws.specs.Carry.{has_arguments};
 ghost use Rattle.passes.specs.Plans.{steps_of, told_by, IsStepOf};
 
 use indexmap::IndexMap;

@@ -27,7 +27,7 @@ use term_walk::{Kept, Steps};
 /// Puts a formula in the place of another.
 pub(crate) trait Rewriter {
     ghost use Rattle.term_table.specs.Formulas.{Formulas};
-    ghost use Rattle.passes.specs.Behind.{Form};
+    ghost use Rattle.pass_laws.specs.Behind.{Form};
 
     /// What becomes of a formula, and the names that are left.
     ghost form: { Form };
@@ -63,7 +63,7 @@ pub(crate) struct Simplification<L: Ledger> {
 impl<L: Ledger> Rewriter for Simplification<L> {
     ghost use Rattle.term_walk.specs.Walking.{Fits};
     ghost use Rattle.simplify.specs.Reduced.{IsSimplified};
-    ghost use Rattle.passes.specs.Behind.{simplified_form};
+    ghost use Rattle.pass_laws.specs.Behind.{simplified_form};
 
     ghost form = { simplified_form };
 
@@ -93,7 +93,7 @@ pub(crate) struct Negation<L: Ledger> {
 impl<L: Ledger> Rewriter for Negation<L> {
     ghost use Rattle.term_walk.specs.Walking.{Fits};
     ghost use Rattle.normal_forms.specs.FormNodes.{HasForms};
-    ghost use Rattle.passes.specs.Behind.{nnf_form};
+    ghost use Rattle.pass_laws.specs.Behind.{nnf_form};
 
     ghost form = { nnf_form };
 
@@ -121,7 +121,7 @@ pub(crate) struct Inversion<L: Ledger> {
 impl<L: Ledger> Rewriter for Inversion<L> {
     ghost use Rattle.term_walk.specs.Walking.{Fits};
     ghost use Rattle.normal_forms.specs.InvertedNodes.{HasInverted};
-    ghost use Rattle.passes.specs.Behind.{aig_form};
+    ghost use Rattle.pass_laws.specs.Behind.{aig_form};
 
     ghost form = { aig_form };
 
@@ -173,7 +173,7 @@ pub(crate) struct Reading<L: Ledger> {
 impl<L: Ledger> Rewriter for Reading<L> {
     ghost use Rattle.term_walk.specs.Walking.{Fits};
     ghost use Rattle.array_forms.specs.ReadNodes.{HasReads};
-    ghost use Rattle.passes.specs.Behind.{reads_form};
+    ghost use Rattle.pass_laws.specs.Behind.{reads_form};
 
     ghost form = { reads_form };
 
@@ -199,7 +199,7 @@ pub(crate) struct Expansion {
 }
 
 impl Rewriter for Expansion {
-    ghost use Rattle.passes.specs.Behind.{shannon_form};
+    ghost use Rattle.pass_laws.specs.Behind.{shannon_form};
 
     ghost form = { shannon_form };
 

@@ -5,29 +5,29 @@ ghost use Rattle.std.specs.Prelude.{◌≡◌, ◌<◌, ◌∷◌, ℕ, [], true
 ghost use Rattle.script_read.specs.CommandLists.{commands_of, AreCommandsOf};
 ghost use Rattle.term_subst.specs.Substituting.{IsLater, NeverGivesGained};
 ghost use Rattle.term_walk.specs.Walking.{GrowsTo};
-ghost use Rattle.passes.specs.Led.{LeadsTo};
-ghost use Rattle.passes.specs.Laws.{keeps_values, IsReady, IsCarried, AreCarried};
+ghost use Rattle.pass_laws.specs.Led.{LeadsTo};
+ghost use Rattle.pass_laws.specs.Laws.{keeps_values, IsReady, IsCarried, AreCarried};
 ghost use Rattle.passes.specs.Plans.{HasStages, IsPlanOf, IsPlanOver, IsStageOver};
 ghost use Rattle.passes.specs.Removing.{IsPlanKept, IsStageKept};
-ghost use Rattle.passes.specs.Ruling.{RewritesCommands};
-ghost use Rattle.passes.specs.Behind.{simplified_form, nnf_form, aig_form, reads_form, in_form, AreRewritable};
+ghost use Rattle.pass_laws.specs.Ruling.{RewritesCommands};
+ghost use Rattle.pass_laws.specs.Behind.{simplified_form, nnf_form, aig_form, reads_form, in_form, AreRewritable};
 ghost use Rattle.passes.specs.Assertion.{assertion_of};
-ghost use Rattle.passes.specs.Passed.{refused_assertion, refused_by};
+ghost use Rattle.pass_laws.specs.Passed.{refused_assertion, refused_by};
 ghost use Rattle.passes.specs.declared.running.PassFault.TheVariants.{QuantifiedUse};
 
 use crate::grouping::{Clauses, IteRemoval, group_each};
-use crate::laws::{
-    drawn_symbols_have_sorts, equivalents_have_one_model, groups_carry_models,
-    passes_keep_commands, passes_leave_models, removals_carry_models, rules_keep_commands,
-};
 use crate::list::Passes;
-use crate::names::Pass;
 use crate::plan::{Plan, Stage};
 use crate::removing::remove_each;
 use crate::rewriters::{
     Expansion, Inversion, Negation, Prefix, Reading, Rewriter, SelfSubstitution, Simplification,
 };
 use normal_forms::room::make_room;
+use pass_laws::Pass;
+use pass_laws::laws::{
+    drawn_symbols_have_sorts, equivalents_have_one_model, groups_carry_models,
+    passes_keep_commands, passes_leave_models, removals_carry_models, rules_keep_commands,
+};
 use rule_book::{Named, RuleBook, apply};
 use script_read::{Command, Commands, Script, checks};
 use smt_terms::NodeId;

@@ -5,7 +5,7 @@
 ghost use Rattle.std.specs.Prelude.{◌≡◌, ◌≤◌, ◌<◌, ◌+◌, ◌^◌, ◌++◌, [], ◌∷◌, map, Option, false, All, IfOk, OnOk};
 ghost use Rattle.term_groups.specs.Seen.{named_at};
 ghost use Rattle.term_table.specs.Formulas.{Formulas, symbol_at, IsSymbol};
-ghost use Rattle.passes.specs.LiveGroups.{Met, nothing_met, with_drawn, with_declared, met_before, met_in, met_at, before_check, global_behind};
+ghost use Rattle.pass_laws.specs.LiveGroups.{Met, nothing_met, with_drawn, with_declared, met_before, met_in, met_at, before_check, global_behind};
 ghost use Rattle.passes.specs.LiveRows.{AreLiveStages};
 ghost use Rattle.passes.specs.LiveSymbols.{live_of, given_by, given_at, live_at, IsLiveOver, AreLiveOver, HasUseOf, AreLiveAt, IsSearched, IsSearchOver};
 ghost use Rattle.passes.specs.Plans.{step_of, steps_of, told_in, Uses, HasUse, HaveUses, IsPlanOver, IsStepOver, IsPairOver};

@@ -10,7 +10,7 @@ ghost use Rattle.smt_values.specs.Valid.{IsValue};
 ghost use Rattle.term_table.specs.Formulas.{Formulas, symbol_at, trees_at, AreNodes, IsSymbol};
 ghost use Rattle.models.specs.ModelView.{model_at, IsModelOf};
 ghost use Rattle.evaluation.specs.KeptValues.{KeepsBounds, KeepsValues};
-ghost use Rattle.passes.specs.Carry.{Asked, asked_for};
+ghost use Rattle.pass_laws.specs.Carry.{Asked, asked_for};
 ghost use Rattle.passes.specs.LiveRows.{operands_by, asked_for_rows, row_at, with_rows_for, IsNarrowTerm, IsOneBeyond, AreValuesIn, IsRowFor, IsTabling, AreRows};
 ghost use Rattle.passes.specs.LiveSymbols.{Given, given_at, widest_of, IsLiveOver, HasUseOf, IsWidest, IsBeyondAmong};
 ghost use Rattle.passes.specs.Plans.{use_of, operands_at, IsUse};

@@ -1,6 +1,7 @@
 //! Lists as they are written, with the number of their passes.
 
-use passes::{ListFault, Pass, parse_list};
+use pass_laws::{ListFault, Pass};
+use passes::parse_list;
 
 const NAMES: &str =
     "nnf,nnf,nnf,nnf,nnf,nnf,nnf,nnf,nnf,nnf,nnf,nnf,nnf,nnf,nnf,nnf,nnf,nnf,nnf,nnf,nnf,nnf,nnf,nnf,nnf,nnf,nnf,nnf,nnf,nnf,nnf,nnf";

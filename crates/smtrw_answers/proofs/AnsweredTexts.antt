@@ -3,10 +3,10 @@ use Rattle.std.proofs.Common.{◌≡◌, ◌∙◌, sym, ap, subst, ℕ, ◌≤�
 use Rattle.script_read.specs.Commands.{signature, checks}
 use Rattle.script_read.specs.Script.{fault}
 use Rattle.model_texts.specs.ModelText.{model_of}
-use Rattle.passes.specs.declared.names.Pass.{Pass}
-use Rattle.passes.specs.Carry.{Stage, back_stages, beyond}
-use Rattle.passes.specs.Laws.{IsReady}
-use Rattle.passes.specs.Passed.{refused_assertion}
+use Rattle.pass_laws.specs.declared.names.Pass.{Pass}
+use Rattle.pass_laws.specs.Carry.{Stage, back_stages, beyond}
+use Rattle.pass_laws.specs.Laws.{IsReady}
+use Rattle.pass_laws.specs.Passed.{refused_assertion}
 use Rattle.dimacs_link.specs.declared.answers.Answer.{Answer}
 use Rattle.dimacs_link.specs.declared.answers.Answer.TheVariants.{Sat}
 use Rattle.dimacs_link.specs.AnswerTexts.{items, checked, reading, HasValues}

@@ -8,8 +8,8 @@ use Rattle.script_read.specs.Scenes.{holds}
 use Rattle.script_read.specs.Script.{script}
 use Rattle.smt_print.specs.declared.layout.Layout.TheVariants.{Dag}
 use Rattle.smt_print.specs.Laws.{ReadsBack}
-use Rattle.passes.specs.declared.names.Pass.{Pass}
-use Rattle.passes.specs.Laws.{IsModelOf, CarriesModels}
+use Rattle.pass_laws.specs.declared.names.Pass.{Pass}
+use Rattle.pass_laws.specs.Laws.{IsModelOf, CarriesModels}
 use Rattle.bit_scripts.specs.Laws.{IsBlasted, ScriptsAreBlasted}
 use Rattle.models.specs.LiveRoots.{is_flag}
 use Rattle.smtrw_answers.specs.Blasting.{names_behind, blasted_commands, blasted_text, lifted, unblasted, blasted_model, IsBlasting}

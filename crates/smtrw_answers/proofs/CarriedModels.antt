@@ -15,11 +15,11 @@ use Rattle.smt_terms.proofs.Tests.{both_true, and_true}
 use Rattle.script_read.specs.Commands.{Command, Signature, signature}
 use Rattle.ackermann.specs.Tables.{application_graph}
 use Rattle.model_texts.specs.Laws.{is_readable_graph}
-use Rattle.passes.specs.declared.names.Pass.{Pass}
-use Rattle.passes.specs.declared.names.Pass.TheVariants.{Simplify, Nnf, Aig, Prenex, Reads, Shannon, SelfSub, Rules, Ite, Cnf, Ackermann}
-use Rattle.passes.specs.Carry.{live_symbols, new_symbols, with_graphs, has_arguments, graph_dropped, graph_applied, live_functions, back_over, back, term_for, declared_new, graph_kept, graph_given, forth_over, forth, Stage, asked_back, asked_forth, back_stages, forth_stages, beyond_at, beyond}
-use Rattle.passes.specs.Laws.{keeps_values, IsReady, PassKeepsCommands, PassesLeaveModels, PutsGroups, GroupsCarryModels, RemovalsCarryModels}
-use Rattle.passes.specs.Passed.{or_later, apply_pass, passed, refused_by, refused_assertion}
+use Rattle.pass_laws.specs.declared.names.Pass.{Pass}
+use Rattle.pass_laws.specs.declared.names.Pass.TheVariants.{Simplify, Nnf, Aig, Prenex, Reads, Shannon, SelfSub, Rules, Ite, Cnf, Ackermann}
+use Rattle.pass_laws.specs.Carry.{live_symbols, new_symbols, with_graphs, has_arguments, graph_dropped, graph_applied, live_functions, back_over, back, term_for, declared_new, graph_kept, graph_given, forth_over, forth, Stage, asked_back, asked_forth, back_stages, forth_stages, beyond_at, beyond}
+use Rattle.pass_laws.specs.Laws.{keeps_values, IsReady, PassKeepsCommands, PassesLeaveModels, PutsGroups, GroupsCarryModels, RemovalsCarryModels}
+use Rattle.pass_laws.specs.Passed.{or_later, apply_pass, passed, refused_by, refused_assertion}
 use Rattle.smtrw_answers.proofs.EvaluatedTerms.{FitEach, IsWithin, symbols_fit, all_operands_fit}
 use Rattle.smtrw_answers.proofs.ReadableTables.{table_readable}
 use Rattle.smtrw_answers.proofs.ReadableValues.{of_sort_readable, IsReadableModel, val_readable}

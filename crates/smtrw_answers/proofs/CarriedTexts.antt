@@ -18,10 +18,10 @@ use Rattle.model_texts.specs.ModelLines.{model_lines}
 use Rattle.model_texts.specs.ModelText.{model_of}
 use Rattle.model_texts.specs.Proper.{IsProper}
 use Rattle.model_texts.specs.Refusals.{Unmodelled}
-use Rattle.passes.specs.declared.names.Pass.{Pass}
-use Rattle.passes.specs.Carry.{Stage, back_stages, forth_stages, beyond}
-use Rattle.passes.specs.Laws.{IsReady}
-use Rattle.passes.specs.Passed.{passed, refused_assertion}
+use Rattle.pass_laws.specs.declared.names.Pass.{Pass}
+use Rattle.pass_laws.specs.Carry.{Stage, back_stages, forth_stages, beyond}
+use Rattle.pass_laws.specs.Laws.{IsReady}
+use Rattle.pass_laws.specs.Passed.{passed, refused_assertion}
 use Rattle.smtrw_answers.specs.Carrying.{translated, extended, signature_before, signature_behind, carried_text}
 use Rattle.smtrw_answers.specs.Endings.{or_later, longest_text, refusal_of, too_long, script_end, check_end, passes_end, stages_end, model_end, text_end}
 use Rattle.smtrw_answers.specs.Laws.{TranslatedTextsReadBack, ExtendedTextsReadBack}

@@ -8,7 +8,7 @@ use Rattle.clap.specs.Takes.{takes}
 use Rattle.clap.specs.declared.parser.matches.Found.{Found}
 use Rattle.smt_print.specs.declared.layout.Layout.{Layout}
 use Rattle.smt_print.specs.declared.layout.Layout.TheVariants.{Tree}
-use Rattle.passes.specs.declared.names.Pass.{Pass}
+use Rattle.pass_laws.specs.declared.names.Pass.{Pass}
 use Rattle.smtrw_answers.specs.Words.{Word, Numbered, Command, rewriting, translating, extending, blasting, unblasting, linking, answering, counting, demonstrating, needed, takes_pass, Setting, settings_of, Given, nothing_given, passes_of, layout_of, check_of, words_from, Asked, rewrite, translate, extend, blast, unblast, dimacs, answer, stats, demo, asked_with, asked_or_missing, at_end, asked_of}
 use Rattle.smtrw_answers.specs.Asking.{passes_in, layout_in, check_in, CarryingIn, BlastingIn, GivesRewriting, GivesCounting, GivesDemonstrating, number_of}
 use Rattle.smtrw_answers.proofs.ClapRows.{first_of-none}

@@ -7,10 +7,10 @@ use Rattle.clap.specs.Walk.{Row, Text, Waiting, Walk, idle, option, used, has_ro
 use Rattle.clap.specs.Simple.{App, Shape, built}
 use Rattle.clap.specs.Takes.{settle_passes, turn_passes, walk_passes}
 use Rattle.smt_print.specs.declared.layout.Layout.{Layout}
-use Rattle.passes.specs.declared.names.Pass.{Pass}
-use Rattle.passes.specs.declared.names.ListFault.{ListFault}
-use Rattle.passes.specs.declared.names.ListFault.TheVariants.{BadPass as UnknownPass, AfterRules as GroupsAfterRules}
-use Rattle.passes.specs.Lists.{pass_list_of}
+use Rattle.pass_laws.specs.declared.names.Pass.{Pass}
+use Rattle.pass_laws.specs.declared.names.ListFault.{ListFault}
+use Rattle.pass_laws.specs.declared.names.ListFault.TheVariants.{BadPass as UnknownPass, AfterRules as GroupsAfterRules}
+use Rattle.pass_laws.specs.Lists.{pass_list_of}
 use Rattle.smtrw_answers.specs.declared.status.Usage.{Usage}
 use Rattle.smtrw_answers.specs.declared.status.Why.TheVariants.{BadValue}
 use Rattle.smtrw_answers.specs.Words.{Word, Numbered, Command, needed, takes_pass, Setting, of_passes, of_layout, of_check, settings_of, setting_among, is_dashed, Given, nothing_given, is_given, is_from, number_in, layout_named, with_passes, with_layout, with_check, with_value, value_word, with_setting, option_word, with_plain, file_word, of_kind, plain_word, word_behind, words_from, and_then}

@@ -11,10 +11,10 @@ use Rattle.smt_terms.specs.Val.{no_variables, fits}
 use Rattle.smt_terms.proofs.Tests.{both_true, and_true}
 use Rattle.script_read.specs.Commands.{Command}
 use Rattle.ackermann.specs.Tables.{operands_of}
-use Rattle.passes.specs.declared.names.Pass.{Pass}
-use Rattle.passes.specs.declared.names.Pass.TheVariants.{Ackermann}
-use Rattle.passes.specs.Carry.{live_groups, live_symbols, Asked, asked_for, asked_back, asked_forth, numbers, beyond_at}
-use Rattle.passes.specs.Passed.{Replacement, least}
+use Rattle.pass_laws.specs.declared.names.Pass.{Pass}
+use Rattle.pass_laws.specs.declared.names.Pass.TheVariants.{Ackermann}
+use Rattle.pass_laws.specs.Carry.{live_groups, live_symbols, Asked, asked_for, asked_back, asked_forth, numbers, beyond_at}
+use Rattle.pass_laws.specs.Passed.{Replacement, least}
 use Rattle.smtrw_answers.proofs.ReadableTables.{all_both, operands_fit}
 
 none_least : (ns : List ℕ) → least ns ≡ None → ns ≡ []

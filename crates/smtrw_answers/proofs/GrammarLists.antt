@@ -2,11 +2,11 @@
 use Rattle.std.proofs.Common.{◌≡◌, ℕ, zero, suc, Bool, true, false, ◌||◌, cond, nat_lt, List, [], ◌∷◌, length, take, Option, Some, None, Result, Ok, Err, refl, sym, ap, ◌∙◌}
 use Rattle.std.specs.List.{list_all, list_any}
 use Rattle.std.specs.Prelude.{slice_get}
-use Rattle.passes.specs.declared.names.Pass.{Pass}
-use Rattle.passes.specs.declared.names.Pass.TheVariants.{Rules}
-use Rattle.passes.specs.declared.names.ListFault.{ListFault}
-use Rattle.passes.specs.declared.names.ListFault.TheVariants.{BadPass, AfterRules}
-use Rattle.passes.specs.Lists.{groups_after_rules, in_order, all_known, any_pass, pass_list, pass_list_of, most_passes, passes_named, between_commas}
+use Rattle.pass_laws.specs.declared.names.Pass.{Pass}
+use Rattle.pass_laws.specs.declared.names.Pass.TheVariants.{Rules}
+use Rattle.pass_laws.specs.declared.names.ListFault.{ListFault}
+use Rattle.pass_laws.specs.declared.names.ListFault.TheVariants.{BadPass, AfterRules}
+use Rattle.pass_laws.specs.Lists.{groups_after_rules, in_order, all_known, any_pass, pass_list, pass_list_of, most_passes, passes_named, between_commas}
 use Rattle.smtrw_answers.specs.Words.{Word, is_rules, blasting, takes_pass}
 
 -- ---- stored rules among the passes

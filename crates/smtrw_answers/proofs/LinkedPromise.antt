@@ -4,8 +4,8 @@ use Rattle.std.proofs.Common.{◌≡◌, ◌∙◌, sym, refl, ℕ, Bool, true, 
 use Rattle.smt_terms.specs.Models.{Model}
 use Rattle.script_read.specs.Scenes.{holds}
 use Rattle.script_read.specs.Script.{script}
-use Rattle.passes.specs.declared.names.Pass.{Pass}
-use Rattle.passes.specs.Laws.{IsModelOf, CarriesModels}
+use Rattle.pass_laws.specs.declared.names.Pass.{Pass}
+use Rattle.pass_laws.specs.Laws.{IsModelOf, CarriesModels}
 use Rattle.dimacs_link.specs.AnswerModels.{truths_in}
 use Rattle.dimacs_link.specs.Checks.{IsLinked, ChecksAreLinked}
 use Rattle.smtrw_answers.specs.Carrying.{translated, extended}

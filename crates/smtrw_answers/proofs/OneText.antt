@@ -8,10 +8,10 @@ use Rattle.rule_book.specs.EightRules.{all_eight}
 use Rattle.rule_book.specs.Ruled.{ruled}
 use Rattle.script_read.specs.Commands.{Command, assert}
 use Rattle.smt_print.specs.Text.{lines}
-use Rattle.passes.specs.declared.names.Pass.{Pass}
-use Rattle.passes.specs.declared.names.Pass.TheVariants.{Rules}
-use Rattle.passes.specs.Led.{MadeBy, MayBecome, EachMayBecome, LeadsTo}
-use Rattle.passes.specs.Passed.{apply_pass, passed}
+use Rattle.pass_laws.specs.declared.names.Pass.{Pass}
+use Rattle.pass_laws.specs.declared.names.Pass.TheVariants.{Rules}
+use Rattle.pass_laws.specs.Led.{MadeBy, MayBecome, EachMayBecome, LeadsTo}
+use Rattle.pass_laws.specs.Passed.{apply_pass, passed}
 use Rattle.smtrw_answers.specs.Laws.{WithoutRulesOneText, WithoutRulesOneList, EightWriteOneText}
 use Rattle.smtrw_answers.specs.Outputs.{commands, names_left}
 use Rattle.smtrw_answers.specs.Words.{is_rules}

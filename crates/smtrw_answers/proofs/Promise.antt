@@ -19,10 +19,10 @@ use Rattle.script_read.specs.Script.{script}
 use Rattle.smt_print.specs.declared.layout.Layout.{Layout}
 use Rattle.smt_print.specs.Laws.{Each, MeansTheSame, ReadsBack}
 use Rattle.smt_print.specs.Text.{lines}
-use Rattle.passes.specs.declared.names.Pass.{Pass}
-use Rattle.passes.specs.Laws.{IsReady, AreEquivalent, CarriesModels}
-use Rattle.passes.proofs.Literals.{sort_is_bool}
-use Rattle.passes.proofs.Truths.{same_truth}
+use Rattle.pass_laws.specs.declared.names.Pass.{Pass}
+use Rattle.pass_laws.specs.Laws.{IsReady, AreEquivalent, CarriesModels}
+use Rattle.pass_laws.proofs.Literals.{sort_is_bool}
+use Rattle.pass_laws.proofs.Truths.{same_truth}
 use Rattle.smtrw_answers.specs.Carrying.{translated, extended}
 use Rattle.smtrw_answers.specs.Headline.{are_equivalences, MeanTheSame, IsEquivalentAt, IsRewriting}
 use Rattle.smtrw_answers.specs.Laws.{RewritingKeepsItsPromise}

@@ -16,7 +16,7 @@ use Rattle.script_terms.specs.Refusals.{Unaccepted}
 use Rattle.smt_print.specs.declared.layout.Layout.{Layout}
 use Rattle.smt_print.specs.Laws.{Each, MeansTheSame, ReadsBack, PrintingReadsBack}
 use Rattle.smt_print.specs.Text.{lines}
-use Rattle.passes.specs.Laws.{IsModelOf}
+use Rattle.pass_laws.specs.Laws.{IsModelOf}
 use Rattle.smtrw_answers.specs.Headline.{signature_at, IsModelAt}
 use Rattle.smtrw_answers.specs.Outputs.{read_or_none, commands}
 

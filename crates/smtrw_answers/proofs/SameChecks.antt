@@ -5,9 +5,9 @@ use Rattle.std.proofs.lemmas.List.Sums.{sum_by-cons}
 use Rattle.smt_terms.specs.Fresh.{Supply}
 use Rattle.smt_terms.specs.Term.{Term}
 use Rattle.script_read.specs.Commands.{Command, passed as passing, check, check_assuming, State, start, after, Point, with_point, points_from, points, kinds, is_check, checks}
-use Rattle.passes.specs.declared.names.Pass.{Pass}
-use Rattle.passes.specs.Laws.{IsReady}
-use Rattle.passes.specs.Passed.{apply_pass, passed, refused_by, refused_assertion}
+use Rattle.pass_laws.specs.declared.names.Pass.{Pass}
+use Rattle.pass_laws.specs.Laws.{IsReady}
+use Rattle.pass_laws.specs.Passed.{apply_pass, passed, refused_by, refused_assertion}
 use Rattle.smtrw_answers.proofs.CarriedModels.{CarryingLaws, kind_of_pass, ready_behind, none_either}
 
 -- ---- points are counted by checks

@@ -7,10 +7,10 @@ use Rattle.script_read.specs.Commands.{signature, checks}
 use Rattle.script_read.specs.Script.{fault}
 use Rattle.model_texts.specs.ModelText.{model_of}
 use Rattle.model_texts.specs.Refusals.{Unmodelled}
-use Rattle.passes.specs.declared.names.Pass.{Pass}
-use Rattle.passes.specs.Carry.{Stage, beyond}
-use Rattle.passes.specs.Laws.{IsReady}
-use Rattle.passes.specs.Passed.{refused_assertion}
+use Rattle.pass_laws.specs.declared.names.Pass.{Pass}
+use Rattle.pass_laws.specs.Carry.{Stage, beyond}
+use Rattle.pass_laws.specs.Laws.{IsReady}
+use Rattle.pass_laws.specs.Passed.{refused_assertion}
 use Rattle.bit_scripts.specs.Laws.{IsBlasted, ScriptsAreBlasted}
 use Rattle.bit_scripts.specs.Scripts.{new_bits, refused_root}
 use Rattle.smtrw_answers.specs.declared.status.Status.{Status}

@@ -6,9 +6,9 @@ use Rattle.clap.specs.Matches.{first_value}
 use Rattle.clap.specs.declared.parser.matches.Found.{Found}
 use Rattle.smt_print.specs.declared.layout.Layout.{Layout}
 use Rattle.smt_print.specs.declared.layout.Layout.TheVariants.{Tree}
-use Rattle.passes.specs.declared.names.Pass.{Pass}
-use Rattle.passes.specs.declared.names.ListFault.{ListFault}
-use Rattle.passes.specs.Lists.{pass_list_of}
+use Rattle.pass_laws.specs.declared.names.Pass.{Pass}
+use Rattle.pass_laws.specs.declared.names.ListFault.{ListFault}
+use Rattle.pass_laws.specs.Lists.{pass_list_of}
 use Rattle.smtrw_answers.specs.declared.status.Usage.{Usage}
 use Rattle.smtrw_answers.specs.declared.grammar.Name.{Name}
 use Rattle.smtrw_answers.specs.declared.grammar.Name.TheVariants.{Rewrite, Translate, Extend, Blast, Unblast, Dimacs, Answer, Stats, Demo}

@@ -11,8 +11,8 @@ use Rattle.smt_print.specs.declared.layout.Layout.TheVariants.{Dag}
 use Rattle.smt_print.specs.Text.{lines}
 use Rattle.model_texts.specs.ModelText.{model_of}
 use Rattle.model_texts.specs.Refusals.{Unmodelled}
-use Rattle.passes.specs.declared.names.Pass.{Pass}
-use Rattle.passes.specs.Passed.{passed}
+use Rattle.pass_laws.specs.declared.names.Pass.{Pass}
+use Rattle.pass_laws.specs.Passed.{passed}
 use Rattle.bit_blast.specs.Laws.{is_boolean}
 use Rattle.models.specs.LiveRoots.{is_flag}
 use Rattle.bit_scripts.specs.Scripts.{blasted_script, lifted_model, lowered_model}

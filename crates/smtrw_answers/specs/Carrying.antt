@@ -6,8 +6,8 @@ use Rattle.script_read.specs.Commands.{Signature, signature}
 use Rattle.model_texts.specs.Refusals.{Unmodelled}
 use Rattle.model_texts.specs.ModelText.{model_of}
 use Rattle.model_texts.specs.ModelLines.{model_lines}
-use Rattle.passes.specs.declared.names.Pass.{Pass}
-use Rattle.passes.specs.Carry.{back, forth}
+use Rattle.pass_laws.specs.declared.names.Pass.{Pass}
+use Rattle.pass_laws.specs.Carry.{back, forth}
 use Rattle.smtrw_answers.specs.Outputs.{commands, names_left, rewritten_commands}
 
 -- from a point of the rewritten script to the one of the text, and from the text to the rewritten script

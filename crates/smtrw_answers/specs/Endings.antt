@@ -10,9 +10,9 @@ use Rattle.script_read.specs.Commands.{checks}
 use Rattle.script_read.specs.Script.{fault_place, fault}
 use Rattle.model_texts.specs.Refusals.{Unmodelled, code_of as model_code_of, unread as unread_model, refused as refused_model}
 use Rattle.model_texts.specs.ModelText.{model_of}
-use Rattle.passes.specs.declared.names.Pass.{Pass}
-use Rattle.passes.specs.Passed.{refused_assertion}
-use Rattle.passes.specs.Carry.{Stage, back_stages, forth_stages, too_wide, beyond}
+use Rattle.pass_laws.specs.declared.names.Pass.{Pass}
+use Rattle.pass_laws.specs.Passed.{refused_assertion}
+use Rattle.pass_laws.specs.Carry.{Stage, back_stages, forth_stages, too_wide, beyond}
 use Rattle.smtrw_answers.specs.declared.status.Why.TheVariants.{NoSuchCheck}
 use Rattle.smtrw_answers.specs.declared.status.Status.{Status}
 use Rattle.smtrw_answers.specs.declared.status.Status.TheVariants.{Refused, Usage, ModelRefused, Beyond128, PassRefused}

@@ -7,8 +7,8 @@ use Rattle.script_read.specs.Commands.{Signature, points, kinds, live, signature
 use Rattle.script_read.specs.Script.{fault}
 use Rattle.script_read.specs.Mean.{Denoted, mean, meaning}
 use Rattle.script_read.specs.Scenes.{Asserted, forms_script, holds}
-use Rattle.passes.specs.declared.names.Pass.{Pass}
-use Rattle.passes.specs.Lists.{makes_groups}
+use Rattle.pass_laws.specs.declared.names.Pass.{Pass}
+use Rattle.pass_laws.specs.Lists.{makes_groups}
 use Rattle.smtrw_answers.specs.Carrying.{translated, extended}
 
 -- ---- texts at their points

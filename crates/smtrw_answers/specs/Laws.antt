@@ -11,10 +11,10 @@ use Rattle.script_read.specs.Commands.{Command, checks}
 use Rattle.script_read.specs.Script.{fault}
 use Rattle.model_texts.specs.ModelText.{model_of}
 use Rattle.smt_print.specs.declared.layout.Layout.{Layout}
-use Rattle.passes.specs.declared.names.Pass.{Pass}
+use Rattle.pass_laws.specs.declared.names.Pass.{Pass}
 use Rattle.smt_print.specs.Text.{lines}
-use Rattle.passes.specs.Led.{Leads}
-use Rattle.passes.specs.Laws.{IsReady, AreEquivalent, CarriesModels}
+use Rattle.pass_laws.specs.Led.{Leads}
+use Rattle.pass_laws.specs.Laws.{IsReady, AreEquivalent, CarriesModels}
 use Rattle.bit_scripts.specs.Scripts.{refused_root}
 use Rattle.smtrw_answers.specs.Blasting.{names_behind, blasted_text, signature_blasted, unblasted, unblasted_text, IsBlasting}
 use Rattle.dimacs_link.specs.declared.answers.Answer.TheVariants.{Sat}

@@ -6,7 +6,7 @@ use Rattle.smt_terms.specs.Sorts.{Symbol}
 use Rattle.script_read.specs.Satisfied.{sat}
 use Rattle.script_read.specs.Scenes.{holds}
 use Rattle.model_texts.specs.ModelLines.{model_lines}
-use Rattle.passes.specs.declared.names.Pass.{Pass}
+use Rattle.pass_laws.specs.declared.names.Pass.{Pass}
 use Rattle.dimacs_link.specs.declared.answers.Answer.{Answer}
 use Rattle.dimacs_link.specs.declared.answers.Answer.TheVariants.{Sat, Unsat, Unknown}
 use Rattle.dimacs_link.specs.AnswerModels.{truths_in}

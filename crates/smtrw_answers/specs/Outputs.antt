@@ -13,10 +13,10 @@ use Rattle.script_read.specs.Script.{script}
 use Rattle.smt_print.specs.declared.layout.Layout.{Layout}
 use Rattle.smt_print.specs.declared.layout.Layout.TheVariants.{Dag}
 use Rattle.smt_print.specs.Text.{lines}
-use Rattle.passes.specs.declared.names.Pass.{Pass}
-use Rattle.passes.specs.declared.names.Pass.TheVariants.{Nnf, Simplify, Cnf}
-use Rattle.passes.specs.Passed.{passed}
-use Rattle.passes.specs.Led.{Leads}
+use Rattle.pass_laws.specs.declared.names.Pass.{Pass}
+use Rattle.pass_laws.specs.declared.names.Pass.TheVariants.{Nnf, Simplify, Cnf}
+use Rattle.pass_laws.specs.Passed.{passed}
+use Rattle.pass_laws.specs.Led.{Leads}
 
 -- ---- a text rewritten
 

@@ -2,12 +2,13 @@
 
 ghost use Rattle.std.specs.Prelude.{◌≡◌, List, [], ◌∷◌, ◌++◌, false, None, Some, codes, map, nat_le, option_map, string_bytes};
 ghost use Rattle.std.specs.List.{list_any};
-ghost use Rattle.passes.specs.Lists.{pass_list_of};
+ghost use Rattle.pass_laws.specs.Lists.{pass_list_of};
 ghost use Rattle.smtrw_answers.specs.Words.{asked, at_end as end_of, blasting, command_named, file_word, is_dashed, is_number_for, is_rules, layout_named, needed, number_in, number_word, of_check, of_layout, of_passes, option_word, plain_word, setting_among, settings_of, takes_pass, translating, value_word, with_value, word_behind, Given as WordsGiven, Numbered};
 ghost use Rattle.smtrw_answers.specs.Asking.{Agrees, EndFits, HasOperands, StepFits, TakesOperand, check_named, command_of, has_setting, option_seen, setting_of, size_named};
 
 use crate::status::{Usage, Why};
-use passes::{ListFault, Pass, Passes, parse_list};
+use pass_laws::{ListFault, Pass};
+use passes::{Passes, parse_list};
 use smt_lex::is_numeral;
 use smt_print::Layout;
 

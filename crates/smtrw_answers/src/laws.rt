@@ -20,7 +20,7 @@ use dimacs_link::laws::checks_are_linked;
 use model_texts::laws::{
     printable_signatures_are_proper, printable_signatures_are_writable, printed_models_read_back,
 };
-use passes::{
+use pass_laws::laws::{
     groups_carry_models, passes_keep_commands, passes_leave_models, removals_carry_models,
 };
 use script_read::{

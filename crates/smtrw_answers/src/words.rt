@@ -14,7 +14,8 @@ use crate::grammar::{
 };
 use crate::matches::{blast_matches, carry_matches, demo_matches, rewrite_matches, stats_matches};
 use crate::status::Usage;
-use passes::{ListFault, Passes};
+use pass_laws::ListFault;
+use passes::Passes;
 use smt_print::Layout;
 use std::alloc::Global;
 use thiserror::Error;

@@ -4,10 +4,10 @@ use Rattle.std.proofs.Common.{◌≡◌, refl, ℕ, suc, ◌≤◌, nat_le, Bool
 use Rattle.std.proofs.lemmas.Bool.{and_parts, leb-true}
 use Rattle.smt_lex.specs.Lexicon.{is_numeral}
 use Rattle.smt_print.specs.declared.layout.Layout.{Layout}
-use Rattle.passes.specs.declared.names.Pass.{Pass}
-use Rattle.passes.specs.declared.names.ListFault.{ListFault}
-use Rattle.passes.specs.declared.names.ListFault.TheVariants.{BadPass as UnknownPass, AfterRules as GroupsAfterRules}
-use Rattle.passes.specs.Lists.{all_known, between_commas, groups_after_rules, in_order, most_passes, pass_list_of, passes_named}
+use Rattle.pass_laws.specs.declared.names.Pass.{Pass}
+use Rattle.pass_laws.specs.declared.names.ListFault.{ListFault}
+use Rattle.pass_laws.specs.declared.names.ListFault.TheVariants.{BadPass as UnknownPass, AfterRules as GroupsAfterRules}
+use Rattle.pass_laws.specs.Lists.{all_known, between_commas, groups_after_rules, in_order, most_passes, pass_list_of, passes_named}
 use Rattle.std.specs.Prelude.{◌&&◌, ◌||◌, not, nat_lt, bytes_eq, codes}
 use Rattle.std.specs.List.{list_all, list_any}
 use Rattle.std.specs.Str.Parse.{digits_value}

@@ -16,7 +16,7 @@ use Rattle.models.specs.LiveNumbers.{LiveNumbers, signature_of, AreLiveNumbersOf
 use Rattle.models.specs.ModelView.{ModelLists, model_at}
 use Rattle.model_texts.specs.ModelLines.{model_lines}
 use Rattle.model_texts.specs.ModelText.{model_of}
-use Rattle.passes.specs.declared.names.Pass.{Pass}
+use Rattle.pass_laws.specs.declared.names.Pass.{Pass}
 use Rattle.passes.specs.declared.carrying.CarryFault.{CarryFault}
 use Rattle.passes.specs.Carrying.{CarriesBack}
 use Rattle.bit_blast.specs.Carried.{lifted as lifted_over}

@@ -10,7 +10,7 @@ use Rattle.script_read.specs.CommandLists.{commands_of}
 use Rattle.script_read.specs.Commands.{Command, Signature}
 use Rattle.models.specs.LiveNumbers.{LiveNumbers}
 use Rattle.model_texts.specs.Laws.{SignaturesAreProper}
-use Rattle.passes.specs.declared.names.Pass.{Pass}
+use Rattle.pass_laws.specs.declared.names.Pass.{Pass}
 use Rattle.passes.specs.Removing.{IsPlanKept}
 use Rattle.passes.proofs.PlansStay.{plan_over_stays, plan_stays}
 use Rattle.bit_scripts.specs.declared.scripts.Blasting.{Blasting}

@@ -9,7 +9,7 @@ use Rattle.models.specs.ModelView.{ModelLists}
 use Rattle.model_texts.specs.ModelText.{model_of}
 use Rattle.passes.specs.declared.carrying.CarryFault.{CarryFault}
 use Rattle.passes.specs.declared.carrying.CarryFault.TheVariants.{NoSuchCheck, EvalWidth, Beyond128 as ValueBeyond, Memory}
-use Rattle.passes.specs.Carry.{Stage, too_wide, beyond}
+use Rattle.pass_laws.specs.Carry.{Stage, too_wide, beyond}
 use Rattle.passes.specs.Carrying.{CarriesTo, IsCheck}
 use Rattle.smtrw_answers.specs.declared.status.Usage.{Usage as UsageFault}
 use Rattle.smtrw_answers.specs.declared.status.Status.{Status}

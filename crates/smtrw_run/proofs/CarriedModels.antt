@@ -11,10 +11,10 @@ use Rattle.model_texts.specs.ModelLines.{model_lines}
 use Rattle.model_texts.specs.ModelText.{model_of}
 use Rattle.model_texts.specs.Proper.{IsProper}
 use Rattle.model_texts.specs.Refusals.{Unmodelled}
-use Rattle.passes.specs.declared.names.Pass.{Pass}
+use Rattle.pass_laws.specs.declared.names.Pass.{Pass}
 use Rattle.passes.specs.declared.carrying.CarryFault.{CarryFault}
 use Rattle.passes.specs.declared.carrying.CarryFault.TheVariants.{NoSuchCheck, EvalWidth, Beyond128 as ValueBeyond, Memory}
-use Rattle.passes.specs.Carry.{back_stages, forth_stages}
+use Rattle.pass_laws.specs.Carry.{back_stages, forth_stages}
 use Rattle.passes.specs.Carrying.{CarriesBack, CarriesForth}
 use Rattle.smtrw_answers.specs.declared.status.Status.{Status}
 use Rattle.smtrw_answers.specs.declared.status.Status.TheVariants.{PassRefused}

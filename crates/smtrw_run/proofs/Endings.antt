@@ -17,10 +17,10 @@ use Rattle.script_read.specs.CommandLists.{IsRefusal, ReadsScript}
 use Rattle.script_read.specs.Commands.{Command}
 use Rattle.script_terms.specs.Refusals.{Unaccepted, unread, refused}
 use Rattle.script_read.specs.Script.{read_forms, fault_of, fault, script}
-use Rattle.passes.specs.declared.names.Pass.{Pass}
+use Rattle.pass_laws.specs.declared.names.Pass.{Pass}
 use Rattle.passes.specs.declared.running.PassFault.{PassFault}
 use Rattle.passes.specs.declared.running.PassFault.TheVariants.{QuantifiedUse, Memory as NoMemoryForPassing}
-use Rattle.passes.specs.Passed.{refused_assertion}
+use Rattle.pass_laws.specs.Passed.{refused_assertion}
 use Rattle.smtrw_answers.specs.declared.status.Status.{Status}
 use Rattle.smtrw_answers.specs.declared.status.Status.TheVariants.{Done, Refused, Usage, ReadFailed, WriteFailed, OutOfMemory, ModelRefused, Beyond128, PassRefused}
 use Rattle.smtrw_answers.specs.Endings.{longest_text, too_long, refusal_of, script_end, passes_end, rewrite_end, or_later as status_or_later}

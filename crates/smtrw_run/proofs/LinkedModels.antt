@@ -10,7 +10,7 @@ use Rattle.script_read.specs.Commands.{Signature}
 use Rattle.models.specs.LiveNumbers.{signature_of}
 use Rattle.models.specs.ModelView.{ModelLists, model_at}
 use Rattle.model_texts.specs.ModelLines.{model_lines}
-use Rattle.passes.specs.declared.names.Pass.{Pass}
+use Rattle.pass_laws.specs.declared.names.Pass.{Pass}
 use Rattle.passes.specs.declared.carrying.CarryFault.{CarryFault}
 use Rattle.passes.specs.declared.carrying.CarryFault.TheVariants.{NoSuchCheck, EvalWidth, Beyond128 as ValueBeyond, Memory}
 use Rattle.passes.specs.Carrying.{CarriesBack, CarriesTo}

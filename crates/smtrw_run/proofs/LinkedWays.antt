@@ -7,7 +7,7 @@ use Rattle.smt_terms.specs.Sorts.{Name, Symbol}
 use Rattle.smt_terms.specs.Term.{Term}
 use Rattle.script_read.specs.CommandLists.{commands_of}
 use Rattle.script_read.specs.Commands.{Command, signature}
-use Rattle.passes.specs.declared.names.Pass.{Pass}
+use Rattle.pass_laws.specs.declared.names.Pass.{Pass}
 use Rattle.dimacs_link.specs.declared.checks.LinkCheckFault.{LinkCheckFault}
 use Rattle.dimacs_link.specs.declared.checks.LinkCheckFault.TheVariants.{NotClauses, Memory}
 use Rattle.dimacs_link.specs.AnswerModels.{AreFlags}

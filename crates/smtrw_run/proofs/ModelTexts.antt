@@ -18,7 +18,7 @@ use Rattle.model_texts.specs.declared.faults.ModelFault.TheVariants.{ModelForm, 
 use Rattle.model_texts.specs.ModelText.{model_of, model_from}
 use Rattle.model_texts.specs.ReadModel.{ReadsModel, IsRefusedFor}
 use Rattle.model_texts.specs.Refusals.{Cause, Unmodelled, unread, refused, code_of, model_form, model_sort, not_a_table, model_number, model_twice}
-use Rattle.passes.specs.Carry.{Stage}
+use Rattle.pass_laws.specs.Carry.{Stage}
 use Rattle.smtrw_answers.specs.declared.status.Status.{Status}
 use Rattle.smtrw_answers.specs.declared.status.Status.TheVariants.{Done, Refused as ScriptRefused, Usage, ReadFailed, WriteFailed, OutOfMemory, ModelRefused, Beyond128, PassRefused}
 use Rattle.smtrw_answers.specs.Endings.{longest_text, fault_code, model_refusal_of, model_end, text_end}

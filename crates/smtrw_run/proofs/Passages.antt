@@ -8,11 +8,11 @@ use Rattle.smt_terms.specs.Term.{Term}
 use Rattle.script_read.specs.CommandLists.{commands_of, is_check as is_node_check}
 use Rattle.script_read.specs.Commands.{Command, checks}
 use Rattle.script_read.specs.Script.{fault}
-use Rattle.passes.specs.declared.names.Pass.{Pass}
-use Rattle.passes.specs.declared.names.Pass.TheVariants.{Rules}
-use Rattle.passes.specs.Laws.{CarriesModels, IsReady}
-use Rattle.passes.specs.Led.{LeadsTo}
-use Rattle.passes.specs.Passed.{apply_pass, passed}
+use Rattle.pass_laws.specs.declared.names.Pass.{Pass}
+use Rattle.pass_laws.specs.declared.names.Pass.TheVariants.{Rules}
+use Rattle.pass_laws.specs.Laws.{CarriesModels, IsReady}
+use Rattle.pass_laws.specs.Led.{LeadsTo}
+use Rattle.pass_laws.specs.Passed.{apply_pass, passed}
 use Rattle.smtrw_answers.specs.declared.status.Status.TheVariants.{Refused}
 use Rattle.smtrw_answers.specs.Blasting.{names_behind}
 use Rattle.smtrw_answers.specs.Carrying.{translated, extended}

@@ -7,8 +7,8 @@ use Rattle.smt_terms.specs.Sorts.{Name}
 use Rattle.script_terms.specs.declared.faults.Refusal.{Refusal}
 use Rattle.model_texts.specs.ModelText.{model_of}
 use Rattle.smt_print.specs.declared.layout.Layout.{Layout}
-use Rattle.passes.specs.declared.names.Pass.{Pass}
-use Rattle.passes.specs.Carry.{back_stages, forth_stages}
+use Rattle.pass_laws.specs.declared.names.Pass.{Pass}
+use Rattle.pass_laws.specs.Carry.{back_stages, forth_stages}
 use Rattle.smtrw_answers.specs.declared.status.Status.{Status}
 use Rattle.smtrw_answers.specs.declared.status.Status.TheVariants.{Done, Refused, Usage, ReadFailed, WriteFailed, OutOfMemory, ModelRefused, Beyond128, PassRefused}
 use Rattle.smtrw_answers.specs.declared.words.Asked.{Asked as AskedSeen}

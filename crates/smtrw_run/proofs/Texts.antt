@@ -8,9 +8,9 @@ use Rattle.script_read.specs.Commands.{Command}
 use Rattle.script_read.specs.Script.{fault_of, script}
 use Rattle.smt_print.specs.declared.layout.Layout.{Layout}
 use Rattle.smt_print.specs.Text.{lines}
-use Rattle.passes.specs.declared.names.Pass.{Pass}
-use Rattle.passes.specs.Laws.{AreCarried}
-use Rattle.passes.specs.Led.{Leads, LeadsTo}
+use Rattle.pass_laws.specs.declared.names.Pass.{Pass}
+use Rattle.pass_laws.specs.Laws.{AreCarried}
+use Rattle.pass_laws.specs.Led.{Leads, LeadsTo}
 use Rattle.smtrw_answers.specs.Headline.{IsRewriting}
 use Rattle.smtrw_answers.specs.Laws.{RewritingKeepsItsPromise}
 use Rattle.smtrw_answers.specs.Outputs.{commands, names_left, read_or_none}

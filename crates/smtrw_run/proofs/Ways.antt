@@ -22,14 +22,14 @@ use Rattle.script_read.specs.CommandLists.{ReadsScript, commands_of, free_name, 
 use Rattle.script_read.specs.Commands.{Command, passed as passed_on, declare_sort, declare, assert, check, check_assuming, push, pop, reset, reset_assertions, globals, exit, State, Kind, Signature, signature, after, start, checks, is_check, kinds, points, points_from}
 use Rattle.script_read.specs.Script.{script}
 use Rattle.models.specs.LiveNumbers.{LiveNumbers, signature_of, AreLiveNumbersOf, IsFreeSort}
-use Rattle.passes.specs.declared.names.Pass.{Pass}
+use Rattle.pass_laws.specs.declared.names.Pass.{Pass}
 use Rattle.passes.specs.declared.running.PassFault.{PassFault}
 use Rattle.passes.specs.declared.running.PassFault.TheVariants.{QuantifiedUse, Memory as NoMemoryForPassing}
-use Rattle.passes.specs.Carry.{back, forth}
-use Rattle.passes.specs.Laws.{AreCarried, CarriesSignatures, IsReady}
-use Rattle.passes.specs.Led.{LeadsTo}
-use Rattle.passes.specs.Lists.{groups_after_rules}
-use Rattle.passes.specs.Passed.{passed, refused_assertion}
+use Rattle.pass_laws.specs.Carry.{back, forth}
+use Rattle.pass_laws.specs.Laws.{AreCarried, CarriesSignatures, IsReady}
+use Rattle.pass_laws.specs.Led.{LeadsTo}
+use Rattle.pass_laws.specs.Lists.{groups_after_rules}
+use Rattle.pass_laws.specs.Passed.{passed, refused_assertion}
 use Rattle.passes.specs.Plans.{IsPlanOf, IsPlanOver}
 use Rattle.model_texts.specs.Proper.{IsProper}
 use Rattle.smtrw_answers.specs.declared.status.Status.{Status}

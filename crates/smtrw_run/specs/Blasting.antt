@@ -1,7 +1,7 @@
 -- A check of a script behind passes as a script over truth values, and the way back from it.
 use Rattle.std.specs.Prelude.{◌≡◌, ℕ, List, None}
 use Rattle.model_texts.specs.Proper.{IsProper}
-use Rattle.passes.specs.declared.names.Pass.{Pass}
+use Rattle.pass_laws.specs.declared.names.Pass.{Pass}
 use Rattle.bit_scripts.specs.Bits.{AreBitsOf}
 use Rattle.bit_scripts.specs.Laws.{IsBlasted}
 use Rattle.bit_scripts.specs.Nodes.{IsBlastingOf}

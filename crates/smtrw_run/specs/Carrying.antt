@@ -12,13 +12,13 @@ use Rattle.models.specs.LiveNumbers.{LiveNumbers, signature_of, AreLiveNumbersOf
 use Rattle.models.specs.ModelView.{ModelLists, model_at, IsModelOf}
 use Rattle.model_texts.specs.ModelText.{model_of}
 use Rattle.model_texts.specs.Proper.{IsProper}
-use Rattle.passes.specs.declared.names.Pass.{Pass}
-use Rattle.passes.specs.Carry.{Stage, back, forth}
+use Rattle.pass_laws.specs.declared.names.Pass.{Pass}
+use Rattle.pass_laws.specs.Carry.{Stage, back, forth}
 use Rattle.passes.specs.Carrying.{IsCheck}
-use Rattle.passes.specs.Laws.{AreCarried, IsReady}
-use Rattle.passes.specs.Led.{LeadsTo}
-use Rattle.passes.specs.Lists.{groups_after_rules}
-use Rattle.passes.specs.Passed.{passed}
+use Rattle.pass_laws.specs.Laws.{AreCarried, IsReady}
+use Rattle.pass_laws.specs.Led.{LeadsTo}
+use Rattle.pass_laws.specs.Lists.{groups_after_rules}
+use Rattle.pass_laws.specs.Passed.{passed}
 use Rattle.passes.specs.Plans.{IsPlanOf, IsPlanOver}
 use Rattle.passes.specs.Removing.{IsPlanKept}
 use Rattle.smtrw_answers.specs.declared.status.Status.{Status}

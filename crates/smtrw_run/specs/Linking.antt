@@ -4,8 +4,8 @@ use Rattle.std.specs.List.{list_any}
 use Rattle.smt_lex.specs.Lex.{line_at}
 use Rattle.smt_terms.specs.declared.ids.SymId.{SymId}
 use Rattle.smt_terms.specs.Sorts.{Name}
-use Rattle.passes.specs.declared.names.Pass.{Pass}
-use Rattle.passes.specs.Carry.{Stage, back_stages}
+use Rattle.pass_laws.specs.declared.names.Pass.{Pass}
+use Rattle.pass_laws.specs.Carry.{Stage, back_stages}
 use Rattle.dimacs_link.specs.declared.answers.Answer.{Answer}
 use Rattle.dimacs_link.specs.declared.answers.Answer.TheVariants.{Sat}
 use Rattle.dimacs_link.specs.AnswerModels.{AreFlags}

@@ -5,8 +5,8 @@ use Rattle.smt_terms.specs.Term.{Term}
 use Rattle.script_read.specs.Commands.{Command}
 use Rattle.smt_print.specs.declared.layout.Layout.{Layout}
 use Rattle.smt_print.specs.Text.{lines}
-use Rattle.passes.specs.declared.names.Pass.{Pass}
-use Rattle.passes.specs.Led.{Leads}
+use Rattle.pass_laws.specs.declared.names.Pass.{Pass}
+use Rattle.pass_laws.specs.Led.{Leads}
 use Rattle.smtrw_answers.specs.declared.status.Status.{Status}
 use Rattle.smtrw_answers.specs.Outputs.{commands, names_left, assertions}
 use Rattle.smtrw_run.specs.declared.rewriting.Rewriting.{Rewriting}

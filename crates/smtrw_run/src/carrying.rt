@@ -21,7 +21,8 @@ use crate::rewriting::know_passes;
 use model_texts::laws::printable_signatures_are_proper;
 use model_texts::{model_text, read_model};
 use models::{Model, Signature, signature_at};
-use passes::{Passes, Plan, back, forth, run_passes, signatures_stay_led};
+use pass_laws::laws::signatures_stay_led;
+use passes::{Passes, Plan, back, forth, run_passes};
 use rule_book::{Named, RuleBook};
 use script_read::{
     Script, checks, names_left_are_new, read_script, reading_gives_a_printable_script,

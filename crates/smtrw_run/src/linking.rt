@@ -5,7 +5,7 @@ ghost use Rattle.std.specs.List.{list_any};
 ghost use Rattle.script_terms.specs.Places.{IsRead};
 ghost use Rattle.smt_io.specs.Told.{longest_text};
 ghost use Rattle.smt_terms.specs.Sorts.{Name};
-ghost use Rattle.passes.specs.declared.names.Pass.{Pass};
+ghost use Rattle.pass_laws.specs.declared.names.Pass.{Pass};
 ghost use Rattle.smtrw_answers.specs.Asked.{numbered};
 ghost use Rattle.smtrw_answers.specs.Words.{dimacs, is_rules, Numbered, Word};
 ghost use Rattle.smtrw_run.specs.Carrying.{IsPassage};

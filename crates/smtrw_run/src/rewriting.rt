@@ -3,7 +3,7 @@
 ghost use Rattle.std.specs.Prelude.{◌≡◌, ◌≤◌, false, length, count_by, IfOk};
 ghost use Rattle.script_terms.specs.Places.{IsRead};
 ghost use Rattle.smt_io.specs.Told.{longest_text};
-ghost use Rattle.passes.specs.Lists.{groups_after_rules};
+ghost use Rattle.pass_laws.specs.Lists.{groups_after_rules};
 ghost use Rattle.smtrw_answers.specs.Endings.{rewrite_end};
 ghost use Rattle.smtrw_answers.specs.Headline.{IsRewriting};
 ghost use Rattle.smtrw_run.specs.Counted.{is_assertion};

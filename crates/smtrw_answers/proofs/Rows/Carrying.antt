@@ -13,7 +13,7 @@ use Rattle.script_read.specs.Outlines.{supported}
 use Rattle.smt_print.specs.TermForms.{operator_form}
 use Rattle.model_texts.specs.ModelText.{model_of}
 use Rattle.model_texts.specs.Refusals.{model_number, refused}
-use Rattle.passes.specs.declared.names.Pass.TheVariants.{Simplify, Ite, Cnf, Ackermann}
+use Rattle.pass_laws.specs.declared.names.Pass.TheVariants.{Simplify, Ite, Cnf, Ackermann}
 use Rattle.smtrw_answers.specs.Carrying.{signature_behind, translated_text, extended_text}
 
 -- ---- a function of a declared sort

@@ -9,7 +9,7 @@ use Rattle.smt_terms.specs.Shapes.{is_ite_operator}
 use Rattle.smt_terms.specs.Written.{operator_named, written_rank, build}
 use Rattle.script_read.specs.Outlines.{supported}
 use Rattle.smt_print.specs.TermForms.{operator_form}
-use Rattle.passes.specs.declared.names.Pass.TheVariants.{Ite, Cnf, Ackermann}
+use Rattle.pass_laws.specs.declared.names.Pass.TheVariants.{Ite, Cnf, Ackermann}
 use Rattle.smtrw_answers.specs.declared.status.Why.TheVariants.{NoSuchCheck}
 use Rattle.smtrw_answers.specs.declared.status.Status.{Status}
 use Rattle.smtrw_answers.specs.declared.status.Status.TheVariants.{Refused, Usage, ModelRefused, Beyond128, PassRefused}

@@ -12,7 +12,7 @@ use Rattle.simplify.specs.Simplify.{law}
 use Rattle.script_read.specs.Outlines.{supported}
 use Rattle.smt_print.specs.declared.layout.Layout.TheVariants.{Tree, Dag}
 use Rattle.smt_print.specs.TermForms.{operator_form}
-use Rattle.passes.specs.declared.names.Pass.TheVariants.{Simplify, Nnf, Ite, Cnf, Ackermann}
+use Rattle.pass_laws.specs.declared.names.Pass.TheVariants.{Simplify, Nnf, Ite, Cnf, Ackermann}
 use Rattle.smtrw_answers.specs.Outputs.{rewritten}
 
 nothing : rewritten [] [] Tree ≡ []

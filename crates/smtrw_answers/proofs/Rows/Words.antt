@@ -2,8 +2,8 @@
 use Prim.Native.String.{String}
 use Rattle.std.specs.Prelude.{◌≡◌, ℕ, List, [], ◌∷◌, map, codes, Result, Ok, Err, refl}
 use Rattle.smt_print.specs.declared.layout.Layout.TheVariants.{Tree, Dag}
-use Rattle.passes.specs.declared.names.Pass.TheVariants.{Nnf, Aig, Prenex, Reads, Shannon, SelfSub, Simplify, Rules, Ite, Cnf, Ackermann}
-use Rattle.passes.specs.Lists.{pass_named}
+use Rattle.pass_laws.specs.declared.names.Pass.TheVariants.{Nnf, Aig, Prenex, Reads, Shannon, SelfSub, Simplify, Rules, Ite, Cnf, Ackermann}
+use Rattle.pass_laws.specs.Lists.{pass_named}
 use Rattle.smtrw_answers.specs.declared.status.Usage.{Usage}
 use Rattle.smtrw_answers.specs.declared.status.Why.{Why}
 use Rattle.smtrw_answers.specs.declared.status.Why.TheVariants.{Missing, UnknownCommand, BadOption, Repeated, BadValue, BadPass, AfterRules, Extra, TwoInputs}

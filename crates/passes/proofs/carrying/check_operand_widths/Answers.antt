@@ -1,6 +1,6 @@
 use Rattle.std.proofs.Common.{◌-◌, ◌<◌, sym, subst, refl, length, drop, List, arith}
 use Rattle.std.proofs.lemmas.Option.{slice_get_read}
-use Rattle.passes.specs.Carry.{Asked}
+use Rattle.pass_laws.specs.Carry.{Asked}
 use Rattle.passes.specs.LiveRows.{all_asked_at}
 use Rattle.passes.specs.LiveSymbols.{IsWidest}
 use Rattle.passes.proofs.ReturnedStages.{asked_front}

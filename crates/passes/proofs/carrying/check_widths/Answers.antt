@@ -2,7 +2,7 @@ use Rattle.std.proofs.Common.{sym, subst, refl, length, take, map, ◌++◌, Lis
 use Rattle.std.proofs.lemmas.Option.{slice_get_read}
 use Rattle.std.proofs.lemmas.Result.{err_from_is_err_and}
 use Rattle.passes.specs.declared.searching.LiveSymbol.{LiveSymbol}
-use Rattle.passes.specs.Carry.{Asked}
+use Rattle.pass_laws.specs.Carry.{Asked}
 use Rattle.passes.specs.LiveSymbols.{IsWidest, IsLiveOver, AreLiveOver, asked_in, given_at, all_asked_in, lives_at}
 use Rattle.passes.proofs.ListPlaces.{all_at}
 use Rattle.passes.proofs.LiveStages.{stage-more}

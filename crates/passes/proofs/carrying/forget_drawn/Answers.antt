@@ -3,7 +3,7 @@ use Rattle.std.proofs.lemmas.Option.{slice_get_read}
 use Rattle.smt_terms.specs.Models.{IsModel}
 use Rattle.models.specs.ModelView.{ModelLists, model_at, IsModelOf}
 use Rattle.passes.specs.declared.plan.Step.{Step}
-use Rattle.passes.specs.LiveGroups.{without_drawn}
+use Rattle.pass_laws.specs.LiveGroups.{without_drawn}
 use Rattle.passes.specs.LiveSymbols.{dropped_at}
 use Rattle.passes.specs.Plans.{step_of, steps_of, IsStepOver}
 use Rattle.passes.proofs.ForgottenSymbols.{without-more, group_alone, other_alone}

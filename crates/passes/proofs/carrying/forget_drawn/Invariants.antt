@@ -2,7 +2,7 @@ use Rattle.std.proofs.Common.{◌≡◌, take}
 use Rattle.smt_terms.specs.Models.{IsModel}
 use Rattle.term_table.specs.Formulas.{Formulas, IsTable}
 use Rattle.models.specs.ModelView.{model_at, IsModelOf}
-use Rattle.passes.specs.LiveGroups.{without_drawn}
+use Rattle.pass_laws.specs.LiveGroups.{without_drawn}
 use Rattle.passes.specs.Plans.{steps_of, IsStageOver}
 use Rattle.passes.proofs.carrying.forget_drawn.Given as goal
 

@@ -4,9 +4,9 @@ use Rattle.std.proofs.lemmas.Option.{slice_get_read}
 use Rattle.std.proofs.lemmas.Result.{err_from_is_err_and}
 use Rattle.models.specs.ModelView.{model_at}
 use Rattle.passes.specs.declared.plan.Stage.{Stage}
-use Rattle.passes.specs.Carry.{beyond}
+use Rattle.pass_laws.specs.Carry.{beyond}
 use Rattle.passes.specs.Carrying.{breaks_in}
-use Rattle.passes.specs.LiveGroups.{Told, forth_by, forth_stages_by}
+use Rattle.pass_laws.specs.LiveGroups.{Told, forth_by, forth_stages_by}
 use Rattle.passes.specs.LiveSymbols.{live_at, lives_at}
 use Rattle.passes.specs.Plans.{told_of}
 use Rattle.passes.proofs.ListPlaces.{map_at}

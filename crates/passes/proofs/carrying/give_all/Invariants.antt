@@ -2,9 +2,9 @@ use Rattle.std.proofs.Common.{◌≡◌, ℕ, true, drop, map}
 use Rattle.smt_terms.specs.declared.ids.NodeId.{NodeId}
 use Rattle.smt_terms.specs.Models.{IsModel}
 use Rattle.models.specs.ModelView.{model_at, IsModelOf}
-use Rattle.passes.specs.Carry.{beyond}
+use Rattle.pass_laws.specs.Carry.{beyond}
 use Rattle.passes.specs.Carrying.{breaks_in}
-use Rattle.passes.specs.LiveGroups.{forth_by, forth_stages_by}
+use Rattle.pass_laws.specs.LiveGroups.{forth_by, forth_stages_by}
 use Rattle.passes.specs.LiveSymbols.{AreLiveAt}
 use Rattle.passes.specs.Plans.{told_of}
 use Rattle.passes.proofs.carrying.give_all.Given as goal

@@ -3,8 +3,8 @@ use Rattle.std.proofs.lemmas.List.{length-map}
 use Rattle.std.proofs.lemmas.Option.{slice_get_read}
 use Rattle.std.proofs.lemmas.Result.{err_from_is_err_and}
 use Rattle.models.specs.ModelView.{model_at}
-use Rattle.passes.specs.Carry.{beyond}
-use Rattle.passes.specs.LiveGroups.{Told, met_of, back_by, back_stages_by}
+use Rattle.pass_laws.specs.Carry.{beyond}
+use Rattle.pass_laws.specs.LiveGroups.{Told, met_of, back_by, back_stages_by}
 use Rattle.passes.specs.LiveRows.{operands_told, AreAppliedBy}
 use Rattle.passes.specs.LiveSymbols.{live_at}
 use Rattle.passes.specs.Plans.{steps_of, told_of}

@@ -1,8 +1,8 @@
 use Rattle.std.proofs.Common.{◌≡◌, ◌≤◌, ℕ, None, map, length, drop}
 use Rattle.smt_terms.specs.Models.{IsModel}
 use Rattle.models.specs.ModelView.{model_at, IsModelOf}
-use Rattle.passes.specs.Carry.{beyond}
-use Rattle.passes.specs.LiveGroups.{back_by, back_stages_by}
+use Rattle.pass_laws.specs.Carry.{beyond}
+use Rattle.pass_laws.specs.LiveGroups.{back_by, back_stages_by}
 use Rattle.passes.specs.LiveRows.{AreAppliedAt}
 use Rattle.passes.specs.LiveSymbols.{AreLiveAt}
 use Rattle.passes.specs.Plans.{told_of}

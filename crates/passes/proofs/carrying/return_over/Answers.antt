@@ -2,7 +2,7 @@ use Rattle.std.proofs.Common.{sym, subst, List, map, Some}
 use Rattle.std.proofs.lemmas.Result.{err_from_is_err_and}
 use Rattle.models.specs.ModelView.{model_at}
 use Rattle.passes.specs.declared.searching.LiveSymbol.{LiveSymbol}
-use Rattle.passes.specs.Carry.{Asked}
+use Rattle.pass_laws.specs.Carry.{Asked}
 use Rattle.passes.specs.LiveRows.{operands_by, asked_for_rows}
 use Rattle.passes.specs.LiveSymbols.{given_at, IsBeyondAmong}
 use Rattle.passes.proofs.ReturnedStages.{asked_with}

@@ -1,6 +1,6 @@
 use Rattle.std.proofs.Common.{◌++◌, sym, subst, List, map, Some}
 use Rattle.passes.specs.declared.searching.LiveSymbol.{LiveSymbol}
-use Rattle.passes.specs.Carry.{Asked}
+use Rattle.pass_laws.specs.Carry.{Asked}
 use Rattle.passes.specs.LiveRows.{operands_by, asked_for_rows}
 use Rattle.passes.specs.LiveSymbols.{given_at, IsWidest}
 use Rattle.passes.proofs.ReturnedStages.{asked_with}

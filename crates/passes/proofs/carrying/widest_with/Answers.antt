@@ -3,7 +3,7 @@ use Rattle.std.proofs.lemmas.List.{append-nil}
 use Rattle.std.proofs.lemmas.Option.{slice_get-get_or}
 use Rattle.term_table.specs.Formulas.{tree}
 use Rattle.passes.specs.declared.searching.LiveSymbol.{LiveSymbol}
-use Rattle.passes.specs.Carry.{Asked}
+use Rattle.pass_laws.specs.Carry.{Asked}
 use Rattle.passes.specs.LiveSymbols.{IsWidest, asked_in, given_at}
 use Rattle.passes.proofs.LiveStages.{asked-given}
 use Rattle.passes.proofs.ListPlaces.{all_taken}

@@ -1,6 +1,6 @@
 use Rattle.std.proofs.Common.{◌++◌, List, map, take}
 use Rattle.evaluation.specs.KeptValues.{KeepsBounds}
-use Rattle.passes.specs.Carry.{Asked}
+use Rattle.pass_laws.specs.Carry.{Asked}
 use Rattle.passes.specs.LiveSymbols.{asked_in, given_at, IsWidest}
 use Rattle.passes.proofs.carrying.widest_with.Given as goal
 

@@ -1,5 +1,5 @@
 use Rattle.std.proofs.Common.{arith, subst}
-use Rattle.passes.specs.Carry.{Asked}
+use Rattle.pass_laws.specs.Carry.{Asked}
 use Rattle.passes.specs.LiveSymbols.{IsWidest}
 use Rattle.passes.proofs.LeastAsked.{none_wide, same_wide, less_wide}
 use Rattle.passes.proofs.carrying.with_bits.Goals as goal

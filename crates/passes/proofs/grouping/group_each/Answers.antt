@@ -6,7 +6,7 @@ use Rattle.term_subst.proofs.Gaining.{none-gained, gained-both}
 use Rattle.script_read.specs.CommandLists.{command_of, commands_of, IsCommandOf, AreCommandsOf}
 use Rattle.script_read.specs.declared.scripts.Command.TheVariants.{Exit}
 use Rattle.script_terms.proofs.Grown.{grown_self, later_self, later_on}
-use Rattle.passes.specs.Groups.{groups_from}
+use Rattle.pass_laws.specs.Groups.{groups_from}
 use Rattle.passes.specs.Plans.{Tells}
 use Rattle.passes.proofs.GroupingSteps.{SameFrom, found_alike, same_behind}
 use Rattle.passes.proofs.GroupingWalk.{IsGrouped, none_grouped, all_grouped, command_there, rewritable_there, grouped_there, there}

@@ -2,7 +2,7 @@ use Rattle.std.proofs.Common.{◌≡◌, length, take}
 use Rattle.term_walk.specs.Walking.{GrowsTo}
 use Rattle.term_subst.specs.Substituting.{IsLater, NeverGivesGained}
 use Rattle.script_read.specs.CommandLists.{commands_of, AreCommandsOf}
-use Rattle.passes.specs.Groups.{groups_from}
+use Rattle.pass_laws.specs.Groups.{groups_from}
 use Rattle.passes.specs.Plans.{Tells}
 use Rattle.passes.proofs.GroupingSteps.{SameFrom}
 use Rattle.passes.proofs.GroupingWalk.{IsGrouped}

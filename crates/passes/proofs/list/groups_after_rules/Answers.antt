@@ -2,7 +2,7 @@ use Rattle.std.proofs.Common.{◌∙◌, rules, tests}
 use Rattle.std.proofs.lemmas.Iterator.{YieldsList-from_slice}
 use Rattle.std.proofs.lemmas.Iterator.Adapters.{YieldsList-from_skip_while}
 use Rattle.std.proofs.lemmas.Iterator.Search.{any_from_yields_List}
-use Rattle.passes.specs.Lists.{makes_groups}
+use Rattle.pass_laws.specs.Lists.{makes_groups}
 use Rattle.passes.proofs.ListedNames.{not_rules, groups_from_rules}
 use Rattle.passes.proofs.list.groups_after_rules.Goals as goal
 

@@ -1,6 +1,6 @@
 use Rattle.std.proofs.Common.{ℕ, List, Bor, sym, ◌∙◌}
 use Rattle.smt_terms.specs.Sorts.{Name}
-use Rattle.passes.specs.declared.names.Pass.{Pass}
+use Rattle.pass_laws.specs.declared.names.Pass.{Pass}
 use Rattle.passes.proofs.ListedNames.{named_here, named_next}
 use Rattle.passes.proofs.list.named_among.Goals as goal
 

@@ -1,5 +1,5 @@
 use Rattle.std.proofs.Common.{◌≡◌, map, drop}
-use Rattle.passes.specs.Lists.{pass_among}
+use Rattle.pass_laws.specs.Lists.{pass_among}
 use Rattle.passes.proofs.list.named_among.Given as goal
 
 abbrev pub invariant-loop-other : goal.invariant-loop-other

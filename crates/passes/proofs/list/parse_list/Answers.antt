@@ -3,7 +3,7 @@ use Rattle.std.proofs.lemmas.Iterator.Splits.{YieldsList-from_str_split}
 use Rattle.std.proofs.lemmas.Iterator.Consumers.{YieldsList-turn, YieldsList-end}
 use Rattle.std.proofs.lemmas.List.{length_push}
 use Rattle.std.proofs.lemmas.Result.{err_from_is_err_and}
-use Rattle.passes.specs.Lists.{between_commas}
+use Rattle.pass_laws.specs.Lists.{between_commas}
 use Rattle.passes.proofs.ListedNames.{turn_at, none_taken, one_taken, no_such_pass, too_many_names, all_taken_at}
 use Rattle.passes.proofs.list.parse_list.Goals as goal
 

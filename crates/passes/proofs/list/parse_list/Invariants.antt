@@ -1,5 +1,5 @@
 use Rattle.std.proofs.Common.{length}
-use Rattle.passes.specs.Lists.{between_commas}
+use Rattle.pass_laws.specs.Lists.{between_commas}
 use Rattle.passes.proofs.ListedNames.{Taken}
 use Rattle.passes.proofs.list.parse_list.Given as goal
 

@@ -1,5 +1,5 @@
 use Rattle.std.proofs.Common.{◌∙◌, ◌∷◌, ◌+◌, ap, sym, ℕ, option_to_list, arith}
-use Rattle.passes.specs.Passed.{least}
+use Rattle.pass_laws.specs.Passed.{least}
 use Rattle.passes.proofs.RefusedCommands.{refused_from, command_left, commands_left, least_same, least_then, least_last}
 use Rattle.passes.proofs.removing.least_refused.Goals as goal
 use Rattle.passes.proofs.removing.least_refused.Goals.{in-Some, in_default}

@@ -1,6 +1,6 @@
 use Rattle.std.proofs.Common.{◌≡◌, ◌∷◌, drop}
 use Rattle.script_read.specs.CommandLists.{AreCommandsOf}
-use Rattle.passes.specs.Passed.{least}
+use Rattle.pass_laws.specs.Passed.{least}
 use Rattle.passes.proofs.RefusedCommands.{refused_from}
 use Rattle.passes.proofs.removing.least_refused.Given as goal
 

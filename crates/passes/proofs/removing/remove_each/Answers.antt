@@ -6,7 +6,7 @@ use Rattle.script_terms.proofs.Grown.{grown_self, later_self, later_on}
 use Rattle.script_read.specs.CommandLists.{command_of, commands_of}
 use Rattle.script_read.specs.declared.scripts.Command.TheVariants.{Exit}
 use Rattle.passes.specs.declared.plan.Stage.{Stage}
-use Rattle.passes.specs.Passed.{least, quantified_use}
+use Rattle.pass_laws.specs.Passed.{least, quantified_use}
 use Rattle.passes.proofs.GroupingSteps.{SameFrom, found_alike, same_behind}
 use Rattle.passes.proofs.GroupingWalk.{command_there, rewritable_there, there}
 use Rattle.passes.proofs.RemovalWalk.{over-first, stands-first, stands-next, refused-first, closes-open, left-within, left-commands, last-commands, last-names, last-refused, last-stage, last-over}

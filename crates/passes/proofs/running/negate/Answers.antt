@@ -5,7 +5,7 @@ use Rattle.term_subst.specs.Substituting.{NeverGivesGained}
 use Rattle.term_walk.proofs.Visits.{table-grows}
 use Rattle.script_read.specs.Commands.{Command}
 use Rattle.script_read.proofs.CommandsStay.{commands_within, commands_stay}
-use Rattle.passes.specs.Behind.{nnf_form, in_form, AreRewritable}
+use Rattle.pass_laws.specs.Behind.{nnf_form, in_form, AreRewritable}
 use Rattle.passes.proofs.running.negate.Goals as goal
 
 pub rewrite_each-requires-clause-numbers : goal.rewrite_each-requires-clause-numbers

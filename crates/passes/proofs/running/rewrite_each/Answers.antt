@@ -5,7 +5,7 @@ use Rattle.term_subst.proofs.Gaining.{none-gained, gained-both}
 use Rattle.script_read.specs.CommandLists.{command_of, commands_of}
 use Rattle.script_terms.proofs.Grown.{grown_self, later_self, later_on}
 use Rattle.script_read.specs.declared.scripts.Command.TheVariants.{Assert}
-use Rattle.passes.proofs.InForm.{start}
+use Rattle.pass_laws.proofs.InForm.{start}
 use Rattle.passes.proofs.RewrittenCommands.{other_stays, formula_there, names_there, numbers_then, replaced}
 use Rattle.passes.proofs.running.rewrite_each.Goals as goal
 use Rattle.passes.proofs.running.rewrite_each.Goals.{in-Some+in_ok-id, in_default}

@@ -2,7 +2,7 @@ use Rattle.std.proofs.Common.{◌≡◌, length}
 use Rattle.term_walk.specs.Walking.{GrowsTo}
 use Rattle.term_subst.specs.Substituting.{IsLater, NeverGivesGained}
 use Rattle.script_read.specs.CommandLists.{commands_of, AreCommandsOf}
-use Rattle.passes.proofs.InForm.{IsUnderWay}
+use Rattle.pass_laws.proofs.InForm.{IsUnderWay}
 use Rattle.passes.proofs.running.rewrite_each.Given as goal
 
 abbrev pub invariant-loop-i : goal.invariant-loop-i

@@ -1,8 +1,8 @@
 use Rattle.std.proofs.Common.{◌∙◌, [], ap, refl, map}
 use Rattle.std.proofs.lemmas.List.Elements.{All-cons, All-nil}
 use Rattle.script_read.specs.CommandLists.{commands_of}
-use Rattle.passes.specs.declared.names.Pass.TheVariants.{Ite, Cnf}
-use Rattle.passes.specs.Passed.{refused_by}
+use Rattle.pass_laws.specs.declared.names.Pass.TheVariants.{Ite, Cnf}
+use Rattle.pass_laws.specs.Passed.{refused_by}
 use Rattle.passes.specs.Plans.{IsStageOver}
 use Rattle.passes.specs.Removing.{IsStageKept}
 use Rattle.passes.proofs.OnePass.{led_by_removal, led_in_groups}

@@ -6,10 +6,10 @@ use Rattle.term_walk.proofs.Visits.{table-grows}
 use Rattle.term_subst.proofs.Gaining.{none-gained, gained-both}
 use Rattle.script_read.specs.CommandLists.{commands_of}
 use Rattle.script_terms.proofs.Grown.{grown_self, later_self, later_on}
-use Rattle.passes.specs.Passed.{refused_assertion}
+use Rattle.pass_laws.specs.Passed.{refused_assertion}
 use Rattle.passes.specs.Plans.{HasStages, IsStageOver}
 use Rattle.passes.specs.Removing.{IsStageKept}
-use Rattle.passes.proofs.ModelsStay.{passes_leave}
+use Rattle.pass_laws.proofs.ModelsStay.{passes_leave}
 use Rattle.passes.proofs.PassAfterPass.{behind_none, behind_one, all_lead, all_carried}
 use Rattle.passes.proofs.PlannedLists.{kept_within, stages_within, stages_then, same_checks}
 use Rattle.passes.proofs.RefusedLists.{handed-on, none-refused, now-refused}

@@ -2,7 +2,7 @@ use Rattle.std.proofs.Common.{◌≡◌, map, take, None, All}
 use Rattle.term_walk.specs.Walking.{GrowsTo}
 use Rattle.term_subst.specs.Substituting.{IsLater, NeverGivesGained}
 use Rattle.script_read.specs.CommandLists.{commands_of, AreCommandsOf}
-use Rattle.passes.specs.Passed.{refused_assertion}
+use Rattle.pass_laws.specs.Passed.{refused_assertion}
 use Rattle.passes.specs.Plans.{HasStages, IsStageOver}
 use Rattle.passes.specs.Removing.{IsStageKept}
 use Rattle.passes.proofs.PassAfterPass.{IsBehind}

@@ -3,9 +3,9 @@ use Rattle.std.proofs.lemmas.Result.{on_ok_weaker}
 use Rattle.normal_forms.specs.Prenex.{prenex}
 use Rattle.normal_forms.specs.Quantifiers.{selfsub}
 use Rattle.script_read.specs.CommandLists.{commands_of}
-use Rattle.passes.specs.declared.names.Pass.TheVariants.{Simplify, Nnf, Aig, Prenex, Reads, Shannon, SelfSub}
-use Rattle.passes.specs.Behind.{simplified_form, nnf_form, aig_form, reads_form, shannon_form}
-use Rattle.passes.proofs.InForm.{is_simplified_form, is_nnf_form, is_aig_form, is_prenex_form, is_reads_form, is_shannon_form, is_selfsub_form}
+use Rattle.pass_laws.specs.declared.names.Pass.TheVariants.{Simplify, Nnf, Aig, Prenex, Reads, Shannon, SelfSub}
+use Rattle.pass_laws.specs.Behind.{simplified_form, nnf_form, aig_form, reads_form, shannon_form}
+use Rattle.pass_laws.proofs.InForm.{is_simplified_form, is_nnf_form, is_aig_form, is_prenex_form, is_reads_form, is_shannon_form, is_selfsub_form}
 use Rattle.passes.proofs.OnePass.{both_ok, led_in_form, led_by_rules}
 use Rattle.passes.proofs.Rewritable.{ready_rewritable}
 use Rattle.passes.proofs.running.run_rewriter.Goals as goal

@@ -1,6 +1,6 @@
 use Rattle.std.proofs.Common.{◌≡◌, length, refl, slice_get, Some, arith}
 use Rattle.std.proofs.lemmas.Option.{slice_get_read}
-use Rattle.passes.specs.LiveGroups.{before_check}
+use Rattle.pass_laws.specs.LiveGroups.{before_check}
 use Rattle.passes.specs.Plans.{steps_of}
 use Rattle.passes.proofs.StepsBefore.{before_found, before_other, before_checked, before_all}
 use Rattle.passes.proofs.searching.before_check.Goals as goal

@@ -1,6 +1,6 @@
 use Rattle.std.proofs.Common.{◌≡◌, ◌≤◌, ◌++◌, take, drop}
 use Rattle.term_table.specs.Formulas.{Formulas}
-use Rattle.passes.specs.LiveGroups.{before_check}
+use Rattle.pass_laws.specs.LiveGroups.{before_check}
 use Rattle.passes.specs.Plans.{steps_of}
 use Rattle.passes.proofs.searching.before_check.Given as goal
 

@@ -1,6 +1,6 @@
 use Rattle.std.proofs.Common.{◌∙◌, ◌∷◌, [], ap, sym, refl, length, false}
 use Rattle.std.proofs.lemmas.Option.{slice_get_read}
-use Rattle.passes.specs.LiveGroups.{global_behind}
+use Rattle.pass_laws.specs.LiveGroups.{global_behind}
 use Rattle.passes.specs.Plans.{step_of, steps_of}
 use Rattle.passes.proofs.SearchedSteps.{global-more}
 use Rattle.passes.proofs.ListPlaces.{map_at, taken_all}

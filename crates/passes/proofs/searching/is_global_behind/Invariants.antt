@@ -1,6 +1,6 @@
 use Rattle.std.proofs.Common.{◌≡◌, take, false}
 use Rattle.term_table.specs.Formulas.{Formulas}
-use Rattle.passes.specs.LiveGroups.{global_behind}
+use Rattle.pass_laws.specs.LiveGroups.{global_behind}
 use Rattle.passes.specs.Plans.{steps_of}
 use Rattle.passes.proofs.searching.is_global_behind.Given as goal
 

@@ -1,5 +1,5 @@
 use Rattle.std.proofs.Common.{◌∙◌, ap, sym, false}
-use Rattle.passes.specs.LiveGroups.{global_behind, met_in}
+use Rattle.pass_laws.specs.LiveGroups.{global_behind, met_in}
 use Rattle.passes.specs.LiveSymbols.{live_of}
 use Rattle.passes.specs.Plans.{steps_of}
 use Rattle.passes.proofs.searching.live_at_check.Goals as goal

@@ -2,7 +2,7 @@ use Rattle.std.proofs.Common.{◌∙◌, ◌≡◌, ◌≤◌, ap, sym, subst, r
 use Rattle.std.proofs.lemmas.Option.{slice_get_read}
 use Rattle.passes.specs.declared.plan.Stage.{Stage}
 use Rattle.passes.specs.declared.plan.Step.{Step}
-use Rattle.passes.specs.LiveGroups.{met_at, met_of}
+use Rattle.pass_laws.specs.LiveGroups.{met_at, met_of}
 use Rattle.passes.specs.LiveRows.{AreLiveStages}
 use Rattle.passes.specs.LiveSymbols.{live_of}
 use Rattle.passes.specs.Plans.{steps_of, told_of, told_in, uses_of, HaveUses, IsStepOver, IsStageOver}

@@ -1,6 +1,6 @@
 use Rattle.std.proofs.Common.{◌≡◌, take, map}
 use Rattle.term_table.specs.Formulas.{Formulas}
-use Rattle.passes.specs.LiveGroups.{met_of}
+use Rattle.pass_laws.specs.LiveGroups.{met_of}
 use Rattle.passes.specs.LiveRows.{AreLiveStages}
 use Rattle.passes.specs.LiveSymbols.{live_of, lives_at}
 use Rattle.passes.specs.Plans.{told_in, IsPlanOver}

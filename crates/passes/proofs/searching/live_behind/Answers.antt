@@ -4,7 +4,7 @@ use Rattle.std.proofs.lemmas.Option.{slice_get_read}
 use Rattle.smt_terms.specs.declared.ids.SymId.{SymId}
 use Rattle.term_table.specs.Formulas.{IsSymbol}
 use Rattle.script_read.specs.Commands.{Command}
-use Rattle.passes.specs.LiveGroups.{Drawn, met_in}
+use Rattle.pass_laws.specs.LiveGroups.{Drawn, met_in}
 use Rattle.passes.specs.declared.searching.LiveSymbol.{LiveSymbol}
 use Rattle.passes.specs.LiveSymbols.{IsLiveOver, HasUseOf, IsSearched}
 use Rattle.passes.specs.Plans.{HaveUses, step_of, steps_of, IsStepOver}

@@ -1,6 +1,6 @@
 use Rattle.std.proofs.Common.{◌≤◌, ◌+◌, ◌*◌, ◌^◌, length, drop, Option, All}
 use Rattle.term_table.specs.Formulas.{Formulas}
-use Rattle.passes.specs.LiveGroups.{met_in}
+use Rattle.pass_laws.specs.LiveGroups.{met_in}
 use Rattle.passes.specs.LiveSymbols.{HasUseOf, IsSearched, IsSearchOver}
 use Rattle.passes.specs.Plans.{Uses, HaveUses, steps_of, IsStepOver}
 use Rattle.passes.proofs.searching.live_behind.Given as goal

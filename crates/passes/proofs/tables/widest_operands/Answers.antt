@@ -2,8 +2,8 @@ use Rattle.std.proofs.Common.{◌∙◌, ◌≡◌, ap, sym, subst, get_or, ◌+
 use Rattle.std.proofs.lemmas.Option.{slice_get-get_or}
 use Rattle.term_table.specs.Formulas.{trees_at, symbol_at}
 use Rattle.passes.specs.declared.searching.LiveSymbol.{LiveSymbol}
-use Rattle.passes.specs.Carry.{Asked, asked_for}
-use Rattle.passes.specs.LiveGroups.{Operands}
+use Rattle.pass_laws.specs.Carry.{Asked, asked_for}
+use Rattle.pass_laws.specs.LiveGroups.{Operands}
 use Rattle.passes.specs.LiveRows.{asked_for_rows, operands_by}
 use Rattle.passes.specs.LiveSymbols.{IsWidest, IsLiveOver, given_at}
 use Rattle.passes.proofs.FoundUses.{operands_there}

@@ -1,6 +1,6 @@
 use Rattle.std.proofs.Common.{◌++◌, List, map, take, Some}
 use Rattle.evaluation.specs.KeptValues.{KeepsBounds}
-use Rattle.passes.specs.Carry.{Asked}
+use Rattle.pass_laws.specs.Carry.{Asked}
 use Rattle.passes.specs.LiveRows.{asked_for_rows, operands_by}
 use Rattle.passes.specs.LiveSymbols.{given_at, IsWidest}
 use Rattle.passes.proofs.tables.widest_operands.Given as goal

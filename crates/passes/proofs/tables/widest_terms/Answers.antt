@@ -2,7 +2,7 @@ use Rattle.std.proofs.Common.{sym, subst, get_or, ◌++◌, List, take}
 use Rattle.std.proofs.lemmas.Option.{slice_get-get_or}
 use Rattle.smt_terms.specs.declared.ids.NodeId.{NodeId}
 use Rattle.term_table.specs.Formulas.{tree, trees_at}
-use Rattle.passes.specs.Carry.{Asked, asked_for}
+use Rattle.pass_laws.specs.Carry.{Asked, asked_for}
 use Rattle.passes.specs.LiveSymbols.{IsWidest}
 use Rattle.passes.proofs.ListPlaces.{all_taken}
 use Rattle.passes.proofs.TabledTerms.{asked-taken}

@@ -1,7 +1,7 @@
 use Rattle.std.proofs.Common.{◌++◌, List, take}
 use Rattle.term_table.specs.Formulas.{trees_at}
 use Rattle.evaluation.specs.KeptValues.{KeepsBounds}
-use Rattle.passes.specs.Carry.{Asked, asked_for}
+use Rattle.pass_laws.specs.Carry.{Asked, asked_for}
 use Rattle.passes.specs.LiveSymbols.{IsWidest}
 use Rattle.passes.proofs.tables.widest_terms.Given as goal
 

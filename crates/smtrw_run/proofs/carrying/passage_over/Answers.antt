@@ -3,7 +3,7 @@ use Rattle.smt_terms.specs.Fresh.{Supply}
 use Rattle.smt_terms.specs.Term.{Term}
 use Rattle.script_read.specs.CommandLists.{commands_of}
 use Rattle.script_read.specs.Commands.{Command}
-use Rattle.passes.specs.Laws.{IsReady}
+use Rattle.pass_laws.specs.Laws.{IsReady}
 use Rattle.smtrw_answers.specs.declared.status.Status.TheVariants.{OutOfMemory}
 use Rattle.smtrw_answers.specs.Endings.{passes_end}
 use Rattle.smtrw_answers.specs.Faults.{status_of_passing}

@@ -3,7 +3,7 @@ use Rattle.std.specs.Prelude.{count_by}
 use Rattle.smt_print.specs.Text.{lines}
 use Rattle.smt_terms.specs.Fresh.{Supply}
 use Rattle.smt_terms.specs.Term.{Term}
-use Rattle.passes.specs.Laws.{IsReady}
+use Rattle.pass_laws.specs.Laws.{IsReady}
 use Rattle.script_read.specs.declared.scripts.Command.{Command as CommandSeen}
 use Rattle.script_read.specs.CommandLists.{commands_of}
 use Rattle.script_read.specs.Commands.{Command}

@@ -8,7 +8,7 @@ use Rattle.models.specs.ModelView.{model_at}
 use Rattle.evaluation.specs.Evaluated.{breaks}
 use Rattle.passes.specs.declared.carrying.Beyond.{Beyond}
 use Rattle.passes.specs.declared.tables.NewRow.{NewRow}
-use Rattle.passes.specs.LiveGroups.{Operands}
+use Rattle.pass_laws.specs.LiveGroups.{Operands}
 use Rattle.passes.specs.LiveRows.{operands_by, AreValuesIn}
 use Rattle.passes.specs.Plans.{operands_at, IsUse}
 use Rattle.passes.proofs.FoundUses.{operands_there}

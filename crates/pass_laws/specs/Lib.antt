@@ -1,0 +1,10 @@
+pub mod Behind
+pub mod Carry
+pub mod GroupPoints
+pub mod Groups
+pub mod Laws
+pub mod Led
+pub mod Lists
+pub mod Passed
+pub mod Ruling
+pub mod LiveGroups

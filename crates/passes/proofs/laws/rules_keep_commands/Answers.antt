@@ -1,5 +1,0 @@
-use Rattle.passes.proofs.RulesKeep.{rules_keep}
-use Rattle.passes.proofs.laws.rules_keep_commands.Goals as goal
-
-pub returns : goal.returns
-returns c = rules_keep c.rewriting_keeps_values.ensures c.eight_rewrite_so.ensures
