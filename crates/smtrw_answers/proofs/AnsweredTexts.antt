@@ -12,6 +12,7 @@ use Rattle.dimacs_link.specs.declared.answers.Answer.TheVariants.{Sat}
 use Rattle.dimacs_link.specs.AnswerTexts.{items, checked, reading, HasValues}
 use Rattle.dimacs_link.specs.Checks.{unlinked_root, IsLinked, ChecksAreLinked}
 use Rattle.dimacs_link.proofs.Answered.{as_many}
+use Rattle.smtrw_answers.specs.Accepted.{nothing_mapped, accepted_text}
 use Rattle.smtrw_answers.specs.Blasting.{names_behind}
 use Rattle.smtrw_answers.specs.Carrying.{signature_before}
 use Rattle.smtrw_answers.specs.Endings.{or_later, script_end, check_end, passes_end, clauses_end, linking_end, text_end, reading_end}
@@ -19,7 +20,7 @@ use Rattle.smtrw_answers.specs.Laws.{AnsweredTextsReadBack}
 use Rattle.smtrw_answers.specs.Linking.{linked_constants, linked_model, answered, answer_lines, lines_if_read, answer_text}
 use Rattle.smtrw_answers.specs.Outputs.{commands, names_left, rewritten_commands}
 use Rattle.smtrw_answers.proofs.CarriedModels.{IsCarriable, carried_back}
-use Rattle.smtrw_answers.proofs.CarriedTexts.{none_met, nothing_mapped, accepted, within_stages, read_text, TextLaws, printed_back, ready, ready_rewritten}
+use Rattle.smtrw_answers.proofs.CarriedTexts.{none_met, within_stages, read_text, TextLaws, printed_back, ready, ready_rewritten}
 use Rattle.smtrw_answers.proofs.ReadableAnswers.{answered_readable}
 use Rattle.smtrw_answers.proofs.SameChecks.{checks_passed}
 use Rattle.smtrw_answers.proofs.UnblastedTexts.{check_there}
@@ -46,7 +47,7 @@ ended_well b ps k g vs o ends read =
     let linking = none_met (passes_end b ps) (clauses_end b ps k) third.0 in
     let fourth = read_text g (reading_end b ps k g o) third.1 in
     record {
-      whole = accepted b first.0;
+      whole = accepted_text b first.0;
       few = check_there (checks (commands b)) k _ second.0;
       taken = nothing_mapped _ (refused_assertion ps (commands b) (names_left b)) linking.0;
       clauses = nothing_mapped _ (unlinked_root (rewritten_commands b ps) k) linking.1;

@@ -1,6 +1,6 @@
 -- What is written of a carried model reads back as the carried model.
-use Rattle.std.proofs.Common.{◌≡◌, ◌∙◌, sym, ap, refl, ℕ, Bool, true, false, if◌then◌else◌, List, [], ◌∷◌, Option, Some, None, Result, Ok}
-use Rattle.std.specs.Prelude.{option_map, nat_lt, length}
+use Rattle.std.proofs.Common.{◌≡◌, ◌∙◌, sym, ap, refl, ℕ, true, List, [], ◌∷◌, Option, Some, None, Result, Ok}
+use Rattle.std.specs.Prelude.{nat_lt, length}
 use Rattle.std.specs.List.{list_all}
 use Rattle.smt_terms.specs.Fresh.{Supply}
 use Rattle.smt_terms.specs.Models.{Model}
@@ -22,12 +22,13 @@ use Rattle.pass_laws.specs.declared.names.Pass.{Pass}
 use Rattle.pass_laws.specs.Carry.{Stage, back_stages, forth_stages, beyond}
 use Rattle.pass_laws.specs.Laws.{IsReady}
 use Rattle.pass_laws.specs.Passed.{passed, refused_assertion}
+use Rattle.smtrw_answers.specs.Accepted.{nothing_mapped, nothing_first, accepted_text}
 use Rattle.smtrw_answers.specs.Carrying.{translated, extended, signature_before, signature_behind, carried_text}
-use Rattle.smtrw_answers.specs.Endings.{or_later, longest_text, refusal_of, too_long, script_end, check_end, passes_end, stages_end, model_end, text_end}
+use Rattle.smtrw_answers.specs.Endings.{or_later, longest_text, script_end, check_end, passes_end, stages_end, model_end, text_end}
 use Rattle.smtrw_answers.specs.Laws.{TranslatedTextsReadBack, ExtendedTextsReadBack}
 use Rattle.smtrw_answers.specs.Outputs.{read_or_none, commands, names_left, rewritten_commands}
 use Rattle.smtrw_answers.specs.declared.status.Status.{Status}
-use Rattle.smtrw_answers.specs.declared.status.Status.TheVariants.{Refused, ModelRefused}
+use Rattle.smtrw_answers.specs.declared.status.Status.TheVariants.{ModelRefused}
 use Rattle.smtrw_answers.proofs.CarriedModels.{IsCarriable, CarryingLaws, ready_passed, carried_back, carried_forth}
 use Rattle.smtrw_answers.proofs.ReadModels.{read_over}
 use Rattle.smtrw_answers.proofs.ReadPoints.{read_found}
@@ -38,18 +39,6 @@ use Rattle.smtrw_answers.proofs.ReadableTexts.{read_from, read_readable}
 pub none_met : (a b : Option Status) → or_later a b ≡ None → (a ≡ None) × (b ≡ None)
 none_met None b h = (refl, h)
 none_met (Some s) b h = absurd cc
-
-pub nothing_mapped : {A B : Type 0} (f : A → B) (o : Option A) → option_map f o ≡ None → o ≡ None
-nothing_mapped f None h = refl
-nothing_mapped f (Some a) h = absurd cc
-
-nothing_first : {A : Type 0} (b : Bool) (a : A) (o : Option A) → (if b then Some a else o) ≡ None → o ≡ None
-nothing_first true a o h = absurd cc
-nothing_first false a o h = h
-
-pub accepted : (b : List ℕ) → script_end b ≡ None → fault b ≡ None
-accepted b h =
-    nothing_mapped refusal_of (fault b) (nothing_first (nat_lt longest_text (length b)) (Refused too_long) (option_map refusal_of (fault b)) h)
 
 pub within_stages : (stages : List Stage) → stages_end stages ≡ None → beyond stages ≡ None
 within_stages stages h = nothing_mapped _ (beyond stages) (none_met _ _ h).1
@@ -71,7 +60,7 @@ ended_well b ps k g m stages o ends read =
     let third = none_met (passes_end b ps) _ second.1 in
     let fourth = read_text g (model_end stages o) third.1 in
     record {
-      whole = accepted b first.0;
+      whole = accepted_text b first.0;
       taken = nothing_mapped _ (refused_assertion ps (commands b) (names_left b)) third.0;
       within = within_stages (stages m) (sym (ap (model_end stages) read) ∙ fourth);
     }

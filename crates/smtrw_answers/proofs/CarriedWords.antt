@@ -167,12 +167,12 @@ values_found (Ok (stats f)) c found script model files named is = absurd files
 values_found (Ok (demo s n)) c found script model files named is = absurd files
 values_found (Err u) c found script model files named is = absurd files
 
-pub no_list_fault : (c : Command) (found : Found) (o : Option Word) (r : Result (List Pass) ListFault) (f : ListFault) → HasValues c found
+pub no_list_fault : (c : Command) (found : Found) (o : Option Word) (r : Result (List Pass) ListFault) (f : ListFault) (ps : List Pass) → passes_in c (first_value found (codes "passes")) ≡ Ok ps
     → r ≡ passes_in c o → o ≡ first_value found (codes "passes") → r ≡ Err f → ⊥
-no_list_fault c found o r f v is at fault = differ v.passes (sym fault ∙ is ∙ ap (passes_in c) at ∙ v.has_passes)
+no_list_fault c found o r f ps has is at fault = differ (sym fault ∙ is ∙ ap (passes_in c) at ∙ has)
   where
-    differ : (ps : List Pass) → ◌≡◌ {A = Result (List Pass) ListFault} (Err f) (Ok ps) → ⊥
-    differ ps e = absurd cc
+    differ : ◌≡◌ {A = Result (List Pass) ListFault} (Err f) (Ok ps) → ⊥
+    differ e = absurd cc
 
 -- ---- the values of the call are those of the words
 
@@ -183,16 +183,16 @@ IsFound c found v =
     × (first_value found (codes "script") ≡ Some v.script.name.now)
     × (first_value found (codes "model") ≡ Some v.model.name.now)
 
-same_list : (ps qs : List Pass) → ◌≡◌ {A = Result (List Pass) ListFault} (Ok ps) (Ok qs) → ps ≡ qs
+pub same_list : (ps qs : List Pass) → ◌≡◌ {A = Result (List Pass) ListFault} (Ok ps) (Ok qs) → ps ≡ qs
 same_list ps qs e = cc
 
-same_number : (i j : ℕ) → ◌≡◌ {A = Option ℕ} (Some i) (Some j) → i ≡ j
+pub same_number : (i j : ℕ) → ◌≡◌ {A = Option ℕ} (Some i) (Some j) → i ≡ j
 same_number i j e = cc
 
 same_word : (w v : Word) → ◌≡◌ {A = Option Word} (Some w) (Some v) → w ≡ v
 same_word w v e = cc
 
-same_file : (f : Numbered) (number : ℕ) (word : Word) (o : Option Word) → f.number ≡ number → o ≡ Some f.word → o ≡ Some word → f ≡ record { number = number; word = word }
+pub same_file : (f : Numbered) (number : ℕ) (word : Word) (o : Option Word) → f.number ≡ number → o ≡ Some f.word → o ≡ Some word → f ≡ record { number = number; word = word }
 same_file f number word o placed is found = ap₂ (λ i w. record { number = i; word = w }) placed (same_word f.word word (sym is ∙ found))
 
 given_in : (c d : Command) (found : Found) (ps : List Pass) (k : ℕ) (s m : Numbered) (v : Carried) → c ≡ d → (s.number ≡ v.script.word) × (m.number ≡ v.model.word) → CarryingIn d ps k s m found → IsFound c found v

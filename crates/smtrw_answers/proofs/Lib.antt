@@ -3,6 +3,7 @@ mod BlastedPromise
 mod CarriedModels
 mod CarriedTexts
 pub mod CarriedWords
+pub mod CheckedWords
 pub mod ClapCalls
 pub mod ClapCommands
 pub mod ClapMatches

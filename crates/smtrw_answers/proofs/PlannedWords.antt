@@ -7,37 +7,11 @@ use Rattle.smtrw_answers.specs.declared.status.Usage.{Usage as UsageFault}
 use Rattle.smtrw_answers.specs.declared.grammar.Plan.{Plan}
 use Rattle.smtrw_answers.specs.declared.grammar.Plan.TheVariants as plan
 use Rattle.smtrw_answers.specs.Words.{Word, Asked, rewrite, translate, extend, blast, unblast, dimacs, answer, stats, demo}
-use Rattle.smtrw_answers.specs.Asking.{EndFits, IsBlasting, GivesCounting, GivesDemonstrating, number_of}
+use Rattle.smtrw_answers.specs.Asking.{EndFits, GivesCounting, GivesDemonstrating, number_of}
 
 pub planned_ok : (p : Plan) (r : Result Asked UsageFault) → EndFits (Ok p) r → IsOk r
 planned_ok p (Ok a) is = refl
 planned_ok p (Err u) is = absurd is
-
--- ---- a check over bits or as clauses
-
-pub blasting_planned : (r : Result Asked UsageFault) (script : ℕ) → EndFits (Ok (plan.Blast script)) r → IsBlasting r
-blasting_planned (Ok (rewrite ps l f)) script is = absurd cc
-blasting_planned (Ok (translate ps k s m)) script is = absurd cc
-blasting_planned (Ok (extend ps k s m)) script is = absurd cc
-blasting_planned (Ok (blast ps k f)) script is = tt
-blasting_planned (Ok (unblast ps k s m)) script is = absurd cc
-blasting_planned (Ok (dimacs ps k f)) script is = absurd cc
-blasting_planned (Ok (answer ps k s m)) script is = absurd cc
-blasting_planned (Ok (stats f)) script is = absurd cc
-blasting_planned (Ok (demo s n)) script is = absurd cc
-blasting_planned (Err u) script is = absurd is
-
-pub linking_planned : (r : Result Asked UsageFault) (script : ℕ) → EndFits (Ok (plan.Dimacs script)) r → IsBlasting r
-linking_planned (Ok (rewrite ps l f)) script is = absurd cc
-linking_planned (Ok (translate ps k s m)) script is = absurd cc
-linking_planned (Ok (extend ps k s m)) script is = absurd cc
-linking_planned (Ok (blast ps k f)) script is = absurd cc
-linking_planned (Ok (unblast ps k s m)) script is = absurd cc
-linking_planned (Ok (dimacs ps k f)) script is = tt
-linking_planned (Ok (answer ps k s m)) script is = absurd cc
-linking_planned (Ok (stats f)) script is = absurd cc
-linking_planned (Ok (demo s n)) script is = absurd cc
-linking_planned (Err u) script is = absurd is
 
 -- ---- statistics
 

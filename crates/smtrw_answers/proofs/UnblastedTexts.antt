@@ -13,6 +13,7 @@ use Rattle.pass_laws.specs.Laws.{IsReady}
 use Rattle.pass_laws.specs.Passed.{refused_assertion}
 use Rattle.bit_scripts.specs.Laws.{IsBlasted, ScriptsAreBlasted}
 use Rattle.bit_scripts.specs.Scripts.{new_bits, refused_root}
+use Rattle.smtrw_answers.specs.Accepted.{nothing_mapped, accepted_text}
 use Rattle.smtrw_answers.specs.declared.status.Status.{Status}
 use Rattle.smtrw_answers.specs.Blasting.{names_behind, blasted_commands, signature_blasted, lifted, unblasted, unblasted_text}
 use Rattle.smtrw_answers.specs.Carrying.{signature_before}
@@ -20,7 +21,7 @@ use Rattle.smtrw_answers.specs.Endings.{or_later, script_end, check_end, passes_
 use Rattle.smtrw_answers.specs.Laws.{UnblastedTextsReadBack}
 use Rattle.smtrw_answers.specs.Outputs.{commands, names_left, rewritten_commands}
 use Rattle.smtrw_answers.proofs.CarriedModels.{IsCarriable, carried_back}
-use Rattle.smtrw_answers.proofs.CarriedTexts.{none_met, nothing_mapped, accepted, within_stages, read_text, TextLaws, read_carriable, printed_back, ready, ready_rewritten, printed_as}
+use Rattle.smtrw_answers.proofs.CarriedTexts.{none_met, within_stages, read_text, TextLaws, read_carriable, printed_back, ready, ready_rewritten, printed_as}
 use Rattle.smtrw_answers.proofs.ReadableLifts.{lifted_readable}
 use Rattle.smtrw_answers.proofs.SameChecks.{checks_passed}
 
@@ -50,7 +51,7 @@ ended_well b ps k g m stages o ends read =
     let blasting = none_met (passes_end b ps) (bits_end b ps k) third.0 in
     let fourth = read_text g (model_end stages o) third.1 in
     record {
-      whole = accepted b first.0;
+      whole = accepted_text b first.0;
       few = check_there (checks (commands b)) k _ second.0;
       taken = nothing_mapped _ (refused_assertion ps (commands b) (names_left b)) blasting.0;
       bits = nothing_mapped _ (refused_root (rewritten_commands b ps) k) blasting.1;

@@ -8,6 +8,7 @@ use Rattle.smtrw_answers.specs.declared.words.Asked.TheVariants.{Rewrite, Transl
 use Rattle.smtrw_answers.specs.declared.words.Source.{Source}
 use Rattle.smtrw_answers.specs.declared.words.Source.TheVariants.{File as FromFile, Drawn}
 use Rattle.smtrw_answers.specs.declared.words.Carried.{Carried}
+use Rattle.smtrw_answers.specs.declared.words.Checked.{Checked}
 use Rattle.smtrw_answers.specs.declared.words.WordsFault.{WordsFault}
 use Rattle.smtrw_answers.specs.declared.words.WordsFault.TheVariants.{Usage, Memory}
 use Rattle.smtrw_answers.specs.Words.{Numbered, Source as ScriptSource, of_file, drawn, is_rules, greatest_size, Asked as AskedFor, rewrite, translate, extend, blast, unblast, dimacs, answer, stats, demo}
@@ -19,12 +20,12 @@ numbered f = record { number = f.word; word = f.name.now }
 -- what the code says is asked for, in the definition's words
 abbrev pub asked_seen : Asked → AskedFor
 asked_seen (Rewrite ps l f) = rewrite ps l (numbered f)
-asked_seen (Translate ps k s m) = translate ps k (numbered s) (numbered m)
-asked_seen (Extend ps k s m) = extend ps k (numbered s) (numbered m)
-asked_seen (Blast ps k f) = blast ps k (numbered f)
-asked_seen (Unblast ps k s m) = unblast ps k (numbered s) (numbered m)
-asked_seen (Dimacs ps k f) = dimacs ps k (numbered f)
-asked_seen (Answer ps k s a) = answer ps k (numbered s) (numbered a)
+asked_seen (Translate c) = translate c.passes c.check (numbered c.script) (numbered c.model)
+asked_seen (Extend c) = extend c.passes c.check (numbered c.script) (numbered c.model)
+asked_seen (Blast c) = blast c.passes c.check (numbered c.script)
+asked_seen (Unblast c) = unblast c.passes c.check (numbered c.script) (numbered c.model)
+asked_seen (Dimacs c) = dimacs c.passes c.check (numbered c.script)
+asked_seen (Answer c) = answer c.passes c.check (numbered c.script) (numbered c.model)
 asked_seen (Stats f) = stats (numbered f)
 asked_seen (Demo seed size) = demo seed size
 
@@ -60,6 +61,27 @@ abbrev pub GivesCarried : Result AskedFor UsageFault → Result Carried WordsFau
 GivesCarried (Ok a) (Ok c) = IsCarried a c
 GivesCarried (Ok a) (Err e) = e ≡ Memory
 GivesCarried (Err u) r = ⊥
+
+-- ---- what `blast` and `dimacs` have in common
+
+-- the number of the word of the script
+abbrev pub ChecksFile : ℕ → Result AskedFor UsageFault → Type 0
+ChecksFile script (Ok (blast ps k f)) = f.number ≡ script
+ChecksFile script (Ok (dimacs ps k f)) = f.number ≡ script
+ChecksFile script _ = ⊥
+
+abbrev pub IsChecked : AskedFor → Checked → Type 0
+IsChecked (blast ps k f) c = (ps ≡ c.passes) × (k ≡ c.check) × (f ≡ numbered c.script)
+IsChecked (dimacs ps k f) c = (ps ≡ c.passes) × (k ≡ c.check) × (f ≡ numbered c.script)
+IsChecked _ c = ⊥
+
+-- exactly the values of the words, or want of memory
+abbrev pub GivesChecked : Result AskedFor UsageFault → Result Checked WordsFault → Type 0
+GivesChecked (Ok a) (Ok c) = IsChecked a c
+GivesChecked (Ok a) (Err e) = e ≡ Memory
+GivesChecked (Err u) r = ⊥
+
+-- ---- ranges
 
 -- checks are counted from 1, no stored rules are among the passes of what is made of bits or clauses, and a demonstration has at least
 -- one step and at most so many

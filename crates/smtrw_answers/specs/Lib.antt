@@ -7,6 +7,7 @@ pub mod Answers
 pub mod Outputs
 pub mod Carrying
 pub mod Endings
+pub mod Accepted
 pub mod Faults
 pub mod Headline
 pub mod Laws

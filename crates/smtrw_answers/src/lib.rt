@@ -20,4 +20,4 @@ pub use laws::{
 };
 pub use lines::complain;
 pub use status::{Status, Usage, Why};
-pub use words::{Asked, File, Source, WordsFault, parse_words};
+pub use words::{Asked, Carried, Checked, File, Source, WordsFault, parse_words};

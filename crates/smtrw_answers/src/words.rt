@@ -6,7 +6,7 @@
 ghost use Rattle.std.specs.Prelude.{◌≡◌, map, option_map, string_bytes, Ok};
 ghost use Rattle.smtrw_answers.specs.Words.{asked as asked_for};
 ghost use Rattle.smtrw_answers.specs.Asking.{AsksBy, EndFits, check_in, command_of, layout_in, number_of, passes_in};
-ghost use Rattle.smtrw_answers.specs.Asked.{Answers, CarriesFiles, GivesCarried};
+ghost use Rattle.smtrw_answers.specs.Asked.{Answers, CarriesFiles, ChecksFile, GivesCarried, GivesChecked};
 ghost use Rattle.smtrw_answers.specs.declared.grammar.Plan.TheVariants as a_plan;
 
 use crate::grammar::{
@@ -28,6 +28,23 @@ pub struct File<'a> {
     pub name: &'a str,
 }
 
+/// A check of a script behind passes, counted from 1.
+#[derive(Drop)]
+pub struct Checked<'a> {
+    pub passes: Passes,
+    pub check: u64,
+    pub script: File<'a>,
+}
+
+/// A check of a script behind passes, counted from 1, and the file of what is carried: a model, or a solver's answer.
+#[derive(Drop)]
+pub struct Carried<'a> {
+    pub passes: Passes,
+    pub check: u64,
+    pub script: File<'a>,
+    pub model: File<'a>,
+}
+
 /// What the words ask for.
 #[derive(Drop)]
 pub enum Asked<'a> {
@@ -40,50 +57,22 @@ pub enum Asked<'a> {
     },
     /// `translate`: the model of a check of the script behind the passes, as one of the script. Without the options there are
     /// no passes, and the check is the first.
-    Translate {
-        passes: Passes,
-        check: u64,
-        script: File<'a>,
-        model: File<'a>,
-    },
+    Translate(Carried<'a>),
     /// `extend`: the model of a check of the script, as one of the script behind the passes. Without the options there are no
     /// passes, and the check is the first.
-    Extend {
-        passes: Passes,
-        check: u64,
-        script: File<'a>,
-        model: File<'a>,
-    },
+    Extend(Carried<'a>),
     /// `blast`: a check of the script behind the passes as a script of its own, over truth values alone. Without the options
     /// there are no passes, and the check is the first. Stored rules may not stand among the passes.
-    Blast {
-        passes: Passes,
-        check: u64,
-        script: File<'a>,
-    },
+    Blast(Checked<'a>),
     /// `unblast`: the model of what `blast` makes of a check of the script, as one of the script. Without the options there are
     /// no passes, and the check is the first. Stored rules may not stand among the passes.
-    Unblast {
-        passes: Passes,
-        check: u64,
-        script: File<'a>,
-        model: File<'a>,
-    },
+    Unblast(Carried<'a>),
     /// `dimacs`: the clauses of a check of the script behind the passes, as DIMACS text. Without the options there are no
     /// passes, and the check is the first. Stored rules may not stand among the passes.
-    Dimacs {
-        passes: Passes,
-        check: u64,
-        script: File<'a>,
-    },
+    Dimacs(Checked<'a>),
     /// `answer`: a solver's answer to what `dimacs` makes of a check of the script, as a model of the script. Without the
     /// options there are no passes, and the check is the first. Stored rules may not stand among the passes.
-    Answer {
-        passes: Passes,
-        check: u64,
-        script: File<'a>,
-        answer: File<'a>,
-    },
+    Answer(Carried<'a>),
     /// `stats`: the numbers of a script.
     Stats {
         file: File<'a>,
@@ -114,12 +103,12 @@ impl<'a> Asked<'a> {
     {
         match self {
             Asked::Rewrite { file, .. } => Source::File(*file),
-            Asked::Translate { script, .. } => Source::File(*script),
-            Asked::Extend { script, .. } => Source::File(*script),
-            Asked::Blast { script, .. } => Source::File(*script),
-            Asked::Unblast { script, .. } => Source::File(*script),
-            Asked::Dimacs { script, .. } => Source::File(*script),
-            Asked::Answer { script, .. } => Source::File(*script),
+            Asked::Translate(carried) => Source::File(carried.script),
+            Asked::Extend(carried) => Source::File(carried.script),
+            Asked::Blast(checked) => Source::File(checked.script),
+            Asked::Unblast(carried) => Source::File(carried.script),
+            Asked::Dimacs(checked) => Source::File(checked.script),
+            Asked::Answer(carried) => Source::File(carried.script),
             Asked::Stats { file } => Source::File(*file),
             Asked::Demo { seed, size } => Source::Drawn {
                 seed: *seed,
@@ -127,15 +116,6 @@ impl<'a> Asked<'a> {
             },
         }
     }
-}
-
-/// What the words of `translate`, `extend`, `unblast` and `answer` have in common; an answer stands here as the model.
-#[derive(Drop)]
-struct Carried<'a> {
-    passes: Passes,
-    check: u64,
-    script: File<'a>,
-    model: File<'a>,
 }
 
 /// Why the words ask for nothing.
@@ -206,12 +186,7 @@ fn translate<'a>(
     ensures { Answers (asked_for (map string_bytes words.entry.now)) result }
 {
     let carried = carry_values(alloc, Name::Translate, words, script, model)?;
-    Ok(Asked::Translate {
-        passes: carried.passes,
-        check: carried.check,
-        script: carried.script,
-        model: carried.model,
-    })
+    Ok(Asked::Translate(carried))
 }
 
 fn extend<'a>(
@@ -224,12 +199,7 @@ fn extend<'a>(
     ensures { Answers (asked_for (map string_bytes words.entry.now)) result }
 {
     let carried = carry_values(alloc, Name::Extend, words, script, model)?;
-    Ok(Asked::Extend {
-        passes: carried.passes,
-        check: carried.check,
-        script: carried.script,
-        model: carried.model,
-    })
+    Ok(Asked::Extend(carried))
 }
 
 fn unblast<'a>(
@@ -242,12 +212,7 @@ fn unblast<'a>(
     ensures { Answers (asked_for (map string_bytes words.entry.now)) result }
 {
     let carried = carry_values(alloc, Name::Unblast, words, script, model)?;
-    Ok(Asked::Unblast {
-        passes: carried.passes,
-        check: carried.check,
-        script: carried.script,
-        model: carried.model,
-    })
+    Ok(Asked::Unblast(carried))
 }
 
 fn answer<'a>(
@@ -260,12 +225,7 @@ fn answer<'a>(
     ensures { Answers (asked_for (map string_bytes words.entry.now)) result }
 {
     let carried = carry_values(alloc, Name::Answer, words, script, answer)?;
-    Ok(Asked::Answer {
-        passes: carried.passes,
-        check: carried.check,
-        script: carried.script,
-        answer: carried.model,
-    })
+    Ok(Asked::Answer(carried))
 }
 
 /// The values of the words of `translate`, `extend`, `unblast` or `answer`, whose script and model are the words of these numbers.
@@ -309,37 +269,37 @@ fn carry_values<'a>(
     })
 }
 
-fn blast<'a>(alloc: Global, words: &'a [String], word: u32) -> Result<Asked<'a>, WordsFault>
-    requires { EndFits (Ok (a_plan.Blast word)) (asked_for (map string_bytes words.now)) }
+fn blast<'a>(alloc: Global, words: &'a [String], script: u32) -> Result<Asked<'a>, WordsFault>
+    requires { EndFits (Ok (a_plan.Blast script)) (asked_for (map string_bytes words.now)) }
     ensures { Answers (asked_for (map string_bytes words.entry.now)) result }
 {
-    let Ok(matches) = blast_matches(alloc, "blast", words) else {
-        return Err(WordsFault::Memory);
-    };
-    let Ok(passes) = passes_of(Name::Blast, matches.get_str("passes")) else {
-        unreachable!()
-    };
-    let Some(check) = check_of(matches.get_str("check")) else {
-        unreachable!()
-    };
-    let Some(name) = matches.get_str("script") else {
-        unreachable!()
-    };
-    Ok(Asked::Blast {
-        passes,
-        check,
-        script: File { word, name },
-    })
+    let checked = check_values(alloc, Name::Blast, words, script)?;
+    Ok(Asked::Blast(checked))
 }
 
-fn dimacs<'a>(alloc: Global, words: &'a [String], word: u32) -> Result<Asked<'a>, WordsFault>
-    requires { EndFits (Ok (a_plan.Dimacs word)) (asked_for (map string_bytes words.now)) }
+fn dimacs<'a>(alloc: Global, words: &'a [String], script: u32) -> Result<Asked<'a>, WordsFault>
+    requires { EndFits (Ok (a_plan.Dimacs script)) (asked_for (map string_bytes words.now)) }
     ensures { Answers (asked_for (map string_bytes words.entry.now)) result }
 {
-    let Ok(matches) = blast_matches(alloc, "dimacs", words) else {
+    let checked = check_values(alloc, Name::Dimacs, words, script)?;
+    Ok(Asked::Dimacs(checked))
+}
+
+/// The values of the words of `blast` or `dimacs`, whose script is the word of this number.
+fn check_values<'a>(
+    alloc: Global,
+    command: Name,
+    words: &'a [String],
+    word: u32,
+) -> Result<Checked<'a>, WordsFault>
+    requires file { ChecksFile word (asked_for (map string_bytes words.now)) }
+    requires named { AsksBy (command_of command) (asked_for (map string_bytes words.now)) }
+    ensures { GivesChecked (asked_for (map string_bytes words.entry.now)) result }
+{
+    let Ok(matches) = blast_matches(alloc, command.word(), words) else {
         return Err(WordsFault::Memory);
     };
-    let Ok(passes) = passes_of(Name::Dimacs, matches.get_str("passes")) else {
+    let Ok(passes) = passes_of(command, matches.get_str("passes")) else {
         unreachable!()
     };
     let Some(check) = check_of(matches.get_str("check")) else {
@@ -348,7 +308,7 @@ fn dimacs<'a>(alloc: Global, words: &'a [String], word: u32) -> Result<Asked<'a>
     let Some(name) = matches.get_str("script") else {
         unreachable!()
     };
-    Ok(Asked::Dimacs {
+    Ok(Checked {
         passes,
         check,
         script: File { word, name },

@@ -155,47 +155,19 @@ struct Carry {
 
 fn asks_to_carry(alloc: Global, line: &str, carry: &Carry) -> Result<bool, AllocError> {
     let words = words_of(alloc, line)?;
-    let (command, count, check, script, model) = match parse_words(alloc, words.as_slice()) {
-        Ok(
-            Asked::Translate {
-                passes,
-                check,
-                script,
-                model,
-            },
-        ) => ("translate", passes.len(), check, script, model),
-        Ok(
-            Asked::Extend {
-                passes,
-                check,
-                script,
-                model,
-            },
-        ) => ("extend", passes.len(), check, script, model),
-        Ok(
-            Asked::Unblast {
-                passes,
-                check,
-                script,
-                model,
-            },
-        ) => ("unblast", passes.len(), check, script, model),
-        Ok(
-            Asked::Answer {
-                passes,
-                check,
-                script,
-                answer,
-            },
-        ) => ("answer", passes.len(), check, script, answer),
+    let (command, carried) = match parse_words(alloc, words.as_slice()) {
+        Ok(Asked::Translate(carried)) => ("translate", carried),
+        Ok(Asked::Extend(carried)) => ("extend", carried),
+        Ok(Asked::Unblast(carried)) => ("unblast", carried),
+        Ok(Asked::Answer(carried)) => ("answer", carried),
         _ => return Ok(false),
     };
     Ok(
         command == carry.command
-            && count == carry.passes
-            && check == carry.check
-            && (script.word, script.name) == carry.script
-            && (model.word, model.name) == carry.model,
+            && carried.passes.len() == carry.passes
+            && carried.check == carry.check
+            && (carried.script.word, carried.script.name) == carry.script
+            && (carried.model.word, carried.model.name) == carry.model,
     )
 }
 
@@ -280,28 +252,16 @@ fn asks_to_blast(
     name: &str,
 ) -> Result<bool, AllocError> {
     let words = words_of(alloc, line)?;
-    let (command, passes, found, script) = match parse_words(alloc, words.as_slice()) {
-        Ok(
-            Asked::Blast {
-                passes,
-                check,
-                script,
-            },
-        ) => ("blast", passes.len(), check, script),
-        Ok(
-            Asked::Dimacs {
-                passes,
-                check,
-                script,
-            },
-        ) => ("dimacs", passes.len(), check, script),
+    let (command, checked) = match parse_words(alloc, words.as_slice()) {
+        Ok(Asked::Blast(checked)) => ("blast", checked),
+        Ok(Asked::Dimacs(checked)) => ("dimacs", checked),
         _ => return Ok(false),
     };
     Ok(
         line.starts_with(command)
-            && passes == count
-            && found == check
-            && (script.word, script.name) == (number, name),
+            && checked.passes.len() == count
+            && checked.check == check
+            && (checked.script.word, checked.script.name) == (number, name),
     )
 }
 

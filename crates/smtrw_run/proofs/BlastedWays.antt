@@ -21,6 +21,7 @@ use Rattle.bit_scripts.specs.Nodes.{IsBlastingOf, IsRefusedBy}
 use Rattle.bit_scripts.specs.Scripts.{refused_root}
 use Rattle.smtrw_answers.specs.declared.status.Status.{Status}
 use Rattle.smtrw_answers.specs.declared.status.Status.TheVariants.{Done, Refused, Usage, ReadFailed, WriteFailed, OutOfMemory, ModelRefused, Beyond128, PassRefused}
+use Rattle.smtrw_answers.specs.Accepted.{accepted_text}
 use Rattle.smtrw_answers.specs.Blasting.{names_behind, blasted_commands}
 use Rattle.smtrw_answers.specs.Endings.{or_later, passes_end, bits_end, blasting_end}
 use Rattle.smtrw_answers.specs.Faults.{status_of_blasting}
@@ -31,7 +32,7 @@ use Rattle.smtrw_run.specs.declared.carrying.Passage.{Passage}
 use Rattle.smtrw_run.specs.declared.carrying.Way.{Way}
 use Rattle.smtrw_run.specs.Blasting.{IsBlastedWay}
 use Rattle.smtrw_run.specs.Carrying.{AreNumbersOf, EndsOnTheWay, IsPassage, IsWay}
-use Rattle.smtrw_run.proofs.Passages.{accepted_text, last, models, of_passed, ready}
+use Rattle.smtrw_run.proofs.Passages.{last, models, of_passed, ready}
 use Rattle.smtrw_run.proofs.Ways.{live_stay, signature_stays}
 
 -- ---- a way stays one as its table grows

@@ -1,6 +1,6 @@
 -- A check behind passes that is taken for clauses, with the way back from answers to it.
 use Rattle.std.proofs.Common.{◌≡◌, ap, subst, sym, ℕ, false, List, Option, Some, None, Result, Ok, Err}
-use Rattle.std.specs.Prelude.{IfErr, IfOk, IsErrAnd, option_map}
+use Rattle.std.specs.Prelude.{IsErrAnd, option_map}
 use Rattle.std.specs.List.{list_any}
 use Rattle.smt_terms.specs.declared.ids.SymId.{SymId}
 use Rattle.smt_terms.specs.Sorts.{Name, Symbol}
@@ -17,6 +17,7 @@ use Rattle.dimacs_link.specs.Checks.{linked_text as linked_check, unlinked_root,
 use Rattle.dimacs_link.specs.Constants.{constants_at, AreConstants}
 use Rattle.smtrw_answers.specs.declared.status.Status.{Status}
 use Rattle.smtrw_answers.specs.declared.status.Status.TheVariants.{Done, Refused, Usage, ReadFailed, WriteFailed, OutOfMemory, ModelRefused, Beyond128, PassRefused}
+use Rattle.smtrw_answers.specs.Accepted.{accepted_text}
 use Rattle.smtrw_answers.specs.Carrying.{signature_behind}
 use Rattle.smtrw_answers.specs.Endings.{or_later, passes_end, clauses_end, linking_end}
 use Rattle.smtrw_answers.specs.Faults.{status_of_linking}
@@ -28,7 +29,7 @@ use Rattle.smtrw_run.specs.declared.carrying.Passage.{Passage}
 use Rattle.smtrw_run.specs.declared.carrying.Way.{Way}
 use Rattle.smtrw_run.specs.Carrying.{EndsOnTheWay, IsPassage}
 use Rattle.smtrw_run.specs.Linking.{IsLinkedWay, IsPassageOfSome, LinksText}
-use Rattle.smtrw_run.proofs.Passages.{accepted_text, last, models, of_passed, ready}
+use Rattle.smtrw_run.proofs.Passages.{last, models, of_passed, ready}
 
 module _ (b : List ℕ) (ps : List Pass) (k : ℕ) (rules : List Name) (p : Passage) (is : IsPassage b ps k rules p) (unruled : list_any is_rules ps ≡ false) where
   abbrev led : List (Command Term)
@@ -79,9 +80,8 @@ module _ (b : List ℕ) (ps : List Pass) (k : ℕ) (rules : List Name) (p : Pass
   links_refused f (Err status) refused same = subst (λ (s : Status). EndsOnTheWay b k (linking_end b ps k) s) (sym same) (clauses_refused f refused)
   links_refused f (Ok w) refused same = absurd same
 
-  pub links_written : LinkingKeepsItsPromise → unlinked_root (commands_of p.way.table p.script.commands) k ≡ None → (r : Result (List ℕ) Status) → IfOk r (λ w. w ≡ linked_check (commands_of p.way.table p.script.commands) k) → IfErr r (λ s. s ≡ OutOfMemory) → LinksText b ps k r
-  links_written promised linked (Ok w) is_text wanting = (linking_fine linked, linking_promised linked promised w is_text)
-  links_written promised linked (Err status) is_text wanting = subst (λ (s : Status). EndsOnTheWay b k (linking_end b ps k) s) (sym wanting) tt
+  pub links_written : LinkingKeepsItsPromise → unlinked_root (commands_of p.way.table p.script.commands) k ≡ None → (w : List ℕ) → w ≡ linked_check (commands_of p.way.table p.script.commands) k → LinksText b ps k (Ok w)
+  links_written promised linked w is_text = (linking_fine linked, linking_promised linked promised w is_text)
 
 -- ---- passages and constants
 

@@ -1,22 +1,19 @@
 -- A script behind passes without stored rules: it has the one list of commands that the definitions give, which carries models.
-use Rattle.std.proofs.Common.{◌≡◌, refl, subst, ℕ, ◌≤◌, Bool, true, false, cond, List, [], ◌∷◌, length, Option, Some, None, arith}
-use Rattle.std.specs.Prelude.{nat_lt, option_map, count_by}
+use Rattle.std.proofs.Common.{◌≡◌, subst, ℕ, ◌≤◌, false, List, [], ◌∷◌, arith}
+use Rattle.std.specs.Prelude.{count_by}
 use Rattle.std.specs.List.{list_any}
 use Rattle.smt_terms.specs.Fresh.{Supply}
 use Rattle.smt_terms.specs.Sorts.{Name}
 use Rattle.smt_terms.specs.Term.{Term}
 use Rattle.script_read.specs.CommandLists.{commands_of, is_check as is_node_check}
 use Rattle.script_read.specs.Commands.{Command, checks}
-use Rattle.script_read.specs.Script.{fault}
 use Rattle.pass_laws.specs.declared.names.Pass.{Pass}
 use Rattle.pass_laws.specs.declared.names.Pass.TheVariants.{Rules}
 use Rattle.pass_laws.specs.Laws.{CarriesModels, IsReady}
 use Rattle.pass_laws.specs.Led.{LeadsTo}
 use Rattle.pass_laws.specs.Passed.{apply_pass, passed}
-use Rattle.smtrw_answers.specs.declared.status.Status.TheVariants.{Refused}
 use Rattle.smtrw_answers.specs.Blasting.{names_behind}
 use Rattle.smtrw_answers.specs.Carrying.{translated, extended}
-use Rattle.smtrw_answers.specs.Endings.{longest_text, refusal_of, script_end, too_long}
 use Rattle.smtrw_answers.specs.Outputs.{commands, names_left, rewritten_commands}
 use Rattle.smtrw_answers.specs.Words.{is_rules}
 use Rattle.smtrw_run.specs.declared.carrying.Passage.{Passage}
@@ -30,19 +27,6 @@ led_alone : (ps : List Pass) (cs : List (Command Term)) (s : Supply) (rules : Li
 led_alone [] cs s rules ds r unruled led = led
 led_alone (Rules ∷ ps) cs s rules ds r unruled led = absurd cc
 led_alone (p ∷ ps) cs s rules ds r unruled led = led_alone ps (apply_pass p cs s).0 (apply_pass p cs s).1 rules ds r unruled led
-
--- ---- an accepted text
-
-nothing_mapped : {A B : Type 0} (f : A → B) (o : Option A) → option_map f o ≡ None → o ≡ None
-nothing_mapped f None is = refl
-nothing_mapped f (Some a) is = absurd cc
-
-nothing_first : {A : Type 0} (b : Bool) (a : A) (o : Option A) → cond b (Some a) o ≡ None → o ≡ None
-nothing_first true a o is = absurd cc
-nothing_first false a o is = is
-
-pub accepted_text : (b : List ℕ) → script_end b ≡ None → fault b ≡ None
-accepted_text b is = nothing_mapped refusal_of (fault b) (nothing_first (nat_lt longest_text (length b)) (Refused too_long) (option_map refusal_of (fault b)) is)
 
 -- ---- what the passes led to
 

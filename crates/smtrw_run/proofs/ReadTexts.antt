@@ -59,16 +59,16 @@ IsSoundFor (drawn seed size) b = script_end b ≡ None
 
 end_refused : (a : AskedSeen) (b g : List ℕ) → IsSoundFor (source_of (asked_seen a)) b → (status : Status) → script_end b ≡ Some status → end_of (asked_seen a) b g ≡ Some status
 end_refused (Rewrite ps l f) b g sound status is = ap (λ (o : Option Status). or_later o (passes_end b ps)) is
-end_refused (Translate ps k s m) b g sound status is =
-    ap (λ (o : Option Status). or_later o (or_later (check_end b k) (or_later (passes_end b ps) (text_end g (model_end (back_stages ps (commands b) (names_left b) k) (model_of g (signature_behind b ps k))))))) is
-end_refused (Extend ps k s m) b g sound status is =
-    ap (λ (o : Option Status). or_later o (or_later (check_end b k) (or_later (passes_end b ps) (text_end g (model_end (forth_stages ps (commands b) (names_left b) k) (model_of g (signature_before b k))))))) is
-end_refused (Blast ps k f) b g sound status is = ap (λ (o : Option Status). or_later o (or_later (check_end b k) (blasting_end b ps k))) is
-end_refused (Unblast ps k s m) b g sound status is =
-    ap (λ (o : Option Status). or_later o (or_later (check_end b k) (or_later (blasting_end b ps k) (text_end g (model_end (unblast_stages b ps k) (model_of g (signature_blasted b ps k))))))) is
-end_refused (Dimacs ps k f) b g sound status is = ap (λ (o : Option Status). or_later o (or_later (check_end b k) (linking_end b ps k))) is
-end_refused (Answer ps k s a) b g sound status is =
-    ap (λ (o : Option Status). or_later o (or_later (check_end b k) (or_later (linking_end b ps k) (text_end g (reading_end b ps k g (reading (length (linked_constants b ps k)) g)))))) is
+end_refused (Translate c) b g sound status is =
+    ap (λ (o : Option Status). or_later o (or_later (check_end b c.check) (or_later (passes_end b c.passes) (text_end g (model_end (back_stages c.passes (commands b) (names_left b) c.check) (model_of g (signature_behind b c.passes c.check))))))) is
+end_refused (Extend c) b g sound status is =
+    ap (λ (o : Option Status). or_later o (or_later (check_end b c.check) (or_later (passes_end b c.passes) (text_end g (model_end (forth_stages c.passes (commands b) (names_left b) c.check) (model_of g (signature_before b c.check))))))) is
+end_refused (Blast c) b g sound status is = ap (λ (o : Option Status). or_later o (or_later (check_end b c.check) (blasting_end b c.passes c.check))) is
+end_refused (Unblast c) b g sound status is =
+    ap (λ (o : Option Status). or_later o (or_later (check_end b c.check) (or_later (blasting_end b c.passes c.check) (text_end g (model_end (unblast_stages b c.passes c.check) (model_of g (signature_blasted b c.passes c.check))))))) is
+end_refused (Dimacs c) b g sound status is = ap (λ (o : Option Status). or_later o (or_later (check_end b c.check) (linking_end b c.passes c.check))) is
+end_refused (Answer c) b g sound status is =
+    ap (λ (o : Option Status). or_later o (or_later (check_end b c.check) (or_later (linking_end b c.passes c.check) (text_end g (reading_end b c.passes c.check g (reading (length (linked_constants b c.passes c.check)) g)))))) is
 end_refused (Stats f) b g sound status is = is
 end_refused (Demo seed size) b g sound status is = absurd cc
 

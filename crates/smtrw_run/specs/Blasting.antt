@@ -6,19 +6,19 @@ use Rattle.bit_scripts.specs.Bits.{AreBitsOf}
 use Rattle.bit_scripts.specs.Laws.{IsBlasted}
 use Rattle.bit_scripts.specs.Nodes.{IsBlastingOf}
 use Rattle.bit_scripts.specs.Scripts.{new_bits}
+use Rattle.smtrw_answers.specs.declared.words.Carried.{Carried}
 use Rattle.smtrw_answers.specs.Asked.{numbered}
 use Rattle.smtrw_answers.specs.Blasting.{names_behind, blasted_commands, blasted_text, signature_blasted, IsBlasting}
 use Rattle.smtrw_answers.specs.Carrying.{signature_behind}
 use Rattle.smtrw_answers.specs.Endings.{blasting_end}
 use Rattle.smtrw_answers.specs.Outputs.{rewritten_commands}
-use Rattle.smtrw_answers.specs.Words.{Numbered, Asked, unblast}
+use Rattle.smtrw_answers.specs.Words.{Asked, unblast}
 use Rattle.smtrw_run.specs.declared.blasting.BlastedWay.{BlastedWay}
-use Rattle.smtrw_run.specs.declared.carrying.Carriage.{Carriage}
 use Rattle.smtrw_run.specs.Carrying.{IsWay}
 
--- what is asked for, beside the word that names the script
-abbrev pub unblasting : Numbered → Carriage → Asked
-unblasting script c = unblast c.passes.now c.check script (numbered c.model)
+-- what is asked for
+abbrev pub unblasting : Carried → Asked
+unblasting c = unblast c.passes c.check (numbered c.script) (numbered c.model)
 
 -- nothing in the script b ends the run before the model's text; the way leads over the passes from its commands, and the script over
 -- truth values takes the place of its check k behind them

@@ -23,23 +23,23 @@ use Rattle.passes.specs.Plans.{IsPlanOf, IsPlanOver}
 use Rattle.passes.specs.Removing.{IsPlanKept}
 use Rattle.smtrw_answers.specs.declared.status.Status.{Status}
 use Rattle.smtrw_answers.specs.declared.status.Status.TheVariants.{Refused, Usage, ReadFailed, OutOfMemory, ModelRefused, PassRefused}
+use Rattle.smtrw_answers.specs.declared.words.Carried.{Carried}
 use Rattle.smtrw_answers.specs.Asked.{numbered}
 use Rattle.smtrw_answers.specs.Endings.{longest_text, script_end, check_end, passes_end, model_end, text_end}
 use Rattle.smtrw_answers.specs.Outputs.{commands, names_left}
 use Rattle.smtrw_answers.specs.Words.{Word, Numbered, Asked, translate, extend}
 use Rattle.smtrw_run.specs.declared.carrying.Begun.{Begun}
-use Rattle.smtrw_run.specs.declared.carrying.Carriage.{Carriage}
 use Rattle.smtrw_run.specs.declared.carrying.Passage.{Passage}
 use Rattle.smtrw_run.specs.declared.carrying.Way.{Way}
 use Rattle.smtrw_run.specs.Run.{IsMissing, RoseFor}
 
--- ---- what is asked for, beside the word that names the script
+-- ---- what is asked for
 
-abbrev pub translation : Numbered → Carriage → Asked
-translation script c = translate c.passes.now c.check script (numbered c.model)
+abbrev pub translation : Carried → Asked
+translation c = translate c.passes c.check (numbered c.script) (numbered c.model)
 
-abbrev pub extension : Numbered → Carriage → Asked
-extension script c = extend c.passes.now c.check script (numbered c.model)
+abbrev pub extension : Carried → Asked
+extension c = extend c.passes c.check (numbered c.script) (numbered c.model)
 
 -- ---- the script and the passes
 

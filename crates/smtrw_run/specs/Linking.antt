@@ -14,21 +14,21 @@ use Rattle.dimacs_link.specs.Checks.{IsLinked}
 use Rattle.dimacs_link.specs.Constants.{constants_at, AreConstants}
 use Rattle.smtrw_answers.specs.declared.status.Status.{Status}
 use Rattle.smtrw_answers.specs.declared.status.Status.TheVariants.{ReadFailed, OutOfMemory, ModelRefused, Beyond128, PassRefused}
+use Rattle.smtrw_answers.specs.declared.words.Carried.{Carried}
 use Rattle.smtrw_answers.specs.Asked.{numbered}
 use Rattle.smtrw_answers.specs.Carrying.{signature_behind}
 use Rattle.smtrw_answers.specs.Endings.{linking_end, longest_text, stages_end, text_end}
 use Rattle.smtrw_answers.specs.Linking.{linked_constants, linked_model, answer_lines, IsLinking}
 use Rattle.smtrw_answers.specs.Outputs.{commands, names_left, rewritten_commands}
 use Rattle.smtrw_answers.specs.Words.{Word, Numbered, is_rules, Asked, answer}
-use Rattle.smtrw_run.specs.declared.carrying.Carriage.{Carriage}
 use Rattle.smtrw_run.specs.declared.carrying.Way.{Way}
 use Rattle.smtrw_run.specs.declared.carrying.Passage.{Passage}
 use Rattle.smtrw_run.specs.Carrying.{EndsOnTheWay, IsPassage, IsWay}
 use Rattle.smtrw_run.specs.Run.{RoseFor}
 
--- what is asked for, beside the word that names the script
-abbrev pub answering : Numbered → Carriage → Asked
-answering script c = answer c.passes.now c.check script (numbered c.model)
+-- what is asked for
+abbrev pub answering : Carried → Asked
+answering c = answer c.passes c.check (numbered c.script) (numbered c.model)
 
 -- ---- the clauses
 

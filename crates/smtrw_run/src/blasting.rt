@@ -12,7 +12,7 @@ ghost use Rattle.smtrw_run.specs.Blasting.{IsBlastedWay, IsBlastedWayOfSome, unb
 ghost use Rattle.smtrw_run.specs.Carrying.{EndsOnTheWay};
 ghost use Rattle.smtrw_run.specs.Prepared.{EndsBefore, IsPrepared, texts_beside};
 
-use crate::carrying::{Carriage, Way, model_in_file, passage_over, printed};
+use crate::carrying::{Way, model_in_file, passage_over, printed};
 use bit_scripts::laws::{blasted_bits_are_live, scripts_are_blasted};
 use bit_scripts::{Blasting, blast_check, lift};
 use model_texts::laws::printable_signatures_are_proper;
@@ -22,7 +22,7 @@ use rule_book::RuleBook;
 use smt_io::{Inputs, Pieces};
 use smt_lex::Forest;
 use smt_print::{Layout, script_into};
-use smtrw_answers::{Status, blasting_keeps_its_promise};
+use smtrw_answers::{Carried, Status, blasting_keeps_its_promise};
 use std::alloc::Global;
 use std::mem::ManuallyDrop;
 
@@ -59,18 +59,18 @@ pub fn blasted(
 pub fn unblasted<I: Inputs>(
     alloc: Global,
     forest: &Forest,
-    asked: &Carriage,
+    asked: &Carried,
     inputs: &mut I,
     book: &RuleBook,
 ) -> Result<Pieces, Status>
     requires read { IsRead forest.now }
     requires short { length forest.now.bytes ≤ longest_text }
     requires first { 1 ≤ asked.now.check }
-    requires rules { list_any is_rules asked.now.passes.now ≡ false }
-    ensures before { (script : Numbered) → IfErr result (EndsBefore (texts_beside forest.now.bytes (I.text inputs.old) (unblasting script asked.now)) (I.faults inputs.old) (I.faults inputs.new) (unblasting script asked.now)) }
-    ensures text { (script : Numbered) (rules : List Name) → IfOk result (IsPrepared rules (texts_beside forest.now.bytes (I.text inputs.old) (unblasting script asked.now)) (unblasting script asked.now)) }
+    requires rules { list_any is_rules asked.now.passes ≡ false }
+    ensures before { IfErr result (EndsBefore (texts_beside forest.now.bytes (I.text inputs.old) (unblasting asked.now)) (I.faults inputs.old) (I.faults inputs.new) (unblasting asked.now)) }
+    ensures text { (rules : List Name) → IfOk result (IsPrepared rules (texts_beside forest.now.bytes (I.text inputs.old) (unblasting asked.now)) (unblasting asked.now)) }
 {
-    let blasted = blasted_way(alloc, forest, asked.passes, asked.check, book)?;
+    let blasted = blasted_way(alloc, forest, &asked.passes, asked.check, book)?;
     // Left to the end of the program, which gives back all memory at once.
     let blasted = ManuallyDrop::new(blasted);
     lifted_back(alloc, &blasted, asked, inputs)
@@ -80,14 +80,14 @@ pub fn unblasted<I: Inputs>(
 fn lifted_back<I: Inputs>(
     alloc: Global,
     blasted: &BlastedWay,
-    asked: &Carriage,
+    asked: &Carried,
     inputs: &mut I,
 ) -> Result<Pieces, Status>
-    requires { IsBlastedWayOfSome asked.now.passes.now asked.now.check blasted.now }
-    ensures before { (b : List ℕ) (script : Numbered) → IsBlastedWay b asked.now.passes.now asked.now.check blasted.now
-        → IfErr result (EndsBefore (texts_beside b (I.text inputs.old) (unblasting script asked.now)) (I.faults inputs.old) (I.faults inputs.new) (unblasting script asked.now)) }
-    ensures text { (b : List ℕ) (script : Numbered) (rules : List Name) → IsBlastedWay b asked.now.passes.now asked.now.check blasted.now
-        → IfOk result (IsPrepared rules (texts_beside b (I.text inputs.old) (unblasting script asked.now)) (unblasting script asked.now)) }
+    requires { IsBlastedWayOfSome asked.now.passes asked.now.check blasted.now }
+    ensures before { (b : List ℕ) → IsBlastedWay b asked.now.passes asked.now.check blasted.now
+        → IfErr result (EndsBefore (texts_beside b (I.text inputs.old) (unblasting asked.now)) (I.faults inputs.old) (I.faults inputs.new) (unblasting asked.now)) }
+    ensures text { (b : List ℕ) (rules : List Name) → IsBlastedWay b asked.now.passes asked.now.check blasted.now
+        → IfOk result (IsPrepared rules (texts_beside b (I.text inputs.old) (unblasting asked.now)) (unblasting asked.now)) }
 {
     let table = &blasted.way.table;
     let declared = signature_at(alloc, table, &blasted.blasting.script, 1)?;

@@ -12,7 +12,6 @@ ghost use Rattle.model_texts.specs.ModelLines.{model_lines};
 ghost use Rattle.model_texts.specs.Proper.{IsProper};
 ghost use Rattle.smtrw_answers.specs.declared.status.Why.TheVariants.{NoSuchCheck};
 ghost use Rattle.smtrw_answers.specs.Asked.{numbered};
-ghost use Rattle.smtrw_answers.specs.Words.{Numbered};
 ghost use Rattle.smtrw_answers.specs.Endings.{passes_end};
 ghost use Rattle.smtrw_run.specs.Carrying.{EndsAtFile, EndsAtScript, EndsOnTheWay, HasBegun, IsModelRead, IsPassage, IsWay, IsWayOfSome, ReadsText, extension, translation};
 ghost use Rattle.smtrw_run.specs.Prepared.{EndsBefore, IsPrepared, texts_beside};
@@ -29,7 +28,7 @@ use script_read::{
 };
 use smt_io::{Inputs, Pieces, ReadFault, read_all};
 use smt_lex::{Forest, Until, scan};
-use smtrw_answers::{File, Status, Usage, Why, model_unread};
+use smtrw_answers::{Carried, File, Status, Usage, Why, model_unread};
 use std::alloc::{AllocError, Global};
 use std::mem::ManuallyDrop;
 use term_subst::Fresh;
@@ -42,29 +41,21 @@ pub(crate) const MODEL_TOO_LONG: Status = Status::ModelRefused {
     byte: 67_108_864,
 };
 
-/// What is asked for: the passes, the number of the check, and the model's file.
-#[derive(Clone, Copy)]
-pub struct Carriage<'a> {
-    pub passes: &'a Passes,
-    pub check: u64,
-    pub model: File<'a>,
-}
-
 /// The text of the model of the script that a model of the rewritten script stands for.
 pub fn translated<I: Inputs>(
     alloc: Global,
     forest: &Forest,
-    asked: &Carriage,
+    asked: &Carried,
     inputs: &mut I,
     book: &RuleBook,
 ) -> Result<Pieces, Status>
     requires read { IsRead forest.now }
     requires short { length forest.now.bytes ≤ longest_text }
     requires first { 1 ≤ asked.now.check }
-    ensures before { (script : Numbered) → IfErr result (EndsBefore (texts_beside forest.now.bytes (I.text inputs.old) (translation script asked.now)) (I.faults inputs.old) (I.faults inputs.new) (translation script asked.now)) }
-    ensures text { (script : Numbered) → IfOk result (IsPrepared (⟦<RuleBook as Named>⟧.names book.now) (texts_beside forest.now.bytes (I.text inputs.old) (translation script asked.now)) (translation script asked.now)) }
+    ensures before { IfErr result (EndsBefore (texts_beside forest.now.bytes (I.text inputs.old) (translation asked.now)) (I.faults inputs.old) (I.faults inputs.new) (translation asked.now)) }
+    ensures text { IfOk result (IsPrepared (⟦<RuleBook as Named>⟧.names book.now) (texts_beside forest.now.bytes (I.text inputs.old) (translation asked.now)) (translation asked.now)) }
 {
-    let passage = passage_over(alloc, forest, asked.passes, asked.check, book)?;
+    let passage = passage_over(alloc, forest, &asked.passes, asked.check, book)?;
     // Left to the end of the program, which gives back all memory at once.
     let passage = ManuallyDrop::new(passage);
     carried_back(alloc, &passage.way, asked, inputs)
@@ -74,14 +65,14 @@ pub fn translated<I: Inputs>(
 fn carried_back<I: Inputs>(
     alloc: Global,
     way: &Way,
-    asked: &Carriage,
+    asked: &Carried,
     inputs: &mut I,
 ) -> Result<Pieces, Status>
-    requires { IsWayOfSome asked.now.passes.now asked.now.check way.now }
-    ensures before { (b : List ℕ) (script : Numbered) → IsWay b asked.now.passes.now asked.now.check way.now
-        → IfErr result (EndsBefore (texts_beside b (I.text inputs.old) (translation script asked.now)) (I.faults inputs.old) (I.faults inputs.new) (translation script asked.now)) }
-    ensures text { (b : List ℕ) (script : Numbered) (rules : List Name) → IsWay b asked.now.passes.now asked.now.check way.now
-        → IfOk result (IsPrepared rules (texts_beside b (I.text inputs.old) (translation script asked.now)) (translation script asked.now)) }
+    requires { IsWayOfSome asked.now.passes asked.now.check way.now }
+    ensures before { (b : List ℕ) → IsWay b asked.now.passes asked.now.check way.now
+        → IfErr result (EndsBefore (texts_beside b (I.text inputs.old) (translation asked.now)) (I.faults inputs.old) (I.faults inputs.new) (translation asked.now)) }
+    ensures text { (b : List ℕ) (rules : List Name) → IsWay b asked.now.passes asked.now.check way.now
+        → IfOk result (IsPrepared rules (texts_beside b (I.text inputs.old) (translation asked.now)) (translation asked.now)) }
 {
     let model = model_in_file(alloc, inputs, asked.model, &way.table, &way.behind)?;
     let model = back(alloc, &way.table, &way.plan, model, asked.check)?;
@@ -93,17 +84,17 @@ fn carried_back<I: Inputs>(
 pub fn extended<I: Inputs>(
     alloc: Global,
     forest: &Forest,
-    asked: &Carriage,
+    asked: &Carried,
     inputs: &mut I,
     book: &RuleBook,
 ) -> Result<Pieces, Status>
     requires read { IsRead forest.now }
     requires short { length forest.now.bytes ≤ longest_text }
     requires first { 1 ≤ asked.now.check }
-    ensures before { (script : Numbered) → IfErr result (EndsBefore (texts_beside forest.now.bytes (I.text inputs.old) (extension script asked.now)) (I.faults inputs.old) (I.faults inputs.new) (extension script asked.now)) }
-    ensures text { (script : Numbered) → IfOk result (IsPrepared (⟦<RuleBook as Named>⟧.names book.now) (texts_beside forest.now.bytes (I.text inputs.old) (extension script asked.now)) (extension script asked.now)) }
+    ensures before { IfErr result (EndsBefore (texts_beside forest.now.bytes (I.text inputs.old) (extension asked.now)) (I.faults inputs.old) (I.faults inputs.new) (extension asked.now)) }
+    ensures text { IfOk result (IsPrepared (⟦<RuleBook as Named>⟧.names book.now) (texts_beside forest.now.bytes (I.text inputs.old) (extension asked.now)) (extension asked.now)) }
 {
-    let passage = passage_over(alloc, forest, asked.passes, asked.check, book)?;
+    let passage = passage_over(alloc, forest, &asked.passes, asked.check, book)?;
     // Left to the end of the program, which gives back all memory at once.
     let passage = ManuallyDrop::new(passage);
     carried_forth(alloc, &passage.way, asked, inputs)
@@ -113,14 +104,14 @@ pub fn extended<I: Inputs>(
 fn carried_forth<I: Inputs>(
     alloc: Global,
     way: &Way,
-    asked: &Carriage,
+    asked: &Carried,
     inputs: &mut I,
 ) -> Result<Pieces, Status>
-    requires { IsWayOfSome asked.now.passes.now asked.now.check way.now }
-    ensures before { (b : List ℕ) (script : Numbered) → IsWay b asked.now.passes.now asked.now.check way.now
-        → IfErr result (EndsBefore (texts_beside b (I.text inputs.old) (extension script asked.now)) (I.faults inputs.old) (I.faults inputs.new) (extension script asked.now)) }
-    ensures text { (b : List ℕ) (script : Numbered) (rules : List Name) → IsWay b asked.now.passes.now asked.now.check way.now
-        → IfOk result (IsPrepared rules (texts_beside b (I.text inputs.old) (extension script asked.now)) (extension script asked.now)) }
+    requires { IsWayOfSome asked.now.passes asked.now.check way.now }
+    ensures before { (b : List ℕ) → IsWay b asked.now.passes asked.now.check way.now
+        → IfErr result (EndsBefore (texts_beside b (I.text inputs.old) (extension asked.now)) (I.faults inputs.old) (I.faults inputs.new) (extension asked.now)) }
+    ensures text { (b : List ℕ) (rules : List Name) → IsWay b asked.now.passes asked.now.check way.now
+        → IfOk result (IsPrepared rules (texts_beside b (I.text inputs.old) (extension asked.now)) (extension asked.now)) }
 {
     let model = model_in_file(alloc, inputs, asked.model, &way.table, &way.before)?;
     let model = forth(alloc, &way.table, &way.plan, model, asked.check)?;
@@ -278,7 +269,5 @@ pub(crate) fn printed(
     ensures { IfOk result (λ text. text ≡ model_lines (model_at table.now model.now) (signature_of table.now signature.now)) }
 {
     let bytes = model_text(alloc, table, model, signature)?;
-    let mut text = Pieces::new(alloc);
-    text.push(&bytes)?;
-    Ok(text)
+    Ok(Pieces::of(alloc, bytes))
 }

@@ -12,7 +12,7 @@ ghost use Rattle.smtrw_run.specs.Carrying.{IsPassage};
 ghost use Rattle.smtrw_run.specs.Linking.{answering, CarriesAnswer, EndsAtAnswerFile, IsAnswerRead, IsLinkedWay, IsLinkedWayOfSome, IsPassageOfSome, LinksText, ReadsAnswer};
 ghost use Rattle.smtrw_run.specs.Prepared.{EndsBefore, IsPrepared, texts_beside};
 
-use crate::carrying::{Carriage, MODEL_TOO_LONG, Passage, Way, passage_over, printed};
+use crate::carrying::{MODEL_TOO_LONG, Passage, Way, passage_over, printed};
 use dimacs_link::laws::checks_are_linked;
 use dimacs_link::{Answer, Truths, answer_model, clause_constants, link_check, read_answer};
 use passes::{Passes, back};
@@ -20,7 +20,7 @@ use rule_book::RuleBook;
 use smt_io::{Inputs, Pieces, ReadFault, read_all};
 use smt_lex::Forest;
 use smt_terms::SymId;
-use smtrw_answers::{File, Status, linking_keeps_its_promise};
+use smtrw_answers::{Carried, File, Status, linking_keeps_its_promise};
 use std::alloc::Global;
 use std::mem::ManuallyDrop;
 
@@ -52,25 +52,25 @@ fn clause_text(alloc: Global, passage: &Passage, check: u64) -> Result<Pieces, S
 {
     linking_keeps_its_promise();
     let bytes = link_check(alloc, &passage.way.table, &passage.script, check)?;
-    pieces_of(alloc, bytes.as_slice())
+    Ok(Pieces::of(alloc, bytes))
 }
 
 /// The text of the model of the script that a solver's answer to the clauses stands for, or a line for an answer without one.
 pub fn answered<I: Inputs>(
     alloc: Global,
     forest: &Forest,
-    asked: &Carriage,
+    asked: &Carried,
     inputs: &mut I,
     book: &RuleBook,
 ) -> Result<Pieces, Status>
     requires read { IsRead forest.now }
     requires short { length forest.now.bytes ≤ longest_text }
     requires first { 1 ≤ asked.now.check }
-    requires rules { list_any is_rules asked.now.passes.now ≡ false }
-    ensures before { (script : Numbered) → IfErr result (EndsBefore (texts_beside forest.now.bytes (I.text inputs.old) (answering script asked.now)) (I.faults inputs.old) (I.faults inputs.new) (answering script asked.now)) }
-    ensures text { (script : Numbered) (rules : List Name) → IfOk result (IsPrepared rules (texts_beside forest.now.bytes (I.text inputs.old) (answering script asked.now)) (answering script asked.now)) }
+    requires rules { list_any is_rules asked.now.passes ≡ false }
+    ensures before { IfErr result (EndsBefore (texts_beside forest.now.bytes (I.text inputs.old) (answering asked.now)) (I.faults inputs.old) (I.faults inputs.new) (answering asked.now)) }
+    ensures text { (rules : List Name) → IfOk result (IsPrepared rules (texts_beside forest.now.bytes (I.text inputs.old) (answering asked.now)) (answering asked.now)) }
 {
-    let passage = passage_over(alloc, forest, asked.passes, asked.check, book)?;
+    let passage = passage_over(alloc, forest, &asked.passes, asked.check, book)?;
     // Left to the end of the program, which gives back all memory at once.
     let passage = ManuallyDrop::new(passage);
     answer_over(alloc, &passage, asked, inputs)
@@ -80,14 +80,14 @@ pub fn answered<I: Inputs>(
 fn answer_over<I: Inputs>(
     alloc: Global,
     passage: &Passage,
-    asked: &Carriage,
+    asked: &Carried,
     inputs: &mut I,
 ) -> Result<Pieces, Status>
     requires { IsPassageOfSome asked.now.check passage.now }
-    ensures before { (b : List ℕ) (rules : List Name) (script : Numbered) → IsPassage b asked.now.passes.now asked.now.check rules passage.now → list_any is_rules asked.now.passes.now ≡ false
-        → IfErr result (EndsBefore (texts_beside b (I.text inputs.old) (answering script asked.now)) (I.faults inputs.old) (I.faults inputs.new) (answering script asked.now)) }
-    ensures text { (b : List ℕ) (rules names : List Name) (script : Numbered) → IsPassage b asked.now.passes.now asked.now.check rules passage.now → list_any is_rules asked.now.passes.now ≡ false
-        → IfOk result (IsPrepared names (texts_beside b (I.text inputs.old) (answering script asked.now)) (answering script asked.now)) }
+    ensures before { (b : List ℕ) (rules : List Name) → IsPassage b asked.now.passes asked.now.check rules passage.now → list_any is_rules asked.now.passes ≡ false
+        → IfErr result (EndsBefore (texts_beside b (I.text inputs.old) (answering asked.now)) (I.faults inputs.old) (I.faults inputs.new) (answering asked.now)) }
+    ensures text { (b : List ℕ) (rules names : List Name) → IsPassage b asked.now.passes asked.now.check rules passage.now → list_any is_rules asked.now.passes ≡ false
+        → IfOk result (IsPrepared names (texts_beside b (I.text inputs.old) (answering asked.now)) (answering asked.now)) }
 {
     checks_are_linked();
     let constants = clause_constants(alloc, &passage.way.table, &passage.script, asked.check)?;
@@ -99,19 +99,19 @@ fn answer_back<I: Inputs>(
     alloc: Global,
     way: &Way,
     constants: &[SymId],
-    asked: &Carriage,
+    asked: &Carried,
     inputs: &mut I,
 ) -> Result<Pieces, Status>
     requires { IsLinkedWayOfSome asked.now.check way.now constants.now }
-    ensures before { (b : List ℕ) (script : Numbered) → IsLinkedWay b asked.now.passes.now asked.now.check way.now constants.now
-        → IfErr result (EndsBefore (texts_beside b (I.text inputs.old) (answering script asked.now)) (I.faults inputs.old) (I.faults inputs.new) (answering script asked.now)) }
-    ensures text { (b : List ℕ) (script : Numbered) (rules : List Name) → IsLinkedWay b asked.now.passes.now asked.now.check way.now constants.now
-        → IfOk result (IsPrepared rules (texts_beside b (I.text inputs.old) (answering script asked.now)) (answering script asked.now)) }
+    ensures before { (b : List ℕ) → IsLinkedWay b asked.now.passes asked.now.check way.now constants.now
+        → IfErr result (EndsBefore (texts_beside b (I.text inputs.old) (answering asked.now)) (I.faults inputs.old) (I.faults inputs.new) (answering asked.now)) }
+    ensures text { (b : List ℕ) (rules : List Name) → IsLinkedWay b asked.now.passes asked.now.check way.now constants.now
+        → IfOk result (IsPrepared rules (texts_beside b (I.text inputs.old) (answering asked.now)) (answering asked.now)) }
 {
     match answer_in_file(alloc, inputs, asked.model, constants.len() as u64)? {
         Answer::Sat(values) => values_back(alloc, way, constants, &values, asked.check),
-        Answer::Unsat => pieces_of(alloc, b"unsat\n"),
-        Answer::Unknown => pieces_of(alloc, b"unknown\n"),
+        Answer::Unsat => line_text(alloc, b"unsat\n"),
+        Answer::Unknown => line_text(alloc, b"unknown\n"),
     }
 }
 
@@ -133,13 +133,13 @@ fn values_back(
     Ok(text)
 }
 
-/// These bytes, as they are sent.
-fn pieces_of(alloc: Global, bytes: &[u8]) -> Result<Pieces, Status>
-    ensures text { IfOk result (λ text. text ≡ bytes.now) }
+/// The text of one line.
+fn line_text(alloc: Global, line: &[u8]) -> Result<Pieces, Status>
+    ensures text { IfOk result (λ text. text ≡ line.now) }
     ensures wanting { IfErr result (λ status. status ≡ Status.OutOfMemory) }
 {
     let mut text = Pieces::new(alloc);
-    text.push(bytes)?;
+    text.push(line)?;
     Ok(text)
 }
 

@@ -11,7 +11,7 @@ ghost use Rattle.smtrw_run.specs.Prepared.{Delivers, EndsBefore, IsMadeFor, IsPr
 ghost use Rattle.smtrw_run.specs.Run.{IsComplete, MayEnd, OutFits, Promised, Quiet, ReadFits, TextsFit, WhereAsked, WordsFit, WriteFits, texts_of};
 
 use crate::blasting::{blasted, unblasted};
-use crate::carrying::{Carriage, extended, translated};
+use crate::carrying::{extended, translated};
 use crate::counting::counted;
 use crate::demo::{demo_script, demonstrated};
 use crate::linking::{answered, linked};
@@ -152,60 +152,12 @@ fn written<I: Inputs>(
             let rewriting = rewritten(alloc, forest, passes, *layout, book)?;
             Ok(rewriting.text)
         }
-        Asked::Translate {
-            passes,
-            check,
-            model,
-            ..
-        } => {
-            let carriage = Carriage {
-                passes,
-                check: *check,
-                model: *model,
-            };
-            translated(alloc, &forest, &carriage, inputs, book)
-        }
-        Asked::Extend {
-            passes,
-            check,
-            model,
-            ..
-        } => {
-            let carriage = Carriage {
-                passes,
-                check: *check,
-                model: *model,
-            };
-            extended(alloc, &forest, &carriage, inputs, book)
-        }
-        Asked::Blast { passes, check, .. } => blasted(alloc, &forest, passes, *check, book),
-        Asked::Unblast {
-            passes,
-            check,
-            model,
-            ..
-        } => {
-            let carriage = Carriage {
-                passes,
-                check: *check,
-                model: *model,
-            };
-            unblasted(alloc, &forest, &carriage, inputs, book)
-        }
-        Asked::Dimacs { passes, check, .. } => linked(alloc, &forest, passes, *check, book),
-        Asked::Answer {
-            passes,
-            check,
-            answer,
-            ..
-        } => {
-            let carriage = Carriage {
-                passes,
-                check: *check,
-                model: *answer,
-            };
-            answered(alloc, &forest, &carriage, inputs, book)
-        }
+        Asked::Translate(carried) => translated(alloc, &forest, carried, inputs, book),
+        Asked::Extend(carried) => extended(alloc, &forest, carried, inputs, book),
+        Asked::Blast(checked) => blasted(alloc, &forest, &checked.passes, checked.check, book),
+        Asked::Unblast(carried) => unblasted(alloc, &forest, carried, inputs, book),
+        Asked::Dimacs(checked) => linked(alloc, &forest, &checked.passes, checked.check, book),
+        Asked::Answer(carried) => answered(alloc, &forest, carried, inputs, book),
         Asked::Stats { .. } => counted(alloc, &forest),
         Asked::Demo { seed, size } => demonstrated(alloc, forest, *seed, *size, book),
     }

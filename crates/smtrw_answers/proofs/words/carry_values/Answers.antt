@@ -12,7 +12,7 @@ pub unreachable-requires : goal.unreachable-requires
 unreachable-requires c =
     let command = command_of c.args.command in
     let values = values_found _ command (found_of c.in-Ok.matches) c.args.script c.args.model c.requires.files c.requires.named c.in-Ok.ensures.values in
-    no_list_fault command (found_of c.in-Ok.matches) (option_map (λ t. t.now) c.get_str.result) c.passes_of.result c.in_default-passes_of.field-0 values
+    no_list_fault command (found_of c.in-Ok.matches) (option_map (λ t. t.now) c.get_str.result) c.passes_of.result c.in_default-passes_of.field-0 values.passes values.has_passes
     c.passes_of.ensures c.get_str.ensures c.in_default-passes_of.is
 
 pub returns : goal.returns

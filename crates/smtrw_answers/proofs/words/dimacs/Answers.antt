@@ -1,9 +1,11 @@
-use Rattle.smtrw_answers.specs.declared.grammar.Plan.TheVariants as plan
-use Rattle.smtrw_answers.proofs.PlannedWords.{planned_ok, linking_planned}
+use Rattle.std.proofs.lemmas.Result.{err_from_is_err_and}
+use Rattle.smtrw_answers.proofs.CheckedWords.{memory_wanting, linked}
 use Rattle.smtrw_answers.proofs.words.dimacs.Goals as goal
 
-pub returns-in_default : goal.returns-in_default
-returns-in_default c = planned_ok (plan.Dimacs c.args.word) _ c.requires
+pub returns-in_err-checked : goal.returns-in_err-checked
+returns-in_err-checked c =
+    let p = err_from_is_err_and c.from_residual.result c.from_residual.ensures.1 in
+    rw (p.1, p.2) (memory_wanting _ c.in_err-checked.field-0.0 c.in_err-checked.ensures)
 
-pub blast_matches-requires : goal.blast_matches-requires
-blast_matches-requires c = linking_planned _ c.args.word c.requires
+pub returns : goal.returns
+returns c = linked _ c.in_ok-checked.checked c.args.script c.requires c.in_ok-checked.ensures

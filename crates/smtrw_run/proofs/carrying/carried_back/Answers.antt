@@ -30,45 +30,45 @@ pub printed-requires-clause-over : goal.printed-requires-clause-over
 printed-requires-clause-over g c =
     let asked = c.args.asked.now in
     let b = c.requires.0 in
-    let ps = asked.passes.now in
+    let ps = asked.passes in
     let is = c.requires.1 in
     let told = g.I.Inputs.text c.args.inputs.now asked.model.name.now in
-    translated_over b ps asked.check c.args.way.now is told (numbered asked.model) (numbered asked.model) c.in_ok-model.model c.in_ok-model.ensures.model c.in_ok-model-2.model
+    translated_over b ps asked.check c.args.way.now is told (numbered asked.script) (numbered asked.model) c.in_ok-model.model c.in_ok-model.ensures.model c.in_ok-model-2.model
     (c.in_ok-model-2.ensures ps (commands b) (names_left b) is.leads.plan is.leads.ready is.leads.order)
 
 pub returns-in_err-model-clause-before : goal.returns-in_err-model-clause-before
-returns-in_err-model-clause-before g c = λ b script is.
+returns-in_err-model-clause-before g c = λ b is.
     let asked = c.args.asked.now in
     let told = g.I.Inputs.text c.args.inputs.now asked.model.name.now in
     let before = g.I.Inputs.faults c.args.inputs.now in
     let now = g.I.Inputs.faults c.model_in_file.new.inputs in
-    if_refused _ (EndsBefore (texts_beside b (g.I.Inputs.text c.args.inputs.now) (translation script asked)) before now (translation script asked)) c.in_err-model.field-0.0 c.from_residual.ensures.1
-    (translating_read b asked.passes.now asked.check c.args.way.now is told script (numbered asked.model) before now c.in_err-model.field-0.0 c.in_err-model.ensures.ends)
+    if_refused _ (EndsBefore (texts_beside b (g.I.Inputs.text c.args.inputs.now) (translation asked)) before now (translation asked)) c.in_err-model.field-0.0 c.from_residual.ensures.1
+    (translating_read b asked.passes asked.check c.args.way.now is told (numbered asked.script) (numbered asked.model) before now c.in_err-model.field-0.0 c.in_err-model.ensures.ends)
 
 pub returns-in_err-model-2-clause-before : goal.returns-in_err-model-2-clause-before
-returns-in_err-model-2-clause-before g c = λ b script is.
+returns-in_err-model-2-clause-before g c = λ b is.
     let asked = c.args.asked.now in
-    let ps = asked.passes.now in
+    let ps = asked.passes in
     let told = g.I.Inputs.text c.args.inputs.now asked.model.name.now in
     let before = g.I.Inputs.faults c.args.inputs.now in
     let now = g.I.Inputs.faults c.model_in_file.new.inputs in
     let fault = c.in_err-model-2.field-0.0 in
-    if_refused _ (EndsBefore (texts_beside b (g.I.Inputs.text c.args.inputs.now) (translation script asked)) before now (translation script asked)) (status_of_carrying fault) c.from_residual-in_err-model-2.ensures.1
-    (translating_carried b ps asked.check c.args.way.now is told script (numbered asked.model) before now c.in_ok-model.model c.in_ok-model.ensures.model fault
+    if_refused _ (EndsBefore (texts_beside b (g.I.Inputs.text c.args.inputs.now) (translation asked)) before now (translation asked)) (status_of_carrying fault) c.from_residual-in_err-model-2.ensures.1
+    (translating_carried b ps asked.check c.args.way.now is told (numbered asked.script) (numbered asked.model) before now c.in_ok-model.model c.in_ok-model.ensures.model fault
     (c.in_err-model-2.ensures ps (commands b) (names_left b) is.leads.plan is.leads.ready is.leads.order))
 
 pub returns-in_err-text-clause-before : goal.returns-in_err-text-clause-before
-returns-in_err-text-clause-before g c = λ b script is.
+returns-in_err-text-clause-before g c = λ b is.
     let asked = c.args.asked.now in
-    let ts = texts_beside b (g.I.Inputs.text c.args.inputs.now) (translation script asked) in
+    let ts = texts_beside b (g.I.Inputs.text c.args.inputs.now) (translation asked) in
     let before = g.I.Inputs.faults c.args.inputs.now in
     let now = g.I.Inputs.faults c.model_in_file.new.inputs in
-    if_refused _ (EndsBefore ts before now (translation script asked)) OutOfMemory c.from_residual-in_err-text.ensures.1 (memory_before ts before now (translation script asked))
+    if_refused _ (EndsBefore ts before now (translation asked)) OutOfMemory c.from_residual-in_err-text.ensures.1 (memory_before ts before now (translation asked))
 
 pub returns-clause-text : goal.returns-clause-text
-returns-clause-text g c = λ b script rules is.
+returns-clause-text g c = λ b rules is.
     let asked = c.args.asked.now in
-    let ps = asked.passes.now in
+    let ps = asked.passes in
     let told = g.I.Inputs.text c.args.inputs.now asked.model.name.now in
-    translated_prepared b ps asked.check c.args.way.now is told script (numbered asked.model) c.in_ok-model.model c.in_ok-model.ensures.model c.in_ok-model-2.model
+    translated_prepared b ps asked.check c.args.way.now is told (numbered asked.script) (numbered asked.model) c.in_ok-model.model c.in_ok-model.ensures.model c.in_ok-model-2.model
     (c.in_ok-model-2.ensures ps (commands b) (names_left b) is.leads.plan is.leads.ready is.leads.order) rules c.in_ok-text.text c.in_ok-text.ensures

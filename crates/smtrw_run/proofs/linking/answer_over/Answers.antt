@@ -30,22 +30,22 @@ answer_back-requires g c =
     )
 
 pub returns-in_err-constants-clause-before : goal.returns-in_err-constants-clause-before
-returns-in_err-constants-clause-before g c = λ b rules script is unruled.
+returns-in_err-constants-clause-before g c = λ b rules is unruled.
     let asked = c.args.asked.now in
     let told = g.I.Inputs.text c.args.inputs.now asked.model.name.now in
     let faults = g.I.Inputs.faults c.args.inputs.now in
     let fault = c.in_err-constants.field-0.0 in
-    if_refused _ (EndsBefore (texts_beside b (g.I.Inputs.text c.args.inputs.now) (answering script asked)) faults faults (answering script asked)) (status_of_linking fault) c.from_residual.ensures.1
-    (answering_way b asked.passes.now asked.check told script (numbered asked.model) faults faults (status_of_linking fault) (clauses_refused b asked.passes.now asked.check rules c.args.passage.now is unruled fault c.in_err-constants.ensures.fault))
+    if_refused _ (EndsBefore (texts_beside b (g.I.Inputs.text c.args.inputs.now) (answering asked)) faults faults (answering asked)) (status_of_linking fault) c.from_residual.ensures.1
+    (answering_way b asked.passes asked.check told (numbered asked.script) (numbered asked.model) faults faults (status_of_linking fault) (clauses_refused b asked.passes asked.check rules c.args.passage.now is unruled fault c.in_err-constants.ensures.fault))
 
 pub returns-clause-before : goal.returns-clause-before
-returns-clause-before g c = λ b rules script is unruled.
+returns-clause-before g c = λ b rules is unruled.
     let asked = c.args.asked.now in
     let constants = c.in_ok-constants in
-    c.answer_back.ensures.before b script (over_slice b asked.passes.now asked.check c.args.passage.now.way constants.constants.items c.as_slice.result.now c.as_slice.ensures.value (linked_way_is b asked.passes.now asked.check rules c.args.passage.now is unruled constants.ensures.clauses c.checks_are_linked.ensures constants.constants.items constants.ensures.numbers constants.ensures.constants constants.ensures.flags))
+    c.answer_back.ensures.before b (over_slice b asked.passes asked.check c.args.passage.now.way constants.constants.items c.as_slice.result.now c.as_slice.ensures.value (linked_way_is b asked.passes asked.check rules c.args.passage.now is unruled constants.ensures.clauses c.checks_are_linked.ensures constants.constants.items constants.ensures.numbers constants.ensures.constants constants.ensures.flags))
 
 pub returns-clause-text : goal.returns-clause-text
-returns-clause-text g c = λ b rules names script is unruled.
+returns-clause-text g c = λ b rules names is unruled.
     let asked = c.args.asked.now in
     let constants = c.in_ok-constants in
-    c.answer_back.ensures.text b script names (over_slice b asked.passes.now asked.check c.args.passage.now.way constants.constants.items c.as_slice.result.now c.as_slice.ensures.value (linked_way_is b asked.passes.now asked.check rules c.args.passage.now is unruled constants.ensures.clauses c.checks_are_linked.ensures constants.constants.items constants.ensures.numbers constants.ensures.constants constants.ensures.flags))
+    c.answer_back.ensures.text b names (over_slice b asked.passes asked.check c.args.passage.now.way constants.constants.items c.as_slice.result.now c.as_slice.ensures.value (linked_way_is b asked.passes asked.check rules c.args.passage.now is unruled constants.ensures.clauses c.checks_are_linked.ensures constants.constants.items constants.ensures.numbers constants.ensures.constants constants.ensures.flags))

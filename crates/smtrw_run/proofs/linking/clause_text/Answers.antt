@@ -1,7 +1,4 @@
-use Rattle.std.proofs.Common.{◌≡◌, ◌∙◌, subst, ℕ, List}
-use Rattle.std.specs.Prelude.{IfOk}
-use Rattle.dimacs_link.specs.Checks.{linked_text as linked_check}
-use Rattle.script_read.specs.CommandLists.{commands_of}
+use Rattle.std.proofs.Common.{◌∙◌}
 use Rattle.smtrw_run.proofs.LinkedWays.{links_refused, links_written}
 use Rattle.smtrw_run.proofs.Passages.{script_last}
 use Rattle.smtrw_run.proofs.linking.clause_text.Goals as goal
@@ -23,6 +20,4 @@ returns-in_err-bytes c = λ b ps rules is unruled. links_refused b ps c.args.che
 
 pub returns : goal.returns
 returns c = λ b ps rules is unruled.
-    let written : IfOk c.pieces_of.result (λ w. w ≡ linked_check (commands_of c.args.passage.now.way.table c.args.passage.now.script.commands) c.args.check) =
-    subst (λ (bytes : List ℕ). IfOk c.pieces_of.result (λ w. w ≡ bytes)) (c.as_slice.ensures.value ∙ c.in_ok-bytes.ensures.text) c.pieces_of.ensures.text in
-    links_written b ps c.args.check rules c.args.passage.now is unruled c.linking_keeps_its_promise.ensures c.in_ok-bytes.ensures.clauses c.pieces_of.result written c.pieces_of.ensures.wanting
+    links_written b ps c.args.check rules c.args.passage.now is unruled c.linking_keeps_its_promise.ensures c.in_ok-bytes.ensures.clauses c.of.result (c.of.ensures ∙ c.in_ok-bytes.ensures.text)

@@ -66,17 +66,17 @@ returns-in-Translate-clause-before g c =
     let text = g.I.Inputs.text c.args.inputs.now in
     let faults = g.I.Inputs.faults c.args.inputs.now in
     let later = g.I.Inputs.faults c.translated.new.inputs in
-    let found : Asked = Translate c.in-Translate.passes c.in-Translate.check c.in-Translate.script c.in-Translate.model in
+    let found : Asked = Translate c.in-Translate.carried in
     before_asked b text faults later c.translated.result c.args.asked.now found c.in-Translate.is
-    (read_before b c.in_ok-forest.forest.bytes c.in_ok-forest.ensures.bytes text faults later (asked_seen found) c.translated.result (c.translated.ensures.before (numbered c.in-Translate.script)))
+    (read_before b c.in_ok-forest.forest.bytes c.in_ok-forest.ensures.bytes text faults later (asked_seen found) c.translated.result c.translated.ensures.before)
 
 pub returns-in-Translate-clause-text : goal.returns-in-Translate-clause-text
 returns-in-Translate-clause-text g c =
     let b = c.args.bytes.items in
     let text = g.I.Inputs.text c.args.inputs.now in
-    let found : Asked = Translate c.in-Translate.passes c.in-Translate.check c.in-Translate.script c.in-Translate.model in
+    let found : Asked = Translate c.in-Translate.carried in
     prepared_asked _ b text c.translated.result c.args.asked.now found c.in-Translate.is
-    (read_prepared b c.in_ok-forest.forest.bytes c.in_ok-forest.ensures.bytes text _ (asked_seen found) c.translated.result (c.translated.ensures.text (numbered c.in-Translate.script)))
+    (read_prepared b c.in_ok-forest.forest.bytes c.in_ok-forest.ensures.bytes text _ (asked_seen found) c.translated.result c.translated.ensures.text)
 
 pub returns-in-Extend-clause-before : goal.returns-in-Extend-clause-before
 returns-in-Extend-clause-before g c =
@@ -84,34 +84,34 @@ returns-in-Extend-clause-before g c =
     let text = g.I.Inputs.text c.args.inputs.now in
     let faults = g.I.Inputs.faults c.args.inputs.now in
     let later = g.I.Inputs.faults c.extended.new.inputs in
-    let found : Asked = Extend c.in-Extend.passes c.in-Extend.check c.in-Extend.script c.in-Extend.model in
+    let found : Asked = Extend c.in-Extend.carried in
     before_asked b text faults later c.extended.result c.args.asked.now found c.in-Extend.is
-    (read_before b c.in_ok-forest.forest.bytes c.in_ok-forest.ensures.bytes text faults later (asked_seen found) c.extended.result (c.extended.ensures.before (numbered c.in-Extend.script)))
+    (read_before b c.in_ok-forest.forest.bytes c.in_ok-forest.ensures.bytes text faults later (asked_seen found) c.extended.result c.extended.ensures.before)
 
 pub returns-in-Extend-clause-text : goal.returns-in-Extend-clause-text
 returns-in-Extend-clause-text g c =
     let b = c.args.bytes.items in
     let text = g.I.Inputs.text c.args.inputs.now in
-    let found : Asked = Extend c.in-Extend.passes c.in-Extend.check c.in-Extend.script c.in-Extend.model in
+    let found : Asked = Extend c.in-Extend.carried in
     prepared_asked _ b text c.extended.result c.args.asked.now found c.in-Extend.is
-    (read_prepared b c.in_ok-forest.forest.bytes c.in_ok-forest.ensures.bytes text _ (asked_seen found) c.extended.result (c.extended.ensures.text (numbered c.in-Extend.script)))
+    (read_prepared b c.in_ok-forest.forest.bytes c.in_ok-forest.ensures.bytes text _ (asked_seen found) c.extended.result c.extended.ensures.text)
 
 pub returns-in-Blast-clause-before : goal.returns-in-Blast-clause-before
 returns-in-Blast-clause-before g c =
     let b = c.args.bytes.items in
     let text = g.I.Inputs.text c.args.inputs.now in
     let faults = g.I.Inputs.faults c.args.inputs.now in
-    let found : Asked = Blast c.in-Blast.passes c.in-Blast.check c.in-Blast.script in
+    let found : Asked = Blast c.in-Blast.checked in
     before_asked b text faults faults c.blasted.result c.args.asked.now found c.in-Blast.is
-    (read_before b c.in_ok-forest.forest.bytes c.in_ok-forest.ensures.bytes text faults faults (asked_seen found) c.blasted.result (c.blasted.ensures.before (numbered c.in-Blast.script) text faults faults))
+    (read_before b c.in_ok-forest.forest.bytes c.in_ok-forest.ensures.bytes text faults faults (asked_seen found) c.blasted.result (c.blasted.ensures.before (numbered c.in-Blast.checked.script) text faults faults))
 
 pub returns-in-Blast-clause-text : goal.returns-in-Blast-clause-text
 returns-in-Blast-clause-text g c =
     let b = c.args.bytes.items in
     let text = g.I.Inputs.text c.args.inputs.now in
-    let found : Asked = Blast c.in-Blast.passes c.in-Blast.check c.in-Blast.script in
+    let found : Asked = Blast c.in-Blast.checked in
     prepared_asked _ b text c.blasted.result c.args.asked.now found c.in-Blast.is
-    (read_prepared b c.in_ok-forest.forest.bytes c.in_ok-forest.ensures.bytes text _ (asked_seen found) c.blasted.result (c.blasted.ensures.text (numbered c.in-Blast.script) _ text))
+    (read_prepared b c.in_ok-forest.forest.bytes c.in_ok-forest.ensures.bytes text _ (asked_seen found) c.blasted.result (c.blasted.ensures.text (numbered c.in-Blast.checked.script) _ text))
 
 pub returns-in-Unblast-clause-before : goal.returns-in-Unblast-clause-before
 returns-in-Unblast-clause-before g c =
@@ -119,34 +119,34 @@ returns-in-Unblast-clause-before g c =
     let text = g.I.Inputs.text c.args.inputs.now in
     let faults = g.I.Inputs.faults c.args.inputs.now in
     let later = g.I.Inputs.faults c.unblasted.new.inputs in
-    let found : Asked = Unblast c.in-Unblast.passes c.in-Unblast.check c.in-Unblast.script c.in-Unblast.model in
+    let found : Asked = Unblast c.in-Unblast.carried in
     before_asked b text faults later c.unblasted.result c.args.asked.now found c.in-Unblast.is
-    (read_before b c.in_ok-forest.forest.bytes c.in_ok-forest.ensures.bytes text faults later (asked_seen found) c.unblasted.result (c.unblasted.ensures.before (numbered c.in-Unblast.script)))
+    (read_before b c.in_ok-forest.forest.bytes c.in_ok-forest.ensures.bytes text faults later (asked_seen found) c.unblasted.result c.unblasted.ensures.before)
 
 pub returns-in-Unblast-clause-text : goal.returns-in-Unblast-clause-text
 returns-in-Unblast-clause-text g c =
     let b = c.args.bytes.items in
     let text = g.I.Inputs.text c.args.inputs.now in
-    let found : Asked = Unblast c.in-Unblast.passes c.in-Unblast.check c.in-Unblast.script c.in-Unblast.model in
+    let found : Asked = Unblast c.in-Unblast.carried in
     prepared_asked _ b text c.unblasted.result c.args.asked.now found c.in-Unblast.is
-    (read_prepared b c.in_ok-forest.forest.bytes c.in_ok-forest.ensures.bytes text _ (asked_seen found) c.unblasted.result (c.unblasted.ensures.text (numbered c.in-Unblast.script) _))
+    (read_prepared b c.in_ok-forest.forest.bytes c.in_ok-forest.ensures.bytes text _ (asked_seen found) c.unblasted.result (c.unblasted.ensures.text _))
 
 pub returns-in-Dimacs-clause-before : goal.returns-in-Dimacs-clause-before
 returns-in-Dimacs-clause-before g c =
     let b = c.args.bytes.items in
     let text = g.I.Inputs.text c.args.inputs.now in
     let faults = g.I.Inputs.faults c.args.inputs.now in
-    let found : Asked = Dimacs c.in-Dimacs.passes c.in-Dimacs.check c.in-Dimacs.script in
+    let found : Asked = Dimacs c.in-Dimacs.checked in
     before_asked b text faults faults c.linked.result c.args.asked.now found c.in-Dimacs.is
-    (read_before b c.in_ok-forest.forest.bytes c.in_ok-forest.ensures.bytes text faults faults (asked_seen found) c.linked.result (c.linked.ensures.before (numbered c.in-Dimacs.script) text faults faults))
+    (read_before b c.in_ok-forest.forest.bytes c.in_ok-forest.ensures.bytes text faults faults (asked_seen found) c.linked.result (c.linked.ensures.before (numbered c.in-Dimacs.checked.script) text faults faults))
 
 pub returns-in-Dimacs-clause-text : goal.returns-in-Dimacs-clause-text
 returns-in-Dimacs-clause-text g c =
     let b = c.args.bytes.items in
     let text = g.I.Inputs.text c.args.inputs.now in
-    let found : Asked = Dimacs c.in-Dimacs.passes c.in-Dimacs.check c.in-Dimacs.script in
+    let found : Asked = Dimacs c.in-Dimacs.checked in
     prepared_asked _ b text c.linked.result c.args.asked.now found c.in-Dimacs.is
-    (read_prepared b c.in_ok-forest.forest.bytes c.in_ok-forest.ensures.bytes text _ (asked_seen found) c.linked.result (c.linked.ensures.text (numbered c.in-Dimacs.script) _ text))
+    (read_prepared b c.in_ok-forest.forest.bytes c.in_ok-forest.ensures.bytes text _ (asked_seen found) c.linked.result (c.linked.ensures.text (numbered c.in-Dimacs.checked.script) _ text))
 
 pub returns-in-Answer-clause-before : goal.returns-in-Answer-clause-before
 returns-in-Answer-clause-before g c =
@@ -154,17 +154,17 @@ returns-in-Answer-clause-before g c =
     let text = g.I.Inputs.text c.args.inputs.now in
     let faults = g.I.Inputs.faults c.args.inputs.now in
     let later = g.I.Inputs.faults c.answered.new.inputs in
-    let found : Asked = Answer c.in-Answer.passes c.in-Answer.check c.in-Answer.script c.in-Answer.answer in
+    let found : Asked = Answer c.in-Answer.carried in
     before_asked b text faults later c.answered.result c.args.asked.now found c.in-Answer.is
-    (read_before b c.in_ok-forest.forest.bytes c.in_ok-forest.ensures.bytes text faults later (asked_seen found) c.answered.result (c.answered.ensures.before (numbered c.in-Answer.script)))
+    (read_before b c.in_ok-forest.forest.bytes c.in_ok-forest.ensures.bytes text faults later (asked_seen found) c.answered.result c.answered.ensures.before)
 
 pub returns-in-Answer-clause-text : goal.returns-in-Answer-clause-text
 returns-in-Answer-clause-text g c =
     let b = c.args.bytes.items in
     let text = g.I.Inputs.text c.args.inputs.now in
-    let found : Asked = Answer c.in-Answer.passes c.in-Answer.check c.in-Answer.script c.in-Answer.answer in
+    let found : Asked = Answer c.in-Answer.carried in
     prepared_asked _ b text c.answered.result c.args.asked.now found c.in-Answer.is
-    (read_prepared b c.in_ok-forest.forest.bytes c.in_ok-forest.ensures.bytes text _ (asked_seen found) c.answered.result (c.answered.ensures.text (numbered c.in-Answer.script) _))
+    (read_prepared b c.in_ok-forest.forest.bytes c.in_ok-forest.ensures.bytes text _ (asked_seen found) c.answered.result (c.answered.ensures.text _))
 
 pub returns-in-Stats-clause-before : goal.returns-in-Stats-clause-before
 returns-in-Stats-clause-before g c =
@@ -198,68 +198,68 @@ returns-in-Demo-clause-text g c =
 
 pub translated-requires-clause-first : goal.translated-requires-clause-first
 translated-requires-clause-first g c =
-    let found : Asked = Translate c.in-Translate.passes c.in-Translate.check c.in-Translate.script c.in-Translate.model in
+    let found : Asked = Translate c.in-Translate.carried in
     let is : c.args.asked.now ≡ found = c.in-Translate.is in
     subst (λ (a : Asked). IsInRange (asked_seen a)) is c.requires.range
 
 pub extended-requires-clause-first : goal.extended-requires-clause-first
 extended-requires-clause-first g c =
-    let found : Asked = Extend c.in-Extend.passes c.in-Extend.check c.in-Extend.script c.in-Extend.model in
+    let found : Asked = Extend c.in-Extend.carried in
     let is : c.args.asked.now ≡ found = c.in-Extend.is in
     subst (λ (a : Asked). IsInRange (asked_seen a)) is c.requires.range
 
 pub blasted-requires-clause-first : goal.blasted-requires-clause-first
 blasted-requires-clause-first g c =
-    let found : Asked = Blast c.in-Blast.passes c.in-Blast.check c.in-Blast.script in
+    let found : Asked = Blast c.in-Blast.checked in
     let is : c.args.asked.now ≡ found = c.in-Blast.is in
     let range : IsInRange (asked_seen found) = subst (λ (a : Asked). IsInRange (asked_seen a)) is c.requires.range in
     range.0
 
 pub blasted-requires-clause-rules : goal.blasted-requires-clause-rules
 blasted-requires-clause-rules g c =
-    let found : Asked = Blast c.in-Blast.passes c.in-Blast.check c.in-Blast.script in
+    let found : Asked = Blast c.in-Blast.checked in
     let is : c.args.asked.now ≡ found = c.in-Blast.is in
     let range : IsInRange (asked_seen found) = subst (λ (a : Asked). IsInRange (asked_seen a)) is c.requires.range in
     range.1
 
 pub unblasted-requires-clause-first : goal.unblasted-requires-clause-first
 unblasted-requires-clause-first g c =
-    let found : Asked = Unblast c.in-Unblast.passes c.in-Unblast.check c.in-Unblast.script c.in-Unblast.model in
+    let found : Asked = Unblast c.in-Unblast.carried in
     let is : c.args.asked.now ≡ found = c.in-Unblast.is in
     let range : IsInRange (asked_seen found) = subst (λ (a : Asked). IsInRange (asked_seen a)) is c.requires.range in
     range.0
 
 pub unblasted-requires-clause-rules : goal.unblasted-requires-clause-rules
 unblasted-requires-clause-rules g c =
-    let found : Asked = Unblast c.in-Unblast.passes c.in-Unblast.check c.in-Unblast.script c.in-Unblast.model in
+    let found : Asked = Unblast c.in-Unblast.carried in
     let is : c.args.asked.now ≡ found = c.in-Unblast.is in
     let range : IsInRange (asked_seen found) = subst (λ (a : Asked). IsInRange (asked_seen a)) is c.requires.range in
     range.1
 
 pub linked-requires-clause-first : goal.linked-requires-clause-first
 linked-requires-clause-first g c =
-    let found : Asked = Dimacs c.in-Dimacs.passes c.in-Dimacs.check c.in-Dimacs.script in
+    let found : Asked = Dimacs c.in-Dimacs.checked in
     let is : c.args.asked.now ≡ found = c.in-Dimacs.is in
     let range : IsInRange (asked_seen found) = subst (λ (a : Asked). IsInRange (asked_seen a)) is c.requires.range in
     range.0
 
 pub linked-requires-clause-rules : goal.linked-requires-clause-rules
 linked-requires-clause-rules g c =
-    let found : Asked = Dimacs c.in-Dimacs.passes c.in-Dimacs.check c.in-Dimacs.script in
+    let found : Asked = Dimacs c.in-Dimacs.checked in
     let is : c.args.asked.now ≡ found = c.in-Dimacs.is in
     let range : IsInRange (asked_seen found) = subst (λ (a : Asked). IsInRange (asked_seen a)) is c.requires.range in
     range.1
 
 pub answered-requires-clause-first : goal.answered-requires-clause-first
 answered-requires-clause-first g c =
-    let found : Asked = Answer c.in-Answer.passes c.in-Answer.check c.in-Answer.script c.in-Answer.answer in
+    let found : Asked = Answer c.in-Answer.carried in
     let is : c.args.asked.now ≡ found = c.in-Answer.is in
     let range : IsInRange (asked_seen found) = subst (λ (a : Asked). IsInRange (asked_seen a)) is c.requires.range in
     range.0
 
 pub answered-requires-clause-rules : goal.answered-requires-clause-rules
 answered-requires-clause-rules g c =
-    let found : Asked = Answer c.in-Answer.passes c.in-Answer.check c.in-Answer.script c.in-Answer.answer in
+    let found : Asked = Answer c.in-Answer.carried in
     let is : c.args.asked.now ≡ found = c.in-Answer.is in
     let range : IsInRange (asked_seen found) = subst (λ (a : Asked). IsInRange (asked_seen a)) is c.requires.range in
     range.1
