@@ -16,6 +16,7 @@ mod demonstrations;
 mod devices;
 mod endless;
 mod large;
+mod prefixes;
 
 /// Words that ask for a rewriting.
 const WORDS: &str = "rewrite --passes nnf -";

@@ -1,4 +1,4 @@
-//! Large scripts.
+//! Large scripts and models' texts.
 
 use super::{ROOM, answer, input_of};
 use smt_io::MemSink;
@@ -221,4 +221,122 @@ fn the_longest_script_is_read(rt: HostRuntime) -> Result<(), Fail> {
     script.push(' ')?;
     let said = "smtrw: script refused: 2 TooLong at command 0, line 0, byte 67108864\n";
     ends(&rt, rt.alloc(), "rewrite -", script.as_str(), 1, 0, said)
+}
+
+/// Runs the program on these texts, and tells whether it ends well and writes this.
+fn writes(
+    rt: &impl Abort,
+    alloc: Global,
+    words: &str,
+    script: &str,
+    model: &str,
+    text: &str,
+) -> Result<(), Fail> {
+    let mut inputs = input_of(alloc, script.as_bytes(), 65_536)?;
+    inputs.add("model", model.as_bytes())?;
+    let mut out = MemSink::new(alloc, 65_536, ROOM)?;
+    let mut err = MemSink::new(alloc, 65_536, ROOM)?;
+    let status = answer(alloc, words, &mut inputs, &mut out, &mut err)?;
+    assert!(rt; status.number() == 0);
+    assert!(rt; out.bytes() == text.as_bytes());
+    Ok(())
+}
+
+/// Tells whether a script is printed as it stands.
+fn script_stands(rt: &impl Abort, alloc: Global, script: &str) -> Result<(), Fail> {
+    writes(rt, alloc, "rewrite -", script, "", script)
+}
+
+/// Tells whether a model's text at the only check of a script is printed as it stands.
+fn model_stands(rt: &impl Abort, alloc: Global, script: &str, model: &str) -> Result<(), Fail> {
+    writes(rt, alloc, "translate - model", script, model, model)
+}
+
+#[test]
+fn a_passed_command_is_nested_deep(rt: HostRuntime) -> Result<(), Fail> {
+    let script = nested(
+        rt.alloc(),
+        "(set-info :nested ",
+        "(",
+        50_000,
+        "a",
+        ")",
+        ")\n",
+    )?;
+    script_stands(&rt, rt.alloc(), script.as_str())
+}
+
+const ASSERTED: &str = "(declare-fun a () Bool)\n(assert ";
+
+#[test]
+fn nested_formulas_stand(rt: HostRuntime) -> Result<(), Fail> {
+    let script = nested(rt.alloc(), ASSERTED, "(not ", 100_000, "a", ")", ")\n")?;
+    script_stands(&rt, rt.alloc(), script.as_str())?;
+    let script = nested(
+        rt.alloc(),
+        ASSERTED,
+        "(ite a (not a) ",
+        100_000,
+        "a",
+        ")",
+        ")\n",
+    )?;
+    script_stands(&rt, rt.alloc(), script.as_str())
+}
+
+/// A model's text with a function of so many rows.
+fn many_rows(alloc: Global, rows: u32) -> Result<String, AllocError> {
+    let mut text = String::from_str(alloc, "(\n(define-fun f ((x!0 Int)) Int ")?;
+    for i in 0..rows {
+        write!(text, "(ite (= x!0 {i}) 1 ")?;
+    }
+    text.push('0')?;
+    repeat(&mut text, ")", rows)?;
+    text.push_str(")\n)\n")?;
+    Ok(text)
+}
+
+#[test]
+fn a_body_of_many_rows_stands(rt: HostRuntime) -> Result<(), Fail> {
+    let model = many_rows(rt.alloc(), 100_000)?;
+    let script = "(declare-fun f (Int) Int)(check-sat)";
+    model_stands(&rt, rt.alloc(), script, model.as_str())
+}
+
+/// Appends the sort of arrays of numbers in so many levels.
+fn push_sort(text: &mut String, levels: u32) -> Result<(), AllocError> {
+    repeat(text, "(Array Int ", levels)?;
+    text.push_str("Int")?;
+    repeat(text, ")", levels)
+}
+
+/// A script with a check of a constant of that sort.
+fn array_script(alloc: Global, levels: u32) -> Result<String, AllocError> {
+    let mut text = String::from_str(alloc, "(declare-fun m () ")?;
+    push_sort(&mut text, levels)?;
+    text.push_str(")(check-sat)")?;
+    Ok(text)
+}
+
+/// A model's text with a value of that sort, which is the same at all indices.
+fn array_model(alloc: Global, levels: u32) -> Result<String, AllocError> {
+    let mut text = String::from_str(alloc, "(\n(define-fun m () ")?;
+    push_sort(&mut text, levels)?;
+    text.push(' ')?;
+    for outer in 0..levels {
+        text.push_str("((as const ")?;
+        push_sort(&mut text, levels - outer)?;
+        text.push_str(") ")?;
+    }
+    text.push('7')?;
+    repeat(&mut text, ")", levels)?;
+    text.push_str(")\n)\n")?;
+    Ok(text)
+}
+
+#[test]
+fn an_array_in_arrays_stands(rt: HostRuntime) -> Result<(), Fail> {
+    let script = array_script(rt.alloc(), 200)?;
+    let model = array_model(rt.alloc(), 200)?;
+    model_stands(&rt, rt.alloc(), script.as_str(), model.as_str())
 }
